@@ -1,0 +1,131 @@
+//! What is compared: the model, the oracle, and what may join them.
+
+use crate::request::BandRequest;
+use model::{Answer, Frame, FrameState, Refusal, Settings};
+
+/// A converter of document 01. To compare one more, implement this for it and add it to
+/// `converters`.
+pub trait Converter {
+    fn name(&self) -> &'static str;
+
+    /// Whether it has the refusal of this number (0: whether it converts what is accepted). It is
+    /// asked only where document 01 answers with one that it has.
+    fn has(&self, number: u8) -> bool;
+
+    fn frame(
+        &self,
+        frame: &Frame,
+        source: &[u8],
+        y: &mut [u8],
+        u: &mut [u8],
+        v: &mut [u8],
+    ) -> Answer;
+
+    /// Plane strides are those of Y, U, V. None: it has no bands.
+    fn open(
+        &self,
+        _w: u32,
+        _h: u32,
+        _settings: Settings,
+        _strides: [u32; 3],
+    ) -> Option<Result<FrameState, Refusal>> {
+        None
+    }
+
+    /// The call writes to the planes and the carried row of the request. None: it has no bands.
+    fn band(&self, _request: &mut BandRequest) -> Option<(FrameState, Answer)> {
+        None
+    }
+
+    /// None: it has no program.
+    fn program(&self, _input: &[u8]) -> Option<Vec<u8>> {
+        None
+    }
+}
+
+/// The model stands first and the oracle second: frames of all others are held to the model's,
+/// bands of all, the model's too, to the oracle's frames.
+pub fn converters() -> Vec<Box<dyn Converter>> {
+    vec![Box::new(Model), Box::new(Oracle)]
+}
+
+struct Model;
+
+impl Converter for Model {
+    fn name(&self) -> &'static str {
+        "model"
+    }
+
+    fn has(&self, _number: u8) -> bool {
+        true
+    }
+
+    fn frame(
+        &self,
+        frame: &Frame,
+        source: &[u8],
+        y: &mut [u8],
+        u: &mut [u8],
+        v: &mut [u8],
+    ) -> Answer {
+        model::frame(frame, source, y, u, v)
+    }
+
+    fn open(
+        &self,
+        w: u32,
+        h: u32,
+        settings: Settings,
+        strides: [u32; 3],
+    ) -> Option<Result<FrameState, Refusal>> {
+        let [y, u, v] = strides;
+        Some(model::open(w, h, settings, y, u, v))
+    }
+
+    fn band(&self, request: &mut BandRequest) -> Option<(FrameState, Answer)> {
+        let [source, y, u, v] = &mut request.lent;
+        let (rows, stride) = (request.rows, request.source_stride);
+        let carried = &mut request.carried;
+        Some(request.state.band(rows, source, stride, y, u, v, carried))
+    }
+
+    fn program(&self, input: &[u8]) -> Option<Vec<u8>> {
+        Some(model::program(input))
+    }
+}
+
+/// The Rust with the exact tables put in.
+struct Oracle;
+
+impl Converter for Oracle {
+    fn name(&self) -> &'static str {
+        "oracle"
+    }
+
+    /// Document 01: "Added by us: band calls, a program, refusals 1, 3, 4, 5, 12, 13."
+    fn has(&self, number: u8) -> bool {
+        matches!(number, 0 | 2 | 6..=11)
+    }
+
+    fn frame(
+        &self,
+        frame: &Frame,
+        source: &[u8],
+        y: &mut [u8],
+        u: &mut [u8],
+        v: &mut [u8],
+    ) -> Answer {
+        oracle::exact::frame(frame, source, y, u, v).map_err(|error| {
+            let u_passes = oracle::exact::u_passes(frame, y, u);
+            // An error that no refusal stands for gets a number that nothing else answers.
+            let none = Refusal {
+                number: 255,
+                expected: error.expected,
+                received: error.received,
+            };
+            error
+                .refusal(if u_passes { 11 } else { 10 })
+                .unwrap_or(none)
+        })
+    }
+}

@@ -1,0 +1,212 @@
+//! Compares the model of document 01 with the oracle, the Rust over the exact tables, on random
+//! requests. Exit status 1 where anything differs.
+
+mod check;
+mod conditions;
+mod converter;
+mod random;
+mod request;
+mod smaller;
+mod worked;
+
+use check::{CATCHING, Case, Converters, band_of, checked, frame_of, smallest};
+use model::{YuvRange, YuvStandardMatrix};
+use random::Random;
+use request::{Lent, band_vector, frame_vector, program_vector};
+use std::collections::{BTreeMap, BTreeSet};
+use std::process::exit;
+use std::sync::atomic::Ordering;
+use std::time::Instant;
+
+const USAGE: &str = "compare [OPTION NUMBER]..
+
+  --frames N     random frame calls (40000)
+  --calls N      random band calls on any state (10000)
+  --runs N       frames cut into bands, with refused calls between them (5000)
+  --programs N   inputs of the program (5000)
+  --pairs N      Custom pairs whose nine weights are compared (200000)
+  --side N       sizes to N by N (40); some are 1,920 by 1,080, some up to 16,384 long and thin
+  --seed N       seed of all of these (1)
+  --list N       print N requests of each kind with their answers, compared, and do nothing else
+
+A mismatch is printed as the smallest request found that shows it, in the form of --list.";
+
+/// Bytes of a request that --list still prints.
+const LONGEST_LISTED: usize = 10_000;
+
+struct Options {
+    frames: u64,
+    calls: u64,
+    runs: u64,
+    programs: u64,
+    pairs: u64,
+    side: u64,
+    seed: u64,
+    list: u64,
+}
+
+fn options() -> Option<Options> {
+    let mut options = Options {
+        frames: 40_000,
+        calls: 10_000,
+        runs: 5_000,
+        programs: 5_000,
+        pairs: 200_000,
+        side: 40,
+        seed: 1,
+        list: 0,
+    };
+    let mut words = std::env::args().skip(1);
+    while let Some(word) = words.next() {
+        let option = match word.as_str() {
+            "--frames" => &mut options.frames,
+            "--calls" => &mut options.calls,
+            "--runs" => &mut options.runs,
+            "--programs" => &mut options.programs,
+            "--pairs" => &mut options.pairs,
+            "--side" => &mut options.side,
+            "--seed" => &mut options.seed,
+            "--list" => &mut options.list,
+            _ => return None,
+        };
+        *option = words.next()?.parse().ok()?;
+    }
+    (1..=16_384).contains(&options.side).then_some(options)
+}
+
+fn main() {
+    let Some(options) = options() else {
+        eprintln!("{USAGE}");
+        exit(2);
+    };
+    // A panic in a comparison is reported with the request that brings it about.
+    std::panic::set_hook(Box::new(|panic| {
+        if !CATCHING.load(Ordering::Relaxed) {
+            eprintln!("{panic}");
+        }
+    }));
+    let converters = converter::converters();
+    if options.list > 0 {
+        list(&options, &converters);
+        return;
+    }
+    let start = Instant::now();
+    let names: Vec<&str> = converters
+        .iter()
+        .map(|converter| converter.name())
+        .collect();
+    println!("comparing {} with seed {}", names.join(", "), options.seed);
+    match worked::check(&converters) {
+        Ok(held) => println!("worked lines of document 01: {held} facts hold"),
+        Err(wrong) => {
+            println!("{}", wrong.join("\n"));
+            exit(1);
+        }
+    }
+    pairs(&options);
+    let side = options.side as u32;
+    let seed = options.seed;
+    compare("frame calls", options.frames, &converters, |case| {
+        random::frame(&mut Random::new(seed, 1, case), side)
+    });
+    compare("band calls", options.calls, &converters, |case| {
+        random::band(&mut Random::new(seed, 2, case), side)
+    });
+    compare("frames in bands", options.runs, &converters, |case| {
+        random::run(&mut Random::new(seed, 3, case), side)
+    });
+    compare("program inputs", options.programs, &converters, |case| {
+        random::input(&mut Random::new(seed, 4, case), side)
+    });
+    println!("all equal, {:.1} s", start.elapsed().as_secs_f64());
+}
+
+fn compare<C: Case>(kind: &str, cases: u64, converters: &Converters, make: impl Fn(u64) -> C) {
+    let start = Instant::now();
+    let mut answers: BTreeMap<u8, u64> = BTreeMap::new();
+    let mut combinations = BTreeSet::new();
+    for case in 0..cases {
+        let request = make(case);
+        match checked(&request, converters) {
+            Ok(number) => {
+                *answers.entry(number).or_default() += 1;
+                combinations.extend(request.combination().filter(|_| number == 0));
+            }
+            Err(wrong) => {
+                println!("{kind}: case {case}: {wrong}");
+                let (request, wrong) = smallest(&request, converters, wrong);
+                println!("smallest found: {wrong}\n{}", request.text());
+                exit(1);
+            }
+        }
+    }
+    let accepted = answers.remove(&0).unwrap_or(0);
+    let mut text = format!("{kind}: {cases} equal, {accepted} accepted");
+    if !combinations.is_empty() {
+        text += &format!(" ({} of 1792 combinations)", combinations.len());
+    }
+    if !answers.is_empty() {
+        let refused = answers
+            .iter()
+            .map(|(number, count)| format!("{number}: {count}"));
+        text += &format!(", refused {}", refused.collect::<Vec<_>>().join(", "));
+    }
+    println!("{text}, {:.1} s", start.elapsed().as_secs_f64());
+}
+
+/// The nine weights of Custom pairs in the model and in the Rust, both ranges.
+fn pairs(options: &Options) {
+    for case in 0..options.pairs {
+        let mut random = Random::new(options.seed, 5, case);
+        let (kr, kb) = random::accepted_pair(&mut random);
+        for range in [YuvRange::Limited, YuvRange::Full] {
+            let matrix = YuvStandardMatrix::Custom(kr, kb);
+            let is = model::matrix::weights(matrix, range);
+            let rust = oracle::exact::weights(matrix, range, true);
+            if is != rust {
+                println!("{matrix:?} {range:?}: model {is:?}, oracle {rust:?}");
+                exit(1);
+            }
+        }
+    }
+    println!("Custom pairs: {} with equal weights", options.pairs);
+}
+
+/// Requests and their answers, each compared before it is printed. Long ones are left out.
+fn list(options: &Options, converters: &Converters) {
+    let side = options.side as u32;
+    let random = |kind, case| Random::new(options.seed, kind, case);
+    let count = options.list as usize;
+    let short = |lent: &Lent| lent.iter().map(Vec::len).sum::<usize>() <= LONGEST_LISTED;
+
+    let frames = (0..).map(|case| random::frame(&mut random(1, case), side));
+    for request in frames.filter(|request| short(&request.lent)).take(count) {
+        sound(&request, converters);
+        let (answer, after) = frame_of(&*converters[0], &request);
+        println!("{}", frame_vector(&request, &answer, &after));
+    }
+    let bands = (0..).map(|case| random::band(&mut random(2, case), side));
+    for request in bands.filter(|request| short(&request.lent)).take(count) {
+        sound(&request, converters);
+        if let Some((state, answer, after)) = band_of(&*converters[0], &request) {
+            println!("{}", band_vector(&request, &answer, state.done, &after));
+        }
+    }
+    let inputs = (0..).map(|case| random::input(&mut random(4, case), side));
+    for input in inputs
+        .filter(|input| input.0.len() <= LONGEST_LISTED)
+        .take(count)
+    {
+        sound(&input, converters);
+        if let Some(output) = converters[0].program(&input.0) {
+            println!("{}", program_vector(&input.0, &output));
+        }
+    }
+}
+
+fn sound<C: Case>(request: &C, converters: &Converters) {
+    if let Err(wrong) = checked(request, converters) {
+        println!("{wrong}\n{}", request.text());
+        exit(1);
+    }
+}

@@ -1,0 +1,4 @@
+-- Laws.
+pub mod AsComputed
+pub mod Shapes
+pub mod Worked

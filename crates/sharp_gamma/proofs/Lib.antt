@@ -1,0 +1,10 @@
+mod Computed
+mod Axis
+mod Order
+mod Rise
+mod Table
+mod Filled
+pub mod Largest
+pub mod Meaning
+pub mod Bounds
+pub mod Worked

@@ -1,0 +1,41 @@
+-- Each arm returns a constant table. Its `tt` is the one computed test of all 256 first indices.
+-- Assumes nothing.
+use mathlib.Core.Path.{refl}
+use borrow.Author.Needs.{needs}
+use Rattle.sharp_gamma.specs.Curve.{underInverse}
+use Rattle.sharp_gamma.proofs.Table.{first-indices}
+use Rattle.sharp_gamma.proofs.first_index_table.Statement.{statement}
+use Rattle.sharp_gamma.proofs.first_index_table.Tie as tie
+
+enum-told : tie.Need-enum-told
+enum-told c = search needs
+
+enum-told-2 : tie.Need-enum-told-2
+enum-told-2 c = search needs
+
+enum-told-3 : tie.Need-enum-told-3
+enum-told-3 c = search needs
+
+enum-told-4 : tie.Need-enum-told-4
+enum-told-4 c = search needs
+
+returns : tie.Need-returns
+unfolding underInverse
+returns c = first-indices (c .enum-told .given .1) refl tt
+
+returns-2 : tie.Need-returns-2
+unfolding underInverse
+returns-2 c = first-indices (c .enum-told2 .given .1) refl tt
+
+returns-3 : tie.Need-returns-3
+unfolding underInverse
+returns-3 c = first-indices (c .enum-told3 .given .1) refl tt
+
+returns-4 : tie.Need-returns-4
+unfolding underInverse
+returns-4 c = first-indices (c .enum-told4 .given .1) refl tt
+
+pub first-index-table-spec : {M : Type 1} → statement M
+first-index-table-spec =
+    tie.close
+    (tie.spec enum-told enum-told-2 enum-told-3 enum-told-4 returns returns-2 returns-3 returns-4)

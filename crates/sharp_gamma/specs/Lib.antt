@@ -1,0 +1,4 @@
+pub mod Fraction
+pub mod Curve
+pub mod Entry
+pub mod FirstIndices

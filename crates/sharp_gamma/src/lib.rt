@@ -1,0 +1,60 @@
+// The curve tables from which `rgbx_to_sharp_yuv` takes linear values and corrected bytes. A call
+// makes both once and lends them to its rows.
+mod tables; // tables.rt: the constants
+
+ghost use Rattle.sharp_gamma.specs.Entry.{TableOf, linearEntry, gammaEntry};
+ghost use Rattle.sharp_gamma.specs.FirstIndices.{FirstIndices};
+
+// Declares transfer function for transfer components into a linear colorspace and its inverse
+pub enum SharpYuvGammaTransfer {
+    // sRGB Transfer function
+    Srgb,
+    // Rec.709 Transfer function
+    Rec709,
+    // Pure gamma 2.2 Transfer function
+    Gamma2p2,
+    // Pure gamma 2.8 Transfer function
+    Gamma2p8,
+}
+
+// The linear value of each byte.
+pub fn linear_map_table(transfer: SharpYuvGammaTransfer) -> [u16; 256]
+    ensures { λ r. ⌜ TableOf 256 (linearEntry transfer) r ⌝ }
+{
+    match transfer {
+        SharpYuvGammaTransfer::Srgb => tables::SRGB_LINEAR,
+        SharpYuvGammaTransfer::Rec709 => tables::REC709_LINEAR,
+        SharpYuvGammaTransfer::Gamma2p2 => tables::GAMMA2P2_LINEAR,
+        SharpYuvGammaTransfer::Gamma2p8 => tables::GAMMA2P8_LINEAR,
+    }
+}
+
+// The byte for each linear value. 65,536 numbers are too many for a constant; but the byte rises
+// with the value, so the table is runs of equal bytes, and 256 first indices say where each starts.
+pub fn gamma_map_table(transfer: SharpYuvGammaTransfer) -> [u8; 65536]
+    ensures { λ r. ⌜ TableOf 65536 (gammaEntry transfer) r ⌝ }
+{
+    let first = first_index_table(transfer);
+    let mut table = [255u8; 65536]; // the run of 255 is the last: it stands from the start
+    let mut i: usize = 0;
+    for k in 0..255u8 {
+        let end = first[k as usize + 1] as usize;
+        while i < end {
+            table[i] = k;
+            i += 1;
+        }
+    }
+    table
+}
+
+// For each byte k the first index whose gamma entry is at least k.
+fn first_index_table(transfer: SharpYuvGammaTransfer) -> [u16; 256]
+    ensures { λ r. ⌜ FirstIndices (gammaEntry transfer) r ⌝ }
+{
+    match transfer {
+        SharpYuvGammaTransfer::Srgb => tables::SRGB_FIRST_INDEX,
+        SharpYuvGammaTransfer::Rec709 => tables::REC709_FIRST_INDEX,
+        SharpYuvGammaTransfer::Gamma2p2 => tables::GAMMA2P2_FIRST_INDEX,
+        SharpYuvGammaTransfer::Gamma2p8 => tables::GAMMA2P8_FIRST_INDEX,
+    }
+}

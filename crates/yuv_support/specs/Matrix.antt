@@ -1,0 +1,30 @@
+-- Which matrices are accepted. Document 01, "The call arrives", 4: a Custom kr or kb is not from 0 to 0.5 inclusive; NaN included, -0 allowed.
+-- Assumes nothing.
+use mathlib.Core.Bool.{Bool, true, _&&_}
+use lib.Ieee.{Float, binary32, ofBits, le}
+use Rattle.yuv_support.specs.declared.YuvBias.{YuvBias}
+use Rattle.yuv_support.specs.declared.YuvStandardMatrix.{YuvStandardMatrix}
+use Rattle.yuv_support.specs.declared.YuvStandardMatrix.the-variants.{Bt601, Bt709, Bt2020, Smpte240, «Bt470_6», Fcc, Custom}
+
+-- from 0 to 0.5, as IEEE compares: nothing compares with a NaN, and -0 equals 0
+abbrev pub inHalf : Float → Bool
+inHalf k = le (ofBits binary32 0x0000_0000) k && le k (ofBits binary32 0x3f00_0000)
+
+abbrev pub accepted : YuvStandardMatrix → Bool
+accepted Bt601 = true
+accepted Bt709 = true
+accepted Bt2020 = true
+accepted Smpte240 = true
+accepted «Bt470_6» = true
+accepted Fcc = true
+accepted (Custom kr kb) = inHalf kr && inHalf kb
+
+-- the Rust's `get_kr_kb`: the f32 nearest to its decimals, by their bits
+abbrev pub krKb : YuvStandardMatrix → YuvBias
+krKb Bt601 = record { kr = ofBits binary32 0x3e99_1687; kb = ofBits binary32 0x3de9_78d5 }
+krKb Bt709 = record { kr = ofBits binary32 0x3e59_b3d0; kb = ofBits binary32 0x3d93_dd98 }
+krKb Bt2020 = record { kr = ofBits binary32 0x3e86_809d; kb = ofBits binary32 0x3d72_e48f }
+krKb Smpte240 = record { kr = ofBits binary32 0x3e59_1687; kb = ofBits binary32 0x3db2_2d0e }
+krKb «Bt470_6» = record { kr = ofBits binary32 0x3e63_53f8; kb = ofBits binary32 0x3d92_05bc }
+krKb Fcc = record { kr = ofBits binary32 0x3e99_999a; kb = ofBits binary32 0x3de1_47ae }
+krKb (Custom kr kb) = record { kr = kr; kb = kb }

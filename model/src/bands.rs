@@ -1,0 +1,147 @@
+//! Document 01, "Bands": a frame in several calls.
+
+use crate::frame::{Plane, source_row};
+use crate::refusals::{Answer, Lent, Refusal, carried_row, memory, refuse_if, size_and_matrix};
+use crate::row::{Row, Rules};
+use crate::settings::{Settings, YuvChromaSubsampling, plane_rows};
+
+/// What the opening fixes, and the rows done. Plain numbers, so a caller can make one up.
+#[derive(Clone, Copy, Debug, PartialEq)]
+pub struct FrameState {
+    pub w: u32,
+    pub h: u32,
+    pub settings: Settings,
+    pub y_stride: u32,
+    pub u_stride: u32,
+    pub v_stride: u32,
+    pub done: u32,
+}
+
+/// "Opening fixes w, h, settings and plane strides, and answers 2, 3, 4." It says nothing of the
+/// strides; the first band call does.
+pub fn open(
+    w: u32,
+    h: u32,
+    settings: Settings,
+    y_stride: u32,
+    u_stride: u32,
+    v_stride: u32,
+) -> Result<FrameState, Refusal> {
+    size_and_matrix(w, h, &settings)?;
+    Ok(FrameState {
+        w,
+        h,
+        settings,
+        y_stride,
+        u_stride,
+        v_stride,
+        done: 0,
+    })
+}
+
+impl FrameState {
+    /// The next `rows` rows of the frame. "A refused call returns the state unchanged."
+    #[allow(clippy::too_many_arguments)]
+    pub fn band(
+        self,
+        rows: u32,
+        source: &[u8],
+        source_stride: u32,
+        y: &mut [u8],
+        u: &mut [u8],
+        v: &mut [u8],
+        carried: &mut [u8],
+    ) -> (FrameState, Answer) {
+        if let Err(refusal) = self.check(rows, source, source_stride, y, u, v, carried) {
+            return (self, Err(refusal));
+        }
+        self.convert(rows, source, source_stride, y, u, v, carried);
+        let done = self.done + rows;
+        (FrameState { done, ..self }, Ok(()))
+    }
+
+    /// "It checks 2, 3, 4 again, 5, 6 to 12 (source rows are the band's, plane rows the frame's),
+    /// 13."
+    #[allow(clippy::too_many_arguments)]
+    fn check(
+        &self,
+        rows: u32,
+        source: &[u8],
+        source_stride: u32,
+        y: &[u8],
+        u: &[u8],
+        v: &[u8],
+        carried: &[u8],
+    ) -> Answer {
+        size_and_matrix(self.w, self.h, &self.settings)?;
+        // "Rows done at or past h means none remain."
+        let remain = self.h.saturating_sub(self.done);
+        refuse_if(rows == 0 || rows > remain, 5)?;
+        let (plane, chroma) = plane_rows(self.settings.sampling, self.h);
+        memory(
+            u64::from(self.w),
+            self.settings.channels.bytes(),
+            Lent::new(source, source_stride, u64::from(rows)),
+            Lent::new(y, self.y_stride, plane),
+            Lent::new(u, self.u_stride, chroma),
+            Lent::new(v, self.v_stride, chroma),
+        )?;
+        carried_row(u64::from(self.w), carried)
+    }
+
+    #[allow(clippy::too_many_arguments)]
+    fn convert(
+        &self,
+        rows: u32,
+        source: &[u8],
+        source_stride: u32,
+        y: &mut [u8],
+        u: &mut [u8],
+        v: &mut [u8],
+        carried: &mut [u8],
+    ) {
+        let settings = &self.settings;
+        let rules = Rules::new(settings);
+        let (w, last) = (self.w as usize, self.h as usize - 1);
+        let (first, end) = (self.done as usize, (self.done + rows) as usize);
+        let luma = Plane::new(self.y_stride, w);
+        let u_plane = Plane::new(self.u_stride, w.div_ceil(2));
+        let v_plane = Plane::new(self.v_stride, w.div_ceil(2));
+        for r in first..end {
+            let row = |r| source_row(settings, source, source_stride, w, r - first);
+            rules.luma(row(r), luma.row(y, r));
+            match settings.sampling {
+                YuvChromaSubsampling::Yuv422 => {
+                    rules.chroma_422(w, row(r), u_plane.row(u, r), v_plane.row(v, r));
+                }
+                YuvChromaSubsampling::Yuv420 => {
+                    let above = if r > first {
+                        row(r - 1)
+                    } else {
+                        Row::new(carried, 3, settings.channels)
+                    };
+                    // An odd row finishes the chroma row of the row above it; the frame's last
+                    // row, if even, has itself below.
+                    let this = match r % 2 {
+                        1 => above,
+                        _ if r == last => row(r),
+                        _ => continue,
+                    };
+                    let (u, v) = (u_plane.row(u, r / 2), v_plane.row(v, r / 2));
+                    rules.chroma_420(w, this, row(r), u, v);
+                }
+            }
+        }
+        // "a band that ends on an even-numbered row (from 0) other than the frame's last stores
+        // the first three bytes of each pixel of that row in the carried row"
+        let ends = end - 1;
+        if settings.sampling == YuvChromaSubsampling::Yuv420 && ends % 2 == 0 && ends != last {
+            let c = settings.channels.bytes() as usize;
+            let start = (ends - first) * source_stride as usize;
+            for p in 0..w {
+                let pixel = &source[start + p * c..start + p * c + 3];
+                carried[3 * p..3 * p + 3].copy_from_slice(pixel);
+            }
+        }
+    }
+}

@@ -1,0 +1,9 @@
+//! The program `frame` of document 01, as the model has it.
+
+use std::io::{Read, Write};
+
+fn main() -> std::io::Result<()> {
+    let mut input = Vec::new();
+    std::io::stdin().read_to_end(&mut input)?;
+    std::io::stdout().write_all(&model::program(&input))
+}

@@ -1,0 +1,112 @@
+//! Document 01, "The call arrives": the refusals.
+//!
+//! "The lowest number whose condition holds is answered": the conditions stand below in the order
+//! of their numbers, and `?` ends at the first that holds. So a condition may count on those
+//! before it: rows are not 0 once 2 and 5 were passed.
+
+use crate::settings::{Settings, YuvStandardMatrix, chroma_width};
+
+#[derive(Clone, Copy, Debug, PartialEq)]
+pub struct Refusal {
+    pub number: u8,
+    pub expected: u64,
+    pub received: u64,
+}
+
+/// Finished work or one refusal.
+pub type Answer = Result<(), Refusal>;
+
+/// "both 0 where none is named".
+pub(crate) fn refuse_if(holds: bool, number: u8) -> Answer {
+    refuse_with(holds, number, 0, 0)
+}
+
+fn refuse_with(holds: bool, number: u8, expected: u64, received: u64) -> Answer {
+    if holds {
+        Err(Refusal {
+            number,
+            expected,
+            received,
+        })
+    } else {
+        Ok(())
+    }
+}
+
+const LARGEST_SIDE: u32 = 16_384;
+
+/// 2, 3 and 4, which frame calls, openings and band calls share.
+pub(crate) fn size_and_matrix(w: u32, h: u32, settings: &Settings) -> Answer {
+    refuse_if(w == 0 || h == 0, 2)?;
+    refuse_if(w > LARGEST_SIDE || h > LARGEST_SIDE, 3)?;
+    refuse_if(!accepted(settings.matrix), 4)
+}
+
+/// "from 0 to 0.5 inclusive; NaN included [in the refusal], -0 allowed". No comparison holds of
+/// NaN, and -0 compares as 0.
+fn accepted(matrix: YuvStandardMatrix) -> bool {
+    let from_0_to_half = |k: f32| (0.0..=0.5).contains(&k);
+    match matrix {
+        YuvStandardMatrix::Custom(kr, kb) => from_0_to_half(kr) && from_0_to_half(kb),
+        _ => true,
+    }
+}
+
+/// A lent buffer: its length, its stride and the rows it must hold.
+#[derive(Clone, Copy)]
+pub(crate) struct Lent {
+    pub length: u64,
+    pub stride: u64,
+    pub rows: u64,
+}
+
+impl Lent {
+    pub(crate) fn new(bytes: &[u8], stride: u32, rows: u64) -> Lent {
+        Lent {
+            length: bytes.len() as u64,
+            stride: u64::from(stride),
+            rows,
+        }
+    }
+
+    /// stride × (rows − 1) + the bytes of a row.
+    fn minimum(&self, row: u64) -> u64 {
+        self.stride * self.rows.saturating_sub(1) + row
+    }
+}
+
+/// 6 to 12. The rows of the source are the frame's or the band's, those of the planes the frame's.
+pub(crate) fn memory(w: u64, c: u64, source: Lent, y: Lent, u: Lent, v: Lent) -> Answer {
+    let cw = chroma_width(w);
+    let source_minimum = source.minimum(w * c);
+    refuse_with(
+        source.length < source_minimum,
+        6,
+        source_minimum,
+        source.length,
+    )?;
+    refuse_with(source.stride < w * c, 7, w * c, source.stride)?;
+    refuse_with(y.stride < w, 8, w * y.rows, y.stride * y.rows)?;
+    refuse_with(y.length < y.minimum(w), 9, y.minimum(w), y.length)?;
+    for (plane, number) in [(u, 10), (v, 11)] {
+        let minimum = plane.minimum(cw);
+        refuse_with(
+            plane.stride < cw,
+            number,
+            cw * plane.rows,
+            plane.stride * plane.rows,
+        )?;
+        refuse_with(plane.length < minimum, number, minimum, plane.length)?;
+    }
+    for lent in [source, y, u, v] {
+        let exact = lent.stride * lent.rows;
+        refuse_with(lent.length != exact, 12, exact, lent.length)?;
+    }
+    Ok(())
+}
+
+/// 13, in band calls.
+pub(crate) fn carried_row(w: u64, carried: &[u8]) -> Answer {
+    let length = carried.len() as u64;
+    refuse_with(length < 3 * w, 13, 3 * w, length)
+}

@@ -1,0 +1,165 @@
+//! Document 01, "The call arrives", "One row" and "The program": the settings of a call.
+
+/// The order of the bytes of a pixel.
+#[derive(Clone, Copy, Debug, PartialEq)]
+pub enum YuvSourceChannels {
+    Rgb,
+    Rgba,
+    Bgra,
+    Bgr,
+}
+
+#[derive(Clone, Copy, Debug, PartialEq)]
+pub enum YuvChromaSubsampling {
+    Yuv420,
+    Yuv422,
+}
+
+#[derive(Clone, Copy, Debug, PartialEq)]
+pub enum YuvRange {
+    Limited,
+    Full,
+}
+
+#[derive(Clone, Copy, Debug, PartialEq)]
+pub enum YuvStandardMatrix {
+    Bt601,
+    Bt709,
+    Bt2020,
+    Smpte240,
+    Bt470_6,
+    Fcc,
+    /// kr, kb.
+    Custom(f32, f32),
+}
+
+#[derive(Clone, Copy, Debug, PartialEq)]
+pub enum SharpYuvGammaTransfer {
+    Srgb,
+    Rec709,
+    Gamma2p2,
+    Gamma2p8,
+}
+
+/// Document 01, "Bands": "Settings are channel order, sampling, range, matrix and transfer."
+#[derive(Clone, Copy, Debug, PartialEq)]
+pub struct Settings {
+    pub channels: YuvSourceChannels,
+    pub sampling: YuvChromaSubsampling,
+    pub range: YuvRange,
+    pub matrix: YuvStandardMatrix,
+    pub transfer: SharpYuvGammaTransfer,
+}
+
+impl YuvSourceChannels {
+    /// Document 01, "The call arrives": c.
+    pub fn bytes(self) -> u64 {
+        match self {
+            YuvSourceChannels::Rgb | YuvSourceChannels::Bgr => 3,
+            YuvSourceChannels::Rgba | YuvSourceChannels::Bgra => 4,
+        }
+    }
+
+    /// Where r, g and b stand among the first three bytes of a pixel.
+    pub fn offsets(self) -> [usize; 3] {
+        match self {
+            YuvSourceChannels::Rgb | YuvSourceChannels::Rgba => [0, 1, 2],
+            YuvSourceChannels::Bgr | YuvSourceChannels::Bgra => [2, 1, 0],
+        }
+    }
+}
+
+/// Document 01, "The call arrives": cw.
+pub fn chroma_width(w: u64) -> u64 {
+    w.div_ceil(2)
+}
+
+/// Document 01, "The call arrives": ch.
+pub fn chroma_height(sampling: YuvChromaSubsampling, h: u64) -> u64 {
+    match sampling {
+        YuvChromaSubsampling::Yuv420 => h.div_ceil(2),
+        YuvChromaSubsampling::Yuv422 => h,
+    }
+}
+
+/// The rows of Y, and those of U and V.
+pub fn plane_rows(sampling: YuvChromaSubsampling, h: u32) -> (u64, u64) {
+    let h = u64::from(h);
+    (h, chroma_height(sampling, h))
+}
+
+impl YuvRange {
+    /// Document 01, "One row": by.
+    pub fn bias_y(self) -> i64 {
+        match self {
+            YuvRange::Limited => 16,
+            YuvRange::Full => 0,
+        }
+    }
+
+    /// Document 01, "One row": ry.
+    pub fn range_y(self) -> u8 {
+        match self {
+            YuvRange::Limited => 219,
+            YuvRange::Full => 255,
+        }
+    }
+
+    /// Document 01, "One row": ruv.
+    pub fn range_uv(self) -> u8 {
+        match self {
+            YuvRange::Limited => 224,
+            YuvRange::Full => 255,
+        }
+    }
+}
+
+// Document 01, "The program": the meaning of the code bytes. None: a code byte without a meaning.
+
+pub fn channels_of(code: u8) -> Option<YuvSourceChannels> {
+    match code {
+        0 => Some(YuvSourceChannels::Rgb),
+        1 => Some(YuvSourceChannels::Rgba),
+        2 => Some(YuvSourceChannels::Bgra),
+        3 => Some(YuvSourceChannels::Bgr),
+        _ => None,
+    }
+}
+
+pub fn sampling_of(code: u8) -> Option<YuvChromaSubsampling> {
+    match code {
+        0 => Some(YuvChromaSubsampling::Yuv420),
+        1 => Some(YuvChromaSubsampling::Yuv422),
+        _ => None,
+    }
+}
+
+pub fn range_of(code: u8) -> Option<YuvRange> {
+    match code {
+        0 => Some(YuvRange::Limited),
+        1 => Some(YuvRange::Full),
+        _ => None,
+    }
+}
+
+pub fn matrix_of(code: u8) -> Option<YuvStandardMatrix> {
+    match code {
+        0 => Some(YuvStandardMatrix::Bt601),
+        1 => Some(YuvStandardMatrix::Bt709),
+        2 => Some(YuvStandardMatrix::Bt2020),
+        3 => Some(YuvStandardMatrix::Smpte240),
+        4 => Some(YuvStandardMatrix::Bt470_6),
+        5 => Some(YuvStandardMatrix::Fcc),
+        _ => None,
+    }
+}
+
+pub fn transfer_of(code: u8) -> Option<SharpYuvGammaTransfer> {
+    match code {
+        0 => Some(SharpYuvGammaTransfer::Srgb),
+        1 => Some(SharpYuvGammaTransfer::Rec709),
+        2 => Some(SharpYuvGammaTransfer::Gamma2p2),
+        3 => Some(SharpYuvGammaTransfer::Gamma2p8),
+        _ => None,
+    }
+}

@@ -1,0 +1,35 @@
+//! The crate root that the seven files of the Rust lack. Only what they and the callers need.
+
+mod built_coefficients;
+mod images;
+mod numerics;
+pub mod sharpyuv;
+mod yuv_error;
+pub mod yuv_support;
+
+pub use images::{BufferStoreMut, YuvPlanarImageMut};
+pub use sharpyuv::SharpYuvGammaTransfer;
+pub use yuv_error::{MismatchedSize, YuvError};
+pub use yuv_support::{
+    CbCrForwardTransform, YuvBytesPacking, YuvChromaSubsampling, YuvEndianness, YuvRange,
+    YuvStandardMatrix,
+};
+
+/// The stored set of a matrix and a range, which the Rust keeps to itself.
+pub fn built_forward_transform(
+    range: YuvRange,
+    matrix: YuvStandardMatrix,
+) -> Option<CbCrForwardTransform<i32>> {
+    built_coefficients::get_built_forward_transform(13, 8, range, matrix)
+}
+
+/// The tables that one copy takes instead of filling its own.
+#[cfg(exact_tables)]
+pub(crate) fn exact_tables(transfer: SharpYuvGammaTransfer) -> &'static model::curves::Tables {
+    model::curves::tables(match transfer {
+        SharpYuvGammaTransfer::Srgb => model::SharpYuvGammaTransfer::Srgb,
+        SharpYuvGammaTransfer::Rec709 => model::SharpYuvGammaTransfer::Rec709,
+        SharpYuvGammaTransfer::Gamma2p2 => model::SharpYuvGammaTransfer::Gamma2p2,
+        SharpYuvGammaTransfer::Gamma2p8 => model::SharpYuvGammaTransfer::Gamma2p8,
+    })
+}

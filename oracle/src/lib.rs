@@ -1,0 +1,275 @@
+//! Calls the two copies of the Rust with the model's types.
+#![forbid(unsafe_code)]
+
+use model::{Refusal, SharpYuvGammaTransfer};
+
+/// A table entry of the unaltered Rust that is not the exact one.
+#[derive(Clone, Copy, Debug)]
+pub struct Entry {
+    pub transfer: SharpYuvGammaTransfer,
+    pub table: &'static str,
+    pub index: usize,
+    pub rust: u16,
+    pub exact: u16,
+}
+
+/// All such entries on this machine, and the number of entries compared.
+pub fn differing_entries() -> (Vec<Entry>, usize) {
+    use SharpYuvGammaTransfer::*;
+    let mut entries = Vec::new();
+    let mut compared = 0;
+    for transfer in [Srgb, Rec709, Gamma2p2, Gamma2p8] {
+        let (exact, rust) = (model::curves::tables(transfer), unaltered::tables(transfer));
+        let wide = |bytes: &[u8]| -> Vec<u16> { bytes.iter().map(|b| u16::from(*b)).collect() };
+        for (table, rust, exact) in [
+            ("linear", rust.linear, exact.linear.clone()),
+            ("gamma", wide(&rust.gamma), wide(&exact.gamma)),
+        ] {
+            compared += exact.len();
+            for (index, (rust, exact)) in rust.into_iter().zip(exact).enumerate() {
+                if rust != exact {
+                    entries.push(Entry {
+                        transfer,
+                        table,
+                        index,
+                        rust,
+                        exact,
+                    });
+                }
+            }
+        }
+    }
+    (entries, compared)
+}
+
+/// An error of the Rust: its name, and its two numbers where it has them.
+#[derive(Clone, Debug, PartialEq)]
+pub struct RustError {
+    pub name: String,
+    pub expected: u64,
+    pub received: u64,
+}
+
+impl RustError {
+    /// Document 01, "The call arrives": the refusal that has this error's name, where one does.
+    /// The chroma planes share an error, so the caller says which of them it was.
+    pub fn refusal(&self, chroma: u8) -> Option<Refusal> {
+        let number = match self.name.as_str() {
+            "ZeroBaseSize" => 2,
+            "DestinationSizeMismatch" => 6,
+            "MinimumStrideSizeMismatch" => 7,
+            "LumaPlaneMinimumSizeMismatch" => 8,
+            "LumaPlaneSizeMismatch" => 9,
+            "ChromaPlaneMinimumSizeMismatch" => chroma,
+            _ => return None,
+        };
+        Some(Refusal {
+            number,
+            expected: self.expected,
+            received: self.received,
+        })
+    }
+}
+
+/// One copy's calls. The copies are different crates with equal text, so their types differ.
+macro_rules! calls_of {
+    ($module:ident, $copy:ident) => {
+        pub mod $module {
+            use super::RustError;
+            use $copy::sharpyuv::*;
+            use $copy::{BufferStoreMut, MismatchedSize, YuvError, YuvPlanarImageMut};
+
+            fn range(range: model::YuvRange) -> $copy::YuvRange {
+                match range {
+                    model::YuvRange::Limited => $copy::YuvRange::Limited,
+                    model::YuvRange::Full => $copy::YuvRange::Full,
+                }
+            }
+
+            fn matrix(matrix: model::YuvStandardMatrix) -> $copy::YuvStandardMatrix {
+                match matrix {
+                    model::YuvStandardMatrix::Bt601 => $copy::YuvStandardMatrix::Bt601,
+                    model::YuvStandardMatrix::Bt709 => $copy::YuvStandardMatrix::Bt709,
+                    model::YuvStandardMatrix::Bt2020 => $copy::YuvStandardMatrix::Bt2020,
+                    model::YuvStandardMatrix::Smpte240 => $copy::YuvStandardMatrix::Smpte240,
+                    model::YuvStandardMatrix::Bt470_6 => $copy::YuvStandardMatrix::Bt470_6,
+                    model::YuvStandardMatrix::Fcc => $copy::YuvStandardMatrix::Fcc,
+                    model::YuvStandardMatrix::Custom(kr, kb) => {
+                        $copy::YuvStandardMatrix::Custom(kr, kb)
+                    }
+                }
+            }
+
+            fn transfer(transfer: model::SharpYuvGammaTransfer) -> SharpYuvGammaTransfer {
+                match transfer {
+                    model::SharpYuvGammaTransfer::Srgb => SharpYuvGammaTransfer::Srgb,
+                    model::SharpYuvGammaTransfer::Rec709 => SharpYuvGammaTransfer::Rec709,
+                    model::SharpYuvGammaTransfer::Gamma2p2 => SharpYuvGammaTransfer::Gamma2p2,
+                    model::SharpYuvGammaTransfer::Gamma2p8 => SharpYuvGammaTransfer::Gamma2p8,
+                }
+            }
+
+            fn subsampling(sampling: model::YuvChromaSubsampling) -> $copy::YuvChromaSubsampling {
+                match sampling {
+                    model::YuvChromaSubsampling::Yuv420 => $copy::YuvChromaSubsampling::Yuv420,
+                    model::YuvChromaSubsampling::Yuv422 => $copy::YuvChromaSubsampling::Yuv422,
+                }
+            }
+
+            fn error(error: YuvError) -> RustError {
+                let mut size = MismatchedSize {
+                    expected: 0,
+                    received: 0,
+                };
+                let name = match error {
+                    YuvError::DestinationSizeMismatch(s) => {
+                        size = s;
+                        "DestinationSizeMismatch"
+                    }
+                    YuvError::MinimumStrideSizeMismatch(s) => {
+                        size = s;
+                        "MinimumStrideSizeMismatch"
+                    }
+                    YuvError::LumaPlaneSizeMismatch(s) => {
+                        size = s;
+                        "LumaPlaneSizeMismatch"
+                    }
+                    YuvError::LumaPlaneMinimumSizeMismatch(s) => {
+                        size = s;
+                        "LumaPlaneMinimumSizeMismatch"
+                    }
+                    YuvError::ChromaPlaneMinimumSizeMismatch(s) => {
+                        size = s;
+                        "ChromaPlaneMinimumSizeMismatch"
+                    }
+                    YuvError::ChromaPlaneSizeMismatch(s) => {
+                        size = s;
+                        "ChromaPlaneSizeMismatch"
+                    }
+                    YuvError::PackedFrameSizeMismatch(s) => {
+                        size = s;
+                        "PackedFrameSizeMismatch"
+                    }
+                    YuvError::PointerOverflow => "PointerOverflow",
+                    YuvError::ZeroBaseSize => "ZeroBaseSize",
+                    YuvError::ImagesSizesNotMatch => "ImagesSizesNotMatch",
+                    YuvError::ImageDimensionsNotMatch => "ImageDimensionsNotMatch",
+                };
+                RustError {
+                    name: name.to_string(),
+                    expected: size.expected as u64,
+                    received: size.received as u64,
+                }
+            }
+
+            /// The Rust's function for this channel order and sampling, on the lent buffers.
+            pub fn frame(
+                frame: &model::Frame,
+                source: &[u8],
+                y: &mut [u8],
+                u: &mut [u8],
+                v: &mut [u8],
+            ) -> Result<(), RustError> {
+                use model::YuvChromaSubsampling::*;
+                use model::YuvSourceChannels::*;
+                let call = match (frame.settings.channels, frame.settings.sampling) {
+                    (Rgb, Yuv420) => rgb_to_sharp_yuv420,
+                    (Rgba, Yuv420) => rgba_to_sharp_yuv420,
+                    (Bgra, Yuv420) => bgra_to_sharp_yuv420,
+                    (Bgr, Yuv420) => bgr_to_sharp_yuv420,
+                    (Rgb, Yuv422) => rgb_to_sharp_yuv422,
+                    (Rgba, Yuv422) => rgba_to_sharp_yuv422,
+                    (Bgra, Yuv422) => bgra_to_sharp_yuv422,
+                    (Bgr, Yuv422) => bgr_to_sharp_yuv422,
+                };
+                let mut image = image(frame, y, u, v);
+                call(
+                    &mut image,
+                    source,
+                    frame.source_stride,
+                    range(frame.settings.range),
+                    matrix(frame.settings.matrix),
+                    transfer(frame.settings.transfer),
+                )
+                .map_err(error)
+            }
+
+            /// Whether the Rust's checks pass with V described as U is: if not, U is at fault.
+            pub fn u_passes(frame: &model::Frame, y: &mut [u8], u: &mut [u8]) -> bool {
+                let mut v = u.to_vec();
+                let frame = model::Frame {
+                    v_stride: frame.u_stride,
+                    ..*frame
+                };
+                image(&frame, y, u, &mut v)
+                    .check_constraints(subsampling(frame.settings.sampling))
+                    .is_ok()
+            }
+
+            fn image<'a>(
+                frame: &model::Frame,
+                y: &'a mut [u8],
+                u: &'a mut [u8],
+                v: &'a mut [u8],
+            ) -> YuvPlanarImageMut<'a, u8> {
+                YuvPlanarImageMut {
+                    y_plane: BufferStoreMut::Borrowed(y),
+                    y_stride: frame.y_stride,
+                    u_plane: BufferStoreMut::Borrowed(u),
+                    u_stride: frame.u_stride,
+                    v_plane: BufferStoreMut::Borrowed(v),
+                    v_stride: frame.v_stride,
+                    width: frame.w,
+                    height: frame.h,
+                }
+            }
+
+            /// Both tables, with the arithmetic of the two loops of rgbx_to_sharp_yuv.
+            pub fn tables(of: model::SharpYuvGammaTransfer) -> model::curves::Tables {
+                let transfer = transfer(of);
+                let linear_scale = (1. / 255.) as f32;
+                let gamma_scale = 1. / u16::MAX as f32;
+                let linear = |i: usize| {
+                    let linear = transfer.linearize(i as f32 * linear_scale);
+                    (linear * u16::MAX as f32) as u16
+                };
+                let gamma = |i: usize| {
+                    let gamma = transfer.gamma(i as f32 * gamma_scale);
+                    (gamma * 255.) as u8
+                };
+                model::curves::Tables {
+                    linear: (0..256).map(linear).collect(),
+                    gamma: (0..65_536).map(gamma).collect(),
+                }
+            }
+
+            /// The nine weights that the Rust takes, as rgbx_to_sharp_yuv chooses them. `stored`
+            /// false: those of its own transform, where it has a stored set too.
+            pub fn weights(
+                of: model::YuvStandardMatrix,
+                range_of: model::YuvRange,
+                stored: bool,
+            ) -> model::matrix::Weights {
+                use $copy::yuv_support::{
+                    ToIntegerTransform, get_forward_transform, get_yuv_range,
+                };
+                let built = $copy::built_forward_transform(range(range_of), matrix(of));
+                let t = built.filter(|_| stored).unwrap_or_else(|| {
+                    let range = get_yuv_range(8, range(range_of));
+                    let bias = matrix(of).get_kr_kb();
+                    get_forward_transform(255, range.range_y, range.range_uv, bias.kr, bias.kb)
+                        .to_integers(13)
+                });
+                let triple = |r: i32, g: i32, b: i32| [r, g, b].map(i64::from);
+                model::matrix::Weights {
+                    y: triple(t.yr, t.yg, t.yb),
+                    cb: triple(t.cb_r, t.cb_g, t.cb_b),
+                    cr: triple(t.cr_r, t.cr_g, t.cr_b),
+                }
+            }
+        }
+    };
+}
+
+calls_of!(exact, yuvutils_exact);
+calls_of!(unaltered, yuvutils_unaltered);
