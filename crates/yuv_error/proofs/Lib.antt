@@ -1,0 +1,6 @@
+-- The laws.
+pub mod Numbers
+pub mod First
+pub mod Lowest
+pub mod Accepted
+pub mod Products

@@ -1,0 +1,63 @@
+-- An answer is known by its numbers: the table below finds it again. Assumes nothing.
+use Prim.Native.Nat.{ℕ}
+use mathlib.Core.Bool.{false}
+use mathlib.Core.List.{List, [], _∷_}
+use mathlib.Core.Path.{_≡_, refl, sym, ap, _∙_}
+use native.Mathlib.Omega.{arith}
+use lib.Dec.{eqb}
+use lib.ListN.{getD}
+use borrow.Author.Tests.{ne-eqb}
+use Rattle.yuv_error.specs.Numbers.{Numbers, numbersOf, errorNumbers}
+use Rattle.yuv_error.specs.declared.MismatchedSize.{MismatchedSize}
+use Rattle.yuv_error.specs.declared.YuvError.{YuvError}
+use Rattle.yuv_error.specs.declared.YuvError.the-variants.{MalformedRequest, ZeroBaseSize, SizeTooLarge, MatrixNotAccepted, BandRowsMismatch, DestinationSizeMismatch, MinimumStrideSizeMismatch, LumaPlaneMinimumSizeMismatch, LumaPlaneSizeMismatch, UPlaneMinimumSizeMismatch, VPlaneMinimumSizeMismatch, WholeRowsMismatch, CarriedRowSizeMismatch}
+use Rattle.yuv_error.specs.declared.YuvAnswer.{YuvAnswer}
+use Rattle.yuv_error.specs.declared.YuvAnswer.the-variants.{Finished, Refused}
+
+-- the answers by number, each with the size m where it carries one
+abbrev answers : MismatchedSize → List YuvAnswer
+answers m =
+    Finished ∷
+    Refused MalformedRequest ∷
+    Refused ZeroBaseSize ∷
+    Refused SizeTooLarge ∷
+    Refused MatrixNotAccepted ∷
+    Refused BandRowsMismatch ∷
+    Refused (DestinationSizeMismatch m) ∷
+    Refused (MinimumStrideSizeMismatch m) ∷
+    Refused (LumaPlaneMinimumSizeMismatch m) ∷
+    Refused (LumaPlaneSizeMismatch m) ∷
+    Refused (UPlaneMinimumSizeMismatch m) ∷
+    Refused (VPlaneMinimumSizeMismatch m) ∷
+    Refused (WholeRowsMismatch m) ∷
+    Refused (CarriedRowSizeMismatch m) ∷ []
+
+abbrev answerOf : Numbers → YuvAnswer
+answerOf x = getD (answers (record { expected = x .expected; received = x .received })) (x .number) Finished
+
+found : (a : YuvAnswer) → answerOf (numbersOf a) ≡ a
+found Finished = refl
+found (Refused MalformedRequest) = refl
+found (Refused ZeroBaseSize) = refl
+found (Refused SizeTooLarge) = refl
+found (Refused MatrixNotAccepted) = refl
+found (Refused BandRowsMismatch) = refl
+found (Refused (DestinationSizeMismatch m)) = refl
+found (Refused (MinimumStrideSizeMismatch m)) = refl
+found (Refused (LumaPlaneMinimumSizeMismatch m)) = refl
+found (Refused (LumaPlaneSizeMismatch m)) = refl
+found (Refused (UPlaneMinimumSizeMismatch m)) = refl
+found (Refused (VPlaneMinimumSizeMismatch m)) = refl
+found (Refused (WholeRowsMismatch m)) = refl
+found (Refused (CarriedRowSizeMismatch m)) = refl
+
+-- two answers of equal numbers are equal
+pub same-answer : (a b : YuvAnswer) → numbersOf a ≡ numbersOf b → a ≡ b
+same-answer a b e = sym (found a) ∙ ap answerOf e ∙ found b
+
+-- number 0 is finished work, and no refusal
+pub is-finished : (a : YuvAnswer) → numbersOf a .number ≡ 0 → a ≡ Finished
+is-finished a e = sym (found a) ∙ rw e
+
+pub refused-number : (e : YuvError) → eqb (errorNumbers e .number) 0 ≡ false
+refused-number e = ne-eqb (errorNumbers e .number) 0 λ z. let w : _≡_ {A = ℕ} 0 1 = cc (is-finished (Refused e) z) in omega arith

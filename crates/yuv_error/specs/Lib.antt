@@ -1,0 +1,6 @@
+-- Document 01, "The call arrives": the refusals, as a list of rules.
+pub mod Numbers
+pub mod Rules
+pub mod Lowest
+pub mod Bounded
+pub mod Checks

@@ -1,0 +1,44 @@
+-- What the first rule that holds has to do with document 01's sentence, "The call arrives":
+-- "The lowest number whose condition holds is answered, and no number without its condition."
+-- Assumes nothing.
+use Prim.Native.Nat.{ℕ, _≤_, _<_}
+use mathlib.Core.Bool.{Bool, true, false, cond, _&&_, _||_}
+use mathlib.Core.List.{List, [], _∷_}
+use mathlib.Core.Logic.{_↔_}
+use mathlib.Core.Path.{_≡_}
+use lib.Dec.{leb, eqb}
+use Rattle.yuv_error.specs.Numbers.{Numbers}
+use Rattle.yuv_error.specs.Rules.{Rule, firstOf}
+
+-- condition n holds: a rule of number n does
+abbrev pub conditionHolds : List Rule → ℕ → Bool
+conditionHolds [] n = false
+conditionHolds (r ∷ rs) n = eqb (r .says .number) n && r .holds || conditionHolds rs n
+
+-- the rules of number n, in order
+abbrev pub ofNumber : ℕ → List Rule → List Rule
+ofNumber n [] = []
+ofNumber n (r ∷ rs) = cond (eqb (r .says .number) n) (r ∷ ofNumber n rs) (ofNumber n rs)
+
+-- the rules stand by number, from k on
+abbrev pub rising : ℕ → List Rule → Bool
+rising k [] = true
+rising k (r ∷ rs) = leb k (r .says .number) && rising (r .says .number) rs
+
+-- n's condition holds, and that of no lower number
+abbrev pub IsLowest : List Rule → ℕ → Type 0
+IsLowest rs n = (conditionHolds rs n ≡ true) × ((m : ℕ) → m < n → conditionHolds rs m ≡ false)
+
+abbrev pub NoneHolds : List Rule → Type 0
+NoneHolds rs = (n : ℕ) → conditionHolds rs n ≡ false
+
+-- x is the right answer to the rules: a refusal exactly when its number is the lowest whose condition holds, finished work exactly when no
+-- condition holds; expected and received are those of the first rule of that number that holds
+pub record Lowest (rs : List Rule) (x : Numbers) : Type 0 where
+  pub refused : (n : ℕ) → 1 ≤ n → (x .number ≡ n) ↔ IsLowest rs n
+  pub finished : (x .number ≡ 0) ↔ NoneHolds rs
+  pub sizes : x ≡ firstOf (ofNumber (x .number) rs)
+
+-- the first rule that holds is the right answer, and no other is, wherever the rules stand by number from 1 on
+abbrev pub FirstIsLowest : Type 0
+FirstIsLowest = (rs : List Rule) (x : Numbers) → rising 1 rs ≡ true → (x ≡ firstOf rs) ↔ Lowest rs x

@@ -1,0 +1,39 @@
+-- Document 01's number, expected and received of each answer. "A refusal carries expected and received (both 0 where none is named)."
+-- Assumes nothing.
+use Prim.Native.Nat.{ℕ}
+use Rattle.yuv_error.specs.declared.MismatchedSize.{MismatchedSize}
+use Rattle.yuv_error.specs.declared.YuvError.{YuvError}
+use Rattle.yuv_error.specs.declared.YuvError.the-variants.{MalformedRequest, ZeroBaseSize, SizeTooLarge, MatrixNotAccepted, BandRowsMismatch, DestinationSizeMismatch, MinimumStrideSizeMismatch, LumaPlaneMinimumSizeMismatch, LumaPlaneSizeMismatch, UPlaneMinimumSizeMismatch, VPlaneMinimumSizeMismatch, WholeRowsMismatch, CarriedRowSizeMismatch}
+use Rattle.yuv_error.specs.declared.YuvAnswer.{YuvAnswer}
+use Rattle.yuv_error.specs.declared.YuvAnswer.the-variants.{Finished, Refused}
+
+pub record Numbers : Type 0 where
+  pub number : ℕ
+  pub expected : ℕ
+  pub received : ℕ
+
+abbrev pub numbers : ℕ → ℕ → ℕ → Numbers
+numbers n e r = record { number = n; expected = e; received = r }
+
+abbrev pub sized : ℕ → MismatchedSize → Numbers
+sized n m = numbers n (m .expected) (m .received)
+
+abbrev pub errorNumbers : YuvError → Numbers
+errorNumbers MalformedRequest = numbers 1 0 0
+errorNumbers ZeroBaseSize = numbers 2 0 0
+errorNumbers SizeTooLarge = numbers 3 0 0
+errorNumbers MatrixNotAccepted = numbers 4 0 0
+errorNumbers BandRowsMismatch = numbers 5 0 0
+errorNumbers (DestinationSizeMismatch m) = sized 6 m
+errorNumbers (MinimumStrideSizeMismatch m) = sized 7 m
+errorNumbers (LumaPlaneMinimumSizeMismatch m) = sized 8 m
+errorNumbers (LumaPlaneSizeMismatch m) = sized 9 m
+errorNumbers (UPlaneMinimumSizeMismatch m) = sized 10 m
+errorNumbers (VPlaneMinimumSizeMismatch m) = sized 11 m
+errorNumbers (WholeRowsMismatch m) = sized 12 m
+errorNumbers (CarriedRowSizeMismatch m) = sized 13 m
+
+-- finished work is number 0
+abbrev pub numbersOf : YuvAnswer → Numbers
+numbersOf Finished = numbers 0 0 0
+numbersOf (Refused e) = errorNumbers e

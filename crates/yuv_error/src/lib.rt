@@ -1,0 +1,246 @@
+// The refusals: the errors and checks of the Rust's yuv_error.rs, with document 01's own beside them.
+ghost use mathlib.Core.Path.{_≡_};
+ghost use mathlib.Core.List.{_++_};
+ghost use Prim.Native.Nat.{_*_};
+ghost use Rattle.yuv_error.specs.Numbers.{sized, errorNumbers, numbersOf};
+ghost use Rattle.yuv_error.specs.Bounded.{Bounded};
+ghost use Rattle.yuv_error.specs.Checks.{andThen, planeRulesSaying, chromaNumber};
+ghost use Rattle.yuv_error.specs.Rules.{firstOf, sizeRules, matrixRules, leastOf, wholeOf, tooShort, tooNarrow, sourceRules, planeRules, wholeRules, bufferRules};
+use yuv_support::YuvStandardMatrix;
+
+// The most pixels a side, of document 01's refusal 3.
+const MAX_SIDE: u32 = 16384;
+
+// Shows size mismatching.
+pub struct MismatchedSize {
+    pub expected: usize,
+    pub received: usize,
+}
+
+// The refusals, lowest number first. Where the Rust has an error for one, it has the Rust's name;
+// its ChromaPlaneMinimumSizeMismatch is one for each chroma plane here.
+pub enum YuvError {
+    MalformedRequest,
+    ZeroBaseSize,
+    SizeTooLarge,
+    MatrixNotAccepted,
+    BandRowsMismatch,
+    DestinationSizeMismatch(MismatchedSize),
+    MinimumStrideSizeMismatch(MismatchedSize),
+    LumaPlaneMinimumSizeMismatch(MismatchedSize),
+    LumaPlaneSizeMismatch(MismatchedSize),
+    UPlaneMinimumSizeMismatch(MismatchedSize),
+    VPlaneMinimumSizeMismatch(MismatchedSize),
+    WholeRowsMismatch(MismatchedSize),
+    CarriedRowSizeMismatch(MismatchedSize),
+}
+
+// What a call answers: finished work, or one refusal.
+pub enum YuvAnswer {
+    Finished,
+    Refused(YuvError),
+}
+
+// A lent buffer: `rows` rows of `row` bytes each, a row every `stride` bytes, `len` bytes in all.
+pub struct LentBuffer {
+    pub row: usize,
+    pub rows: usize,
+    pub stride: u32,
+    pub len: usize,
+}
+
+impl YuvAnswer {
+    // This refusal, or else the next answer, as the Rust's Result::and.
+    pub fn and(self, next: YuvAnswer) -> YuvAnswer
+        ensures { λ r. ⌜ r ≡ andThen self next ⌝ }
+    {
+        match self {
+            YuvAnswer::Finished => next,
+            YuvAnswer::Refused(_) => self,
+        }
+    }
+}
+
+impl LentBuffer {
+    // The least that holds the rows: the last one may lack its padding.
+    fn least_size(self) -> usize
+        requires { ⌜ Bounded self ⌝ }
+        ensures { λ r. ⌜ r ≡ leastOf self ⌝ }
+    {
+        self.stride as usize * (self.rows - 1) + self.row
+    }
+
+    // All rows whole.
+    fn whole_size(self) -> usize
+        requires { ⌜ Bounded self ⌝ }
+        ensures { λ r. ⌜ r ≡ wholeOf self ⌝ }
+    {
+        self.stride as usize * self.rows
+    }
+
+    fn is_too_short(self) -> bool
+        requires { ⌜ Bounded self ⌝ }
+        ensures { λ r. ⌜ r ≡ tooShort self ⌝ }
+    {
+        self.len < self.least_size()
+    }
+
+    fn is_too_narrow(self) -> bool
+        ensures { λ r. ⌜ r ≡ tooNarrow self ⌝ }
+    {
+        (self.stride as usize) < self.row
+    }
+
+    // What the refusal of a buffer too short for its rows carries.
+    fn length_mismatch(self) -> MismatchedSize
+        requires { ⌜ Bounded self ⌝ }
+        ensures { λ r. ⌜ (r .expected ≡ leastOf self) × (r .received ≡ self .len) ⌝ }
+    {
+        MismatchedSize {
+            expected: self.least_size(),
+            received: self.len,
+        }
+    }
+
+    // What the refusal of a plane's stride below its row carries.
+    fn stride_mismatch(self) -> MismatchedSize
+        requires { ⌜ Bounded self ⌝ }
+        ensures { λ r. ⌜ (r .expected ≡ self .row * self .rows) × (r .received ≡ wholeOf self) ⌝ }
+    {
+        MismatchedSize {
+            expected: self.row * self.rows,
+            received: self.whole_size(),
+        }
+    }
+}
+
+// The chroma planes, each with a refusal of its own.
+enum ChromaPlane {
+    U,
+    V,
+}
+
+impl ChromaPlane {
+    fn refusal(self, size: MismatchedSize) -> YuvError
+        ensures { λ r. ⌜ errorNumbers r ≡ sized (chromaNumber self) size ⌝ }
+    {
+        match self {
+            ChromaPlane::U => YuvError::UPlaneMinimumSizeMismatch(size),
+            ChromaPlane::V => YuvError::VPlaneMinimumSizeMismatch(size),
+        }
+    }
+}
+
+fn check_size(width: u32, height: u32) -> YuvAnswer
+    ensures { λ r. ⌜ numbersOf r ≡ firstOf (sizeRules width height) ⌝ }
+{
+    if width == 0 || height == 0 {
+        return YuvAnswer::Refused(YuvError::ZeroBaseSize);
+    }
+    if width > MAX_SIDE || height > MAX_SIDE {
+        return YuvAnswer::Refused(YuvError::SizeTooLarge);
+    }
+    YuvAnswer::Finished
+}
+
+fn check_matrix(matrix: YuvStandardMatrix) -> YuvAnswer
+    ensures { λ r. ⌜ numbersOf r ≡ firstOf (matrixRules matrix) ⌝ }
+{
+    if matrix.is_accepted() {
+        YuvAnswer::Finished
+    } else {
+        YuvAnswer::Refused(YuvError::MatrixNotAccepted)
+    }
+}
+
+// Refuses a side of 0 (2), a side above 16,384 (3), a matrix that is not accepted (4).
+pub fn check_size_and_matrix(width: u32, height: u32, matrix: YuvStandardMatrix) -> YuvAnswer
+    ensures { λ r. ⌜ numbersOf r ≡ firstOf (sizeRules width height ++ matrixRules matrix) ⌝ }
+{
+    check_size(width, height).and(check_matrix(matrix))
+}
+
+// The Rust's check_rgba_destination.
+fn check_rgba_source(source: LentBuffer) -> YuvAnswer
+    requires { ⌜ Bounded source ⌝ }
+    ensures { λ r. ⌜ numbersOf r ≡ firstOf (sourceRules source) ⌝ }
+{
+    if source.is_too_short() {
+        return YuvAnswer::Refused(YuvError::DestinationSizeMismatch(source.length_mismatch()));
+    }
+    if source.is_too_narrow() {
+        return YuvAnswer::Refused(YuvError::MinimumStrideSizeMismatch(MismatchedSize {
+            expected: source.row,
+            received: source.stride as usize,
+        }));
+    }
+    YuvAnswer::Finished
+}
+
+// The check that Y, U and V share; what it refuses with is its caller's.
+fn check_plane(plane: LentBuffer, narrow: YuvError, short: YuvError) -> YuvAnswer
+    requires { ⌜ Bounded plane ⌝ }
+    ensures { λ r. ⌜ numbersOf r ≡ firstOf (planeRulesSaying (errorNumbers narrow) (errorNumbers short) plane) ⌝ }
+{
+    if plane.is_too_narrow() {
+        return YuvAnswer::Refused(narrow);
+    }
+    if plane.is_too_short() {
+        return YuvAnswer::Refused(short);
+    }
+    YuvAnswer::Finished
+}
+
+fn check_y8_channel(y: LentBuffer) -> YuvAnswer
+    requires { ⌜ Bounded y ⌝ }
+    ensures { λ r. ⌜ numbersOf r ≡ firstOf (planeRules 8 9 y) ⌝ }
+{
+    let narrow = YuvError::LumaPlaneMinimumSizeMismatch(y.stride_mismatch());
+    let short = YuvError::LumaPlaneSizeMismatch(y.length_mismatch());
+    check_plane(y, narrow, short)
+}
+
+fn check_chroma_channel(plane: ChromaPlane, chroma: LentBuffer) -> YuvAnswer
+    requires { ⌜ Bounded chroma ⌝ }
+    ensures { λ r. ⌜ numbersOf r ≡ firstOf (planeRules (chromaNumber plane) (chromaNumber plane) chroma) ⌝ }
+{
+    let narrow = plane.refusal(chroma.stride_mismatch());
+    let short = plane.refusal(chroma.length_mismatch());
+    check_plane(chroma, narrow, short)
+}
+
+// The Rust has no such check: it may skip rows, take the wrong last row or panic where this one refuses.
+fn check_whole_rows(lent: LentBuffer) -> YuvAnswer
+    requires { ⌜ Bounded lent ⌝ }
+    ensures { λ r. ⌜ numbersOf r ≡ firstOf (wholeRules lent) ⌝ }
+{
+    let whole = lent.whole_size();
+    if lent.len == whole {
+        YuvAnswer::Finished
+    } else {
+        YuvAnswer::Refused(YuvError::WholeRowsMismatch(MismatchedSize {
+            expected: whole,
+            received: lent.len,
+        }))
+    }
+}
+
+// Refuses a source (6, 7), a luma plane (8, 9), a chroma plane (10, 11) too short or too narrow for its rows, then one whose
+// rows are not whole (12). The sizes are those that `check_size_and_matrix` lets through.
+pub fn check_buffers(source: LentBuffer, y: LentBuffer, u: LentBuffer, v: LentBuffer) -> YuvAnswer
+    requires { ⌜ Bounded source ⌝ }
+    requires { ⌜ Bounded y ⌝ }
+    requires { ⌜ Bounded u ⌝ }
+    requires { ⌜ Bounded v ⌝ }
+    ensures { λ r. ⌜ numbersOf r ≡ firstOf (bufferRules source y u v) ⌝ }
+{
+    let sizes = check_rgba_source(source)
+        .and(check_y8_channel(y))
+        .and(check_chroma_channel(ChromaPlane::U, u))
+        .and(check_chroma_channel(ChromaPlane::V, v));
+    let whole = check_whole_rows(source)
+        .and(check_whole_rows(y))
+        .and(check_whole_rows(u))
+        .and(check_whole_rows(v));
+    sizes.and(whole)
+}
