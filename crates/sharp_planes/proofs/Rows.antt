@@ -1,0 +1,60 @@
+-- The part of a source that is lent for a row is that row's pixels, and a chroma row of those pixels is the image's.
+-- Assumes nothing.
+use Prim.Native.Nat.{ℕ, _+_, _*_, _-_, _≤_, _<_}
+use mathlib.Core.Path.{_≡_, refl, ap, sym, _∙_}
+use mathlib.Core.Bool.{Bool, cond}
+use mathlib.Core.List.{List}
+use native.Mathlib.Nat.{mul-comm}
+use native.Mathlib.Omega.{arith}
+use borrow.Author.Tests.{lt-ltb, le-ltb}
+use lib.ListN.{length, take, drop, length-take, length-drop}
+use Rattle.yuv_support.specs.declared.YuvChromaSubsampling.{YuvChromaSubsampling}
+use Rattle.yuv_support.specs.declared.YuvChromaSubsampling.the-variants.{Yuv420, Yuv422}
+use Rattle.yuv_support.specs.Channels.{channelsCount}
+use Rattle.sharp_row.specs.declared.YuvSettings.{YuvSettings}
+use Rattle.sharp_row.specs.Row.{Pixels, pixelsOf}
+use Rattle.sharp_planes.specs.declared.Band.{Band}
+use Rattle.sharp_planes.specs.Image.{Image, sourceImage, rowBytes, chromaInput}
+use Rattle.sharp_planes.specs.Plane.{PlaneIs}
+use Rattle.sharp_planes.specs.Band.{ownRows, bandImage, Fed, RowLent, firstRow, belowRow, inputRow}
+use Rattle.sharp_planes.proofs.Numbers.{row-end, three-or-four}
+use Rattle.sharp_planes.proofs.Planes.{plane-like}
+
+pub band-own-rows : (s : YuvSettings) (w done stride : ℕ) (source carried : List ℕ) (i : ℕ) → done ≤ i → ownRows s w done stride source i ≡ bandImage s w done stride source carried i
+unfolding bandImage
+band-own-rows s w done stride source carried i h = sym (ap (λ (b : Bool). cond b (pixelsOf 3 carried) (ownRows s w done stride source i)) (le-ltb i done h))
+
+pub own-row : (s : YuvSettings) (w done stride : ℕ) (source : List ℕ) (i at size : ℕ) → at ≡ (i - done) * stride → size ≡ w * channelsCount (s .channels)
+    → pixelsOf (channelsCount (s .channels)) (take (at + size - at) (drop at source)) ≡ ownRows s w done stride source i
+unfolding ownRows sourceImage rowBytes
+own-row s w done stride source i at size place long = let a : at + size - at ≡ w * channelsCount (s .channels) = omega arith in rw (a, place)
+
+pub band-carried : (s : YuvSettings) (w done stride : ℕ) (source carried : List ℕ) (i : ℕ) → i < done → pixelsOf 3 carried ≡ bandImage s w done stride source carried i
+unfolding bandImage
+band-carried s w done stride source carried i h = sym (ap (λ (b : Bool). cond b (pixelsOf 3 carried) (ownRows s w done stride source i)) (lt-ltb i done h))
+
+-- where row i of the frame stands in its band's source
+module _ {s : YuvSettings} {band : Band} {source carried : List ℕ} (fed : Fed s band source carried) (i at size : ℕ) (place : at ≡ (i - band .done) * band .stride)
+    (long : size ≡ band .width * channelsCount (s .channels)) (least : band .done ≤ i) (most : i < band .done + band .rows) where
+  pub row-room : at + size ≤ length source
+  row-room = omega (arith, fed, row-end (i - band .done) (band .rows) (band .stride) (omega arith), mul-comm (band .stride) (band .rows))
+
+  pub row-lent : RowLent (band .width) (channelsCount (s .channels)) (take (at + size - at) (drop at source))
+  row-lent = record {
+    least = three-or-four (s .channels) .0;
+    size = simp (length-take, length-drop) (omega (arith, row-room));
+  }
+
+input-is : (m : YuvChromaSubsampling) (s : YuvSettings) (w h : ℕ) (image : Image) (k : ℕ) → inputRow s m w (image (firstRow m k)) (image (belowRow m h k)) ≡ chromaInput s m w h image k
+input-is Yuv420 s w h image k = refl
+input-is Yuv422 s w h image k = refl
+
+-- one chroma row, by the pixels of its rows, is the image's; `g` is the cb or the cr of a chroma input
+pub chroma-like : (g : (ℕ → ℕ → ℕ) → ℕ → ℕ) (s : YuvSettings) (k stride n w h : ℕ) (image : Image) (this below : Pixels) (plane plane′ : List ℕ)
+    → this ≡ image (firstRow (s .sampling) k) → below ≡ image (belowRow (s .sampling) h k)
+    → PlaneIs k (k + 1) stride n (λ k. g (inputRow s (s .sampling) w this below)) plane plane′ → PlaneIs k (k + 1) stride n (λ k. g (chromaInput s (s .sampling) w h image k)) plane plane′
+chroma-like g s k stride n w h image this below plane plane′ a b =
+    plane-like k (k + 1) stride n (λ k. g (inputRow s (s .sampling) w this below)) (λ k. g (chromaInput s (s .sampling) w h image k)) plane plane′
+    (λ r x l m _. let e : k ≡ r = omega arith in
+    ap (λ (p : Pixels). g (inputRow s (s .sampling) w p below) x) a ∙ ap (λ (p : Pixels). g (inputRow s (s .sampling) w (image (firstRow (s .sampling) k)) p) x) b
+    ∙ ap (λ (input : ℕ → ℕ → ℕ). g input x) (input-is (s .sampling) s w h image k) ∙ ap (λ (k : ℕ). g (chromaInput s (s .sampling) w h image k) x) e)

@@ -1,0 +1,18 @@
+-- A plane with some of its rows written. Document 01, "One row": every row is a part starting inside its plane; only its first w or cw
+-- bytes are written.
+-- Assumes nothing.
+use Prim.Native.Nat.{ℕ, _/_, _%_}
+use mathlib.Core.Path.{_≡_}
+use mathlib.Core.Bool.{Bool, cond, _&&_}
+use mathlib.Core.List.{List}
+use lib.Dec.{ltb, leb}
+use lib.ListN.{length, getD}
+
+-- byte p stands in a row from `from` up to `to`, among the row's first n bytes
+unfoldable pub written : (from to stride n p : ℕ) → Bool
+written from to stride n p = leb from (p / stride) && ltb (p / stride) to && ltb (p % stride) n
+
+-- `after` is `before` with bytes f row column there, and no other byte changed
+pub record PlaneIs (from to stride n : ℕ) (f : ℕ → ℕ → ℕ) (before after : List ℕ) : Type 0 where
+  pub size : length after ≡ length before
+  pub byte : (p : ℕ) → getD after p 0 ≡ cond (written from to stride n p) (f (p / stride) (p % stride)) (getD before p 0)
