@@ -1,0 +1,2 @@
+-- The frame call.
+pub mod Frame
