@@ -41,3 +41,12 @@ between Yuv420 h done end k l m a b =
     (λ e x. finished? h done (omega arith) (λ f y. absurd (omega arith)) (λ f y. record { first = omega arith; below-least = omega arith; below-most = omega arith }))
     (λ e x. finished? h done (omega arith) (λ f y. absurd (omega arith)) (λ f y. record { first = omega arith; below-least = omega arith; below-most = omega arith }))
 between Yuv422 h done end k l m a b = record { first = b; below-least = a; below-most = b }
+
+-- no row, no chroma row
+pub finished-none : (s : YuvChromaSubsampling) (h : ℕ) → 1 ≤ h → finishedOf s h 0 ≡ 0
+finished-none Yuv420 h some = finished-some h 0 (λ e. omega arith)
+finished-none Yuv422 h some = refl
+
+pub finished-last : (s : YuvChromaSubsampling) (h : ℕ) → finishedOf s h h ≡ chromaHeight s h
+finished-last Yuv420 h = finished-all h h refl
+finished-last Yuv422 h = refl

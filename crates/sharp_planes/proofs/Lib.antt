@@ -4,3 +4,4 @@ pub mod Numbers
 pub mod Rows
 pub mod Finished
 pub mod Sharpened
+pub mod SamePixels

@@ -13,7 +13,7 @@ use lib.Dec.{ltb, leb}
 use lib.ListN.{length, getD, take, drop, length-take, length-drop, List·getD-append}
 use lib.Seq.{getD-append-add, getD-take, getD-drop, length-take-le, ext-getD}
 use Rattle.sharp_row.specs.Painted.{Painted}
-use Rattle.sharp_planes.specs.Plane.{written, PlaneIs}
+use Rattle.sharp_planes.specs.Plane.{written, PlaneIs, RowsEqual}
 
 pub below? : {P : Type 0} (a b : ℕ) → (a < b → P) → (b ≤ a → P) → P
 below? a b f g = elim (decLt a b) [ yes h ↦ f h | no h ↦ g (omega arith) ]
@@ -186,3 +186,13 @@ pub plane-step : (from i next stride n k at : ℕ) (f : ℕ → ℕ → ℕ) (d 
 plane-step from i next stride n k at f d e part l m place nk ks room row h =
     subst (λ (x : ℕ). PlaneIs from x stride n f d (putMid at k e part)) (sym m)
     (plane-then from i (i + 1) stride n f d e (putMid at k e part) l (omega arith) h (row-written i stride n k at f e part place nk ks room row))
+
+-- a plane with some of its rows written is one plane
+pub plane-unique : {from to stride n : ℕ} {f : ℕ → ℕ → ℕ} {d e e′ : List ℕ} → PlaneIs from to stride n f d e → PlaneIs from to stride n f d e′ → e ≡ e′
+plane-unique {e = e} {e′ = e′} h k = ext-getD 0 e e′ (h .size ∙ sym (k .size)) (λ p _. h .byte p ∙ sym (k .byte p))
+
+-- two planes of one image, whatever their strides
+pub rows-equal : {from to all stride stride′ n : ℕ} {f : ℕ → ℕ → ℕ} {x x′ z z′ : List ℕ} → from ≡ 0 → to ≤ all → n ≤ stride → n ≤ stride′
+    → PlaneIs from to stride n f x x′ → PlaneIs from all stride′ n f z z′ → RowsEqual to n stride stride′ x′ z′
+rows-equal start fewer wide wide′ p q r i l m =
+    plane-at _ _ _ _ _ _ _ wide p r i (omega arith) l m ∙ sym (plane-at _ _ _ _ _ _ _ wide′ q r i (omega arith) (omega arith) m)

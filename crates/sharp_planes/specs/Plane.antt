@@ -1,7 +1,7 @@
 -- A plane with some of its rows written. Document 01, "One row": every row is a part starting inside its plane; only its first w or cw
 -- bytes are written.
 -- Assumes nothing.
-use Prim.Native.Nat.{ℕ, _/_, _%_}
+use Prim.Native.Nat.{ℕ, _+_, _*_, _/_, _%_, _<_}
 use mathlib.Core.Path.{_≡_}
 use mathlib.Core.Bool.{Bool, cond, _&&_}
 use mathlib.Core.List.{List}
@@ -16,3 +16,7 @@ written from to stride n p = leb from (p / stride) && ltb (p / stride) to && ltb
 pub record PlaneIs (from to stride n : ℕ) (f : ℕ → ℕ → ℕ) (before after : List ℕ) : Type 0 where
   pub size : length after ≡ length before
   pub byte : (p : ℕ) → getD after p 0 ≡ cond (written from to stride n p) (f (p / stride) (p % stride)) (getD before p 0)
+
+-- the first n bytes of each of the first `rows` rows are equal in two planes, each with its own stride
+abbrev pub RowsEqual : (rows n stride stride′ : ℕ) → (plane plane′ : List ℕ) → Type 0
+RowsEqual rows n stride stride′ plane plane′ = (r x : ℕ) → r < rows → x < n → getD plane (r * stride + x) 0 ≡ getD plane′ (r * stride′ + x) 0

@@ -3,3 +3,4 @@ pub mod Accepted
 pub mod Post
 pub mod Flat
 pub mod Worked
+pub mod SameFrames

@@ -1,2 +1,3 @@
 -- The frame call.
 pub mod Frame
+pub mod Same

@@ -6,3 +6,4 @@ pub mod Weights
 pub mod Inputs
 pub mod Coloured
 pub mod Worked
+pub mod SamePixels
