@@ -3,6 +3,7 @@
 use Prim.Native.Nat.{ℕ, _+_, _*_, _-_, _≤_, _<_}
 use mathlib.Core.Path.{_≡_, refl, sym, ap, subst, _∙_}
 use mathlib.Core.List.{List}
+use native.Mathlib.Nat.{le-refl}
 use native.Mathlib.Omega.{arith}
 use lib.ListN.{length}
 use Rattle.yuv_error.specs.declared.YuvError.{YuvError}
@@ -13,6 +14,7 @@ use Rattle.yuv_error.specs.Rules.{firstOf}
 use Rattle.sharp_planes.specs.declared.FrameDescription.{FrameDescription}
 use Rattle.sharp_planes.specs.Image.{Image, sourceImage}
 use Rattle.sharp_planes.specs.Band.{bandImage, Sharpened}
+use Rattle.sharp_planes.proofs.Planes.{plane-same}
 use Rattle.sharp_planes.proofs.Sharpened.{sharpened-none, whole-image}
 use Rattle.sharp_rgba_to_yuv.specs.Frame.{frameRules, taken, FramePost}
 
@@ -31,3 +33,10 @@ module _ (d : FrameDescription) (stride : ℕ) (source y u v : List ℕ) (answer
         (subst (λ (n : ℕ). Sharpened d 0 n (sourceImage (d .settings) (d .width) stride source) y u v y′ u′ v′) (let e : 0 + d .height ≡ d .height = omega arith in e)
         (subst (λ (image : Image). Sharpened d 0 (0 + d .height) image y u v y′ u′ v′) (whole-image (d .settings) (d .width) stride source source) h));
   }
+
+-- "a refusal writes no byte"
+pub refused-writes-nothing : {d : FrameDescription} {stride : ℕ} {source y u v y′ u′ v′ : List ℕ} {answer : YuvAnswer} {e : YuvError} → answer ≡ Refused e
+    → FramePost d stride source y u v answer y′ u′ v′ → (y′ ≡ y) × (u′ ≡ u) × (v′ ≡ v)
+refused-writes-nothing is p =
+    let none = rw is at (p .planes) in
+    (plane-same _ _ _ _ _ _ _ (le-refl _) (none .luma), plane-same _ _ _ _ _ _ _ (le-refl _) (none .cb), plane-same _ _ _ _ _ _ _ (le-refl _) (none .cr))

@@ -15,12 +15,13 @@ use Rattle.yuv_error.proofs.Numbers.{same-answer}
 use Rattle.sharp_planes.specs.declared.FrameDescription.{FrameDescription}
 use Rattle.sharp_planes.specs.Image.{sourceImage}
 use Rattle.sharp_planes.specs.Band.{Sharpened}
-use Rattle.sharp_planes.proofs.Planes.{plane-same, plane-unique, plane-to, rows-equal}
+use Rattle.sharp_planes.proofs.Planes.{plane-unique, plane-to, rows-equal}
 use Rattle.sharp_planes.proofs.Finished.{finished-none, finished-last}
 use Rattle.sharp_planes.proofs.SamePixels.{SameSeen, sharpened-like}
 use Rattle.sharp_rgba_to_yuv.specs.Frame.{frameRules, taken, FramePost}
 use Rattle.sharp_rgba_to_yuv.specs.Same.{SameColourBytes, AlphaAndPadding, withStrides, StridesAndBuffers}
 use Rattle.sharp_rgba_to_yuv.proofs.Accepted.{accepted}
+use Rattle.sharp_rgba_to_yuv.proofs.Post.{refused-writes-nothing}
 
 -- a whole frame sees the frame's own rows and no other
 seen : (d : FrameDescription) (stride stride′ : ℕ) (source source′ : List ℕ) → SameColourBytes d stride stride′ source source′
@@ -40,12 +41,9 @@ alpha-and-padding d stride source source′ y u v a a′ y₁ u₁ v₁ y₂ u�
         let z = sharpened-like (o .sized .height-least) (le-refl (d .height)) (seen d stride stride source′ source (λ r x i l m n. sym (same r x i l m n))) (rw is at (q .planes)) in
         (plane-unique (x .luma) (z .luma), plane-unique (x .cb) (z .cb), plane-unique (x .cr) (z .cr))
     planes (Refused e) is q =
-        let x = rw is at (p .planes) in
-        let z = rw is at (q .planes) in (
-          plane-same _ _ _ _ _ _ _ (le-refl _) (x .luma) ∙ sym (plane-same _ _ _ _ _ _ _ (le-refl _) (z .luma)),
-          plane-same _ _ _ _ _ _ _ (le-refl _) (x .cb) ∙ sym (plane-same _ _ _ _ _ _ _ (le-refl _) (z .cb)),
-          plane-same _ _ _ _ _ _ _ (le-refl _) (x .cr) ∙ sym (plane-same _ _ _ _ _ _ _ (le-refl _) (z .cr)),
-        )
+        let x = refused-writes-nothing is p in
+        let z = refused-writes-nothing is q in
+        (x .0 ∙ sym (z .0), x .1 ∙ sym (z .1), x .2 ∙ sym (z .2))
 
 pub strides-and-buffers : StridesAndBuffers
 strides-and-buffers d ys us vs stride stride′ source y u v source′ y′ u′ v′ a a′ y₁ u₁ v₁ y₂ u₂ v₂ is is′ same p q =

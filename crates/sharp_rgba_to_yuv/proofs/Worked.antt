@@ -42,7 +42,8 @@ pub record StarredLines : Type 0 where
   -- "Fcc Full: 2458 4833 901, −1381 −2715 4096, 4096 −3452 −644"
   pub fcc : forwardTransform Full Fcc ≡ set (pos 2458) (pos 4833) (pos 901) (minus 1381) (minus 2715) (pos 4096) (pos 4096) (minus 3452) (minus 644)
   -- "Linear 65,535, all its neighbours 0: 36,863 (weight 9), 49,151 (weight 12)"
-  pub interpolation : (s : YuvSettings) (w : ℕ) (row below : Pixels) (j i : ℕ) → rows.Interpolated s w row below j i
+  pub sixteenths : rows.Sixteenths
+  pub looked-up : (s : YuvSettings) (w : ℕ) (row below : Pixels) (j i : ℕ) → rows.Interpolated s w row below j i
 
 pub starred-lines : StarredLines
 unfolding forwardTransform lumaOf cbOf crOf weigh
@@ -53,5 +54,6 @@ starred-lines = record {
   white = λ c m t w h image. flat-frame (bt601 Limited c m t) w h image 255 255 255 (inr refl) (inr refl) (inr refl);
   entries = curves.worked;
   fcc = fcc-full;
-  interpolation = rows.interpolated;
+  sixteenths = rows.sixteenths;
+  looked-up = rows.looked-up;
 }

@@ -27,8 +27,11 @@ unfoldable pub lumaRow : YuvSettings → Pixels → ℕ → ℕ
 lumaRow s row x = ofColour s (lumaOf s) (row x)
 
 -- "Chroma input is interpolated per channel over linear values, plus 8, divided by 16 rounded down, then through the gamma table."
+abbrev pub interpolated : ℕ → ℕ
+interpolated sum = (sum + 8) / 16
+
 abbrev pub corrected : YuvSettings → ℕ → ℕ
-corrected s sum = gammaEntry (s .transfer) ((sum + 8) / 16)
+corrected s sum = gammaEntry (s .transfer) (interpolated sum)
 
 abbrev pub linear : YuvSettings → ℕ → ℕ
 linear s v = linearEntry (s .transfer) v

@@ -2,17 +2,15 @@
 -- a condition in the list, so what follows the first rule that holds has none lower. Assumes nothing.
 use Prim.Native.Nat.{ℕ, _≤_, _<_}
 use mathlib.Core.Bool.{Bool, true, false, cond, and-eq-true-iff, and-false, false≢true}
-use mathlib.Core.List.{List, [], _∷_, _++_}
+use mathlib.Core.List.{List, [], _∷_}
 use mathlib.Core.Logic.{_⊎_, inl, inr}
 use mathlib.Core.Path.{_≡_, refl, sym, ap, _∙_}
 use native.Mathlib.Omega.{arith}
 use lib.Dec.{leb, eqb}
 use borrow.Author.Tests.{leb-true, eq-eqb, ne-eqb}
-use Rattle.yuv_support.specs.declared.YuvStandardMatrix.{YuvStandardMatrix}
 use Rattle.yuv_error.specs.Numbers.{Numbers}
-use Rattle.yuv_error.specs.Rules.{Rule, firstOf, sizeRules, matrixRules, bufferRules}
+use Rattle.yuv_error.specs.Rules.{Rule, firstOf}
 use Rattle.yuv_error.specs.Lowest.{conditionHolds, ofNumber, rising, IsLowest, NoneHolds, Lowest, FirstIsLowest}
-use Rattle.yuv_error.specs.declared.LentBuffer.{LentBuffer}
 
 rising-cons : (k : ℕ) (r : Rule) (rs : List Rule) → rising k (r ∷ rs) ≡ true → (k ≤ r .says .number) × (rising (r .says .number) rs ≡ true)
 rising-cons k r rs up =
@@ -95,7 +93,3 @@ only rs x c l = l .sizes ∙ ap (λ (n : ℕ). firstOf (ofNumber n rs)) (same-nu
 
 pub first-is-lowest : FirstIsLowest
 first-is-lowest rs x up = (λ e. rw e (lowest rs (cases 1 rs up)), only rs x (cases 1 rs up))
-
--- the rules of a frame stand by number, whatever they are asked of
-pub frame-rises : (w h : ℕ) (m : YuvStandardMatrix) (source y u v : LentBuffer) → rising 1 (sizeRules w h ++ matrixRules m ++ bufferRules source y u v) ≡ true
-frame-rises w h m source y u v = refl
