@@ -35,7 +35,7 @@ pub record AcceptedBuffers (source y u v : LentBuffer) : Type 0 where
 pub none-holds : (rs : List Rule) → rising 1 rs ≡ true → firstOf rs .number ≡ 0 → NoneHolds rs
 none-holds rs up e = first-is-lowest rs (firstOf rs) up .0 refl .finished .0 e
 
-neither : (a b : Bool) → a || b ≡ false → (a ≡ false) × (b ≡ false)
+pub neither : (a b : Bool) → a || b ≡ false → (a ≡ false) × (b ≡ false)
 neither true b h = absurd (true≢false h)
 neither false b h = (refl, h)
 

@@ -3,4 +3,5 @@ pub mod Numbers
 pub mod First
 pub mod Lowest
 pub mod Accepted
+pub mod Accepts
 pub mod Products

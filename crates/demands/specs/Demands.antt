@@ -1,0 +1,71 @@
+-- The three demands, one after the other. Each cites definitions alone: the promises of the calls (`FramePost`, `OpenPost`, `BandPost`, the very
+-- predicates of their `ensures`), which hold of every call whatever it is given, and the rules, rows, planes and curves that they speak of. Their
+-- proofs are `demand-1`, `demand-2` and `demand-3` of proofs/Demands.antt.
+-- Assumes nothing.
+use Prim.Native.Nat.{ℕ, _+_, _*_, _≤_, _<_}
+use mathlib.Core.Path.{_≡_}
+use mathlib.Core.List.{List}
+use mathlib.Core.Logic.{_↔_}
+use lib.Dec.{T}
+use lib.ListN.{length, getD}
+use Rattle.yuv_support.specs.Sampling.{chromaWidth, chromaHeight}
+use Rattle.yuv_error.specs.declared.YuvError.{YuvError}
+use Rattle.yuv_error.specs.declared.YuvAnswer.{YuvAnswer}
+use Rattle.yuv_error.specs.declared.YuvAnswer.the-variants.{Finished, Refused}
+use Rattle.yuv_error.specs.Numbers.{numbersOf}
+use Rattle.yuv_error.specs.Rules.{Rule}
+use Rattle.yuv_error.specs.Lowest.{Lowest}
+use Rattle.sharp_gamma.specs.declared.SharpYuvGammaTransfer.{SharpYuvGammaTransfer}
+use Rattle.sharp_gamma.specs.Fraction.{_over_}
+use Rattle.sharp_gamma.specs.Curve.{curveOf, underCurve, underInverse}
+use Rattle.sharp_gamma.specs.Entry.{linearEntry, gammaEntry}
+use Rattle.sharp_planes.specs.declared.FrameDescription.{FrameDescription}
+use Rattle.sharp_planes.specs.Image.{sourceImage, lumaAt, cbAt, crAt}
+use Rattle.sharp_rgba_to_yuv.specs.Frame.{openingRules, frameRules, FramePost}
+use Rattle.sharp_bands.specs.declared.FrameAnswer.{FrameAnswer}
+use Rattle.sharp_bands.specs.Band.{OpenPost, bandRules}
+use Rattle.sharp_bands.specs.Calls.{BandCall, Met, Untouched, OthersEqual}
+use Rattle.sharp_bands.specs.Calls as calls
+
+-- ---- 1. "The answer to every call is finished work or one numbered refusal, for all sizes, strides, buffers and settings; a refusal writes no
+-- byte."
+
+-- the answer is the lowest number whose condition holds, with that number's expected and received, or finished work where none holds; and where it
+-- is a refusal, nothing changed
+pub record Answered (rules : List Rule) (answer : YuvAnswer) (unchanged : Type 0) : Type 0 where
+  pub lowest : Lowest rules (numbersOf answer)
+  pub writes-nothing : (e : YuvError) → answer ≡ Refused e → unchanged
+
+pub record Demand1 : Type 0 where
+  pub frame : (d : FrameDescription) (stride : ℕ) (source y u v : List ℕ) (answer : YuvAnswer) (y′ u′ v′ : List ℕ) → FramePost d stride source y u v answer y′ u′ v′
+      → Answered (frameRules d stride (length source) (length y) (length u) (length v)) answer ((y′ ≡ y) × (u′ ≡ u) × (v′ ≡ v))
+  pub opening : (d : FrameDescription) (r : FrameAnswer) → OpenPost d r → Lowest (openingRules d) (numbersOf (r .answer))
+  pub band : (k : BandCall) → Met k
+      → Answered (bandRules (k .state) (k .rows) (k .stride) (length (k .source)) (length (k .y)) (length (k .u)) (length (k .v)) (length (k .carried))) (k .result .answer) (Untouched k)
+
+-- ---- 2. "For frames of 1 to 16,384 pixels a side in whole rows, with any channel order, sampling, range, transfer and accepted matrix of document
+-- 01: the planes equal those of the Rust over our stated curve tables, each table entry is the truncated H.273-shaped curve, and padding is
+-- untouched."
+
+-- every byte of the planes: those of the rows by the definition, which the Rust over these tables is run against, the others as they were
+pub record FrameBytes (d : FrameDescription) (stride : ℕ) (source y u v y′ u′ v′ : List ℕ) : Type 0 where
+  pub luma : (r x : ℕ) → r < d .height → x < d .width → getD y′ (r * d .«y_stride» + x) 0 ≡ lumaAt (d .settings) (sourceImage (d .settings) (d .width) stride source) r x
+  pub cb : (k j : ℕ) → k < chromaHeight (d .settings .sampling) (d .height) → j < chromaWidth (d .width)
+      → getD u′ (k * d .«u_stride» + j) 0 ≡ cbAt (d .settings) (d .width) (d .height) (sourceImage (d .settings) (d .width) stride source) k j
+  pub cr : (k j : ℕ) → k < chromaHeight (d .settings .sampling) (d .height) → j < chromaWidth (d .width)
+      → getD v′ (k * d .«v_stride» + j) 0 ≡ crAt (d .settings) (d .width) (d .height) (sourceImage (d .settings) (d .width) stride source) k j
+  pub y-padding : OthersEqual (d .height) (d .width) (d .«y_stride») y′ y
+  pub u-padding : OthersEqual (chromaHeight (d .settings .sampling) (d .height)) (chromaWidth (d .width)) (d .«u_stride») u′ u
+  pub v-padding : OthersEqual (chromaHeight (d .settings .sampling) (d .height)) (chromaWidth (d .width)) (d .«v_stride») v′ v
+
+pub record Demand2 : Type 0 where
+  pub planes : (d : FrameDescription) (stride : ℕ) (source y u v : List ℕ) (answer : YuvAnswer) (y′ u′ v′ : List ℕ) → FramePost d stride source y u v answer y′ u′ v′
+      → answer ≡ Finished → FrameBytes d stride source y u v y′ u′ v′
+  pub linear : (t : SharpYuvGammaTransfer) (v n : ℕ) → v < 256 → T (underCurve (curveOf t) (n over 65535) (v over 255)) ↔ n ≤ linearEntry t v
+  pub gamma : (t : SharpYuvGammaTransfer) (i k : ℕ) → i < 65536 → T (underInverse (curveOf t) (k over 255) (i over 65535)) ↔ k ≤ gammaEntry t i
+
+-- ---- 3. "For every list of band calls after a fresh opening, refused calls included, whatever their bands and buffers: .." The whole sentence stands,
+-- part by part, in sharp_bands' specs/Calls.antt.
+
+abbrev pub Demand3 : Type 0
+Demand3 = calls.Demand3

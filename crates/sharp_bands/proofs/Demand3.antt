@@ -1,0 +1,49 @@
+-- Demand 3. A frame call with the tally's rows is one of an image that begins with them, and the accepted calls kept the planes of the first
+-- n rows of every such image (Run). So the finished rows are equal, and the other bytes were kept. Assumes nothing.
+use mathlib.Core.Path.{refl}
+use mathlib.Core.List.{[]}
+use native.Mathlib.Nat.{le-refl}
+use lib.ListN.{getD}
+use Rattle.yuv_support.specs.Channels.{channelsCount}
+use Rattle.yuv_error.proofs.First.{finished-number}
+use Rattle.sharp_row.specs.Row.{pixelsOf}
+use Rattle.sharp_planes.specs.declared.FrameDescription.{FrameDescription}
+use Rattle.sharp_planes.specs.Band.{Sized}
+use Rattle.sharp_planes.proofs.Planes.{rows-equal}
+use Rattle.sharp_planes.proofs.Finished.{finished-rise, finished-none}
+use Rattle.sharp_rgba_to_yuv.specs.Frame.{openingRules}
+use Rattle.sharp_rgba_to_yuv.proofs.Accepted.{opened}
+use Rattle.sharp_bands.specs.declared.FrameAnswer.{FrameAnswer}
+use Rattle.sharp_bands.specs.Calls.{Fresh, BandCall, Tally, Left, After, Demand3}
+use Rattle.sharp_bands.proofs.Untouched.{refused-untouched}
+use Rattle.sharp_bands.proofs.SameImage.{frameImage, frame-planes, frame-whole, frame-begins, others-equal}
+use Rattle.sharp_bands.proofs.Run.{Run, of-calls}
+
+pub opening-sized : (d : FrameDescription) (opening : FrameAnswer) → Fresh d opening → Sized d
+opening-sized d opening fresh = opened d (finished-number (openingRules d) (fresh .accepted) (fresh .met .answered))
+
+left : (d : FrameDescription) → Sized d → (t : Tally) (i j : BandCall) → Run d t i j → Left d t i j
+left d sized t i j run =
+    let start = finished-none (d .settings .sampling) (d .height) (sized .height-least) in
+    let fewer = finished-rise (d .settings .sampling) (d .height) (t .n) (d .height) (run .fits .most) (le-refl _) in
+    let own = run .kept (λ r. pixelsOf (channelsCount (d .settings .channels)) (getD (t .rows) r [])) (λ r l. refl) .planes in
+    record {
+      state = run .state;
+      planes = λ f same.
+          let p = run .kept (frameImage d f) (frame-begins same) .planes in
+          let q = frame-planes same in
+          record {
+            y-rows = rows-equal refl (run .fits .most) (run .whole .y-row) (frame-whole same .y-row) (p .luma) (q .luma);
+            u-rows = rows-equal start fewer (run .whole .u-row) (frame-whole same .u-row) (p .cb) (q .cb);
+            v-rows = rows-equal start fewer (run .whole .v-row) (frame-whole same .v-row) (p .cr) (q .cr);
+          };
+      y-others = others-equal refl (own .luma);
+      u-others = others-equal start (own .cb);
+      v-others = others-equal start (own .cr);
+    }
+
+pub demand-3 : Demand3
+demand-3 d opening calls fresh met chain = (
+  of-calls d (opening .state) (fresh .met .state) (After d (opening .state)) (refl, fresh .met .state) (left d (opening-sized d opening fresh)) calls met chain,
+  refused-untouched calls met,
+)

@@ -1,0 +1,187 @@
+-- Demand 3 speaks of something. Whatever calls were accepted, there is an accepted frame call with their rows. And every frame that a frame
+-- call accepts can be handed over in two bands, cut anywhere, with refused calls before and between them.
+-- Assumes nothing.
+use Prim.Native.Nat.{ℕ, _+_, _*_, _-_, _/_, _%_, _≤_, _<_}
+use mathlib.Core.Path.{_≡_, refl, sym, _∙_}
+use mathlib.Core.Bool.{true, false}
+use mathlib.Core.List.{List, [], _∷_, map}
+use native.Mathlib.Nat.{le-refl, le-trans, mul-comm, mul-sub, mul-le-mul-left}
+use native.Mathlib.Omega.{arith}
+use lib.ListN.{length, getD, take, drop, length-take, length-drop, replicate, length-replicate}
+use lib.Seq.{ext-getD, getD-take, getD-drop}
+use Rattle.yuv_support.specs.Channels.{channelsCount}
+use Rattle.yuv_support.specs.Sampling.{chromaWidth, chromaHeight}
+use Rattle.yuv_error.specs.declared.YuvAnswer.the-variants.{Finished, Refused}
+use Rattle.yuv_error.specs.declared.YuvError.the-variants.{ZeroBaseSize}
+use Rattle.sharp_planes.specs.declared.FrameDescription.{FrameDescription}
+use Rattle.sharp_planes.specs.Image.{rowBytes, sourceImage}
+use Rattle.sharp_planes.specs.Band.{ownRows, bandImage, Sized, Given, Whole}
+use Rattle.sharp_planes.proofs.Numbers.{row-end}
+use Rattle.sharp_planes.proofs.Planes.{row-of}
+use Rattle.sharp_rgba_to_yuv.proofs.Accepted.{Lent, Accepted}
+use Rattle.sharp_bands.specs.declared.FrameState.{FrameState}
+use Rattle.sharp_bands.specs.declared.FrameAnswer.{FrameAnswer}
+use Rattle.sharp_bands.specs.Band.{stateOf, BandPost}
+use Rattle.sharp_bands.specs.Calls.{Fresh, BandCall, Met, AllMet, isAccepted, Tally, tabulate, noRows, tallyOf, none, Chained, FrameCall, SameRows}
+use Rattle.sharp_bands.proofs.Accepted.{AcceptedBand}
+use Rattle.sharp_bands.proofs.Accepts.{opening-passes, frame-passes, band-passes}
+use Rattle.sharp_bands.proofs.Post.{refused, finished}
+use Rattle.sharp_bands.proofs.Kept.{carried-few}
+use Rattle.sharp_bands.proofs.Tally.{Fits, fits-none, length-tabulate, getD-tabulate}
+use Rattle.sharp_bands.proofs.Run.{of-calls}
+use Rattle.sharp_bands.proofs.Demand3.{opening-sized}
+use Rattle.sharp_bands.proofs.Repainted.{can-paint, can-sharpen}
+
+-- ---- a frame call with the tally's rows, then zeros, and no padding
+
+-- h rows of `size` bytes, laid end to end
+abbrev laid : (size h : ℕ) → (ℕ → List ℕ) → List ℕ
+laid size h row = tabulate (size * h) (λ p. getD (row (p / size)) (p % size) 0)
+
+laid-row : (size h : ℕ) (row : ℕ → List ℕ) (r : ℕ) → r < h → length (row r) ≡ size → rowBytes size size (laid size h row) r ≡ row r
+unfolding rowBytes
+laid-row size h row r l e = ext-getD 0 _ _ (long ∙ sym e) (λ i m. byte i (omega (arith, long)))
+  where
+    inside : r * size + size ≤ size * h
+    inside = omega (arith, row-end r h size l, mul-comm size h)
+
+    long : length (take size (drop (r * size) (laid size h row))) ≡ size
+    long = simp (length-take, length-drop, length-tabulate) (omega (arith, inside))
+
+    byte : (i : ℕ) → i < size → getD (take size (drop (r * size) (laid size h row))) i 0 ≡ getD (row r) i 0
+    byte i m =
+        let w = row-of r size i (r * size + i) m refl in
+        getD-take size _ i 0 m ∙ getD-drop (r * size) (laid size h row) i 0 ∙ getD-tabulate (size * h) _ (r * size + i) 0 (omega (arith, inside)) ∙ rw (w .0, w .1)
+
+abbrev rowSize : FrameDescription → ℕ
+rowSize d = d .width * channelsCount (d .settings .channels)
+
+abbrev sourceWith : FrameDescription → Tally → List ℕ
+sourceWith d t = laid (rowSize d) (d .height) (λ r. getD (t .rows) r [])
+
+abbrev unpadded : FrameDescription → FrameDescription
+unpadded d = record { width = d .width; height = d .height; settings = d .settings; «y_stride» = d .width; «u_stride» = chromaWidth (d .width); «v_stride» = chromaWidth (d .width) }
+
+abbrev lumaZeros : FrameDescription → List ℕ
+lumaZeros d = replicate (d .width * d .height) 0
+
+abbrev chromaZeros : FrameDescription → List ℕ
+chromaZeros d = replicate (chromaWidth (d .width) * chromaHeight (d .settings .sampling) (d .height)) 0
+
+module _ (d : FrameDescription) (sized : Sized d) (t : Tally) (fits : Fits d t) where
+  lent : Lent (unpadded d) (d .height) (rowSize d) (sourceWith d t) (lumaZeros d) (chromaZeros d) (chromaZeros d)
+  lent = record {
+    source-row = le-refl (rowSize d);
+    source-size = length-tabulate (rowSize d * d .height) _;
+    planes = record { y-row = le-refl _; y-size = length-replicate _ 0; u-row = le-refl _; u-size = length-replicate _ 0; v-row = le-refl _; v-size = length-replicate _ 0 };
+  }
+
+  pub some-frame : (f : FrameCall) × SameRows d t f
+  some-frame =
+      let same : Sized (unpadded d) = record { width-least = sized .width-least; width-most = sized .width-most; height-least = sized .height-least; height-most = sized .height-most; matrix = sized .matrix } in
+      let p = can-sharpen 0 (sourceImage (d .settings) (d .width) (rowSize d) (sourceWith d t)) (lent .planes) (le-refl (d .height)) in (
+        record { frame = unpadded d; stride = rowSize d; source = sourceWith d t; y = lumaZeros d; u = chromaZeros d; v = chromaZeros d; result = Finished; y′ = p .0; u′ = p .1; v′ = p .2 },
+        record { met = record { answered = sym (frame-passes same lent); planes = p .3 }; accepted = refl; width = refl; height = refl; settings = refl; rows = λ r l. laid-row (rowSize d) (d .height) (λ r. getD (t .rows) r []) r (omega (arith, fits .most)) (fits .long r l) },
+      )
+
+-- for every list of calls that demand 3 speaks of
+pub frame-of-calls : (d : FrameDescription) (opening : FrameAnswer) (calls : List BandCall) → Fresh d opening → AllMet calls → Chained (opening .state) none calls
+    → (f : FrameCall) × SameRows d (tallyOf d noRows calls) f
+frame-of-calls d opening calls fresh met chain =
+    some-frame d (opening-sized d opening fresh) (tallyOf d noRows calls)
+    (of-calls d (opening .state) (fresh .met .state) (λ t first last. Fits d t) (fits-none d) (λ t i j run. run .fits) calls met chain)
+
+-- ---- a frame in two bands, and refused calls
+
+-- a call that is handed a forged state and no buffers
+abbrev turnedAway : FrameDescription → BandCall
+turnedAway d =
+    let s : FrameState = record { frame = record { width = 0; height = 0; settings = d .settings; «y_stride» = 0; «u_stride» = 0; «v_stride» = 0 }; done = 7 } in
+    record { state = s; rows = 0; stride = 0; source = []; y = []; u = []; v = []; carried = []; result = record { state = s; answer = Refused ZeroBaseSize }; y′ = []; u′ = []; v′ = []; carried′ = [] }
+
+turned-away-met : (d : FrameDescription) → Met (turnedAway d)
+turned-away-met d = refused (turnedAway d .state) 0 0 [] [] [] [] [] (Refused ZeroBaseSize) refl refl
+
+-- a call that is given and lent what it needs, with what it leaves
+pub record Taken (s : FrameState) (rows stride : ℕ) (source y u v carried : List ℕ) : Type 0 where
+  pub y′ : List ℕ
+  pub u′ : List ℕ
+  pub v′ : List ℕ
+  pub carried′ : List ℕ
+  pub met : BandPost s rows stride source y u v carried (record { state = stateOf (s .frame) (s .done + rows); answer = Finished }) y′ u′ v′ carried′
+
+taken : {s : FrameState} {rows stride : ℕ} {source y u v carried : List ℕ} → AcceptedBand s rows stride source y u v carried → Taken s rows stride source y u v carried
+taken {s} {rows} {stride} {source} {y} {u} {v} {carried} a =
+    let p = can-sharpen (s .done) (bandImage (s .frame .settings) (s .frame .width) (s .done) stride source carried) (a .whole) (a .given .rows-most) in
+    let few = le-trans (carried-few (s .frame .settings .sampling) (s .frame .width) (s .frame .height) (s .done + rows)) (a .given .carried-size) in
+    let c = can-paint _ (λ q. ownRows (s .frame .settings) (s .frame .width) (s .done) stride source (s .done + rows - 1) (q / 3) (q % 3)) carried few in
+    record { y′ = p .0; u′ = p .1; v′ = p .2; carried′ = c .0; met = finished s rows stride source y u v carried Finished (sym (band-passes a)) refl (p .3) (c .1) }
+
+abbrev callOf : {s : FrameState} {rows stride : ℕ} {source y u v carried : List ℕ} → Taken s rows stride source y u v carried → BandCall
+callOf {s} {rows} {stride} {source} {y} {u} {v} {carried} k =
+    record { state = s; rows = rows; stride = stride; source = source; y = y; u = u; v = v; carried = carried; result = record { state = stateOf (s .frame) (s .done + rows); answer = Finished }; y′ = k .y′; u′ = k .u′; v′ = k .v′; carried′ = k .carried′ }
+
+is-accepted : {s : FrameState} {rows stride : ℕ} {source y u v carried : List ℕ} (k : Taken s rows stride source y u v carried) → AcceptedBand s rows stride source y u v carried → isAccepted (callOf k) ≡ true
+unfolding isAccepted
+is-accepted k a = rw (band-passes a)
+
+is-refused : (d : FrameDescription) → isAccepted (turnedAway d) ≡ false
+unfolding isAccepted
+is-refused d = refl
+
+-- what demand 3 asks of a list of calls
+pub record Handed (d : FrameDescription) (calls : List BandCall) : Type 0 where
+  pub opening : FrameAnswer
+  pub fresh : Fresh d opening
+  pub met : AllMet calls
+  pub chained : Chained (opening .state) none calls
+
+-- m rows of the frame in one band, and the others in the next
+module _ {d : FrameDescription} {stride : ℕ} {source y u v : List ℕ} (a : Accepted d stride source y u v) {m : ℕ} (some : 1 ≤ m) (fewer : m < d .height) (carried : List ℕ) (long : 3 * d .width ≤ length carried) where
+  first-given : Given d 0 m stride (take (stride * m) source) carried
+  first-given = record {
+    rows-least = some;
+    rows-most = omega arith;
+    source-row = a .given .source-row;
+    source-size = simp length-take (omega (arith, a .given .source-size, mul-le-mul-left {m = m} {n = d .height} stride (omega arith)));
+    carried-size = long;
+  }
+
+  second-given : (c : List ℕ) → length c ≡ length carried → Given d (0 + m) (d .height - m) stride (drop (stride * m) source) c
+  second-given c e = record {
+    rows-least = omega arith;
+    rows-most = omega arith;
+    source-row = a .given .source-row;
+    source-size = simp length-drop (omega (arith, a .given .source-size, mul-sub stride (d .height) m));
+    carried-size = omega arith;
+  }
+
+  pub in-two-bands : (calls : List BandCall) × Handed d calls × (map isAccepted calls ≡ false ∷ true ∷ false ∷ true ∷ []) × (tallyOf d noRows calls .n ≡ d .height)
+  in-two-bands =
+      let a₁ : AcceptedBand (stateOf d 0) m stride (take (stride * m) source) y u v carried = record { sized = a .sized; given = first-given; whole = a .whole } in
+      let k₁ = taken a₁ in
+      let p = k₁ .met .planes in
+      let whole : Whole d (k₁ .y′) (k₁ .u′) (k₁ .v′) = record {
+        y-row = a .whole .y-row;
+        y-size = p .luma .size ∙ a .whole .y-size;
+        u-row = a .whole .u-row;
+        u-size = p .cb .size ∙ a .whole .u-size;
+        v-row = a .whole .v-row;
+        v-size = p .cr .size ∙ a .whole .v-size;
+      } in
+      let a₂ : AcceptedBand (stateOf d (0 + m)) (d .height - m) stride (drop (stride * m) source) (k₁ .y′) (k₁ .u′) (k₁ .v′) (k₁ .carried′) =
+      record { sized = a .sized; given = second-given (k₁ .carried′) (k₁ .met .carry .size); whole = whole } in
+      let k₂ = taken a₂ in
+      let no₁ = is-refused d in
+      let yes₁ = is-accepted k₁ a₁ in
+      let yes₂ = is-accepted k₂ a₂ in (
+        turnedAway d ∷ callOf k₁ ∷ turnedAway d ∷ callOf k₂ ∷ [],
+        record {
+          opening = record { state = stateOf d 0; answer = Finished };
+          fresh = record { met = record { answered = sym (opening-passes (a .sized)); state = refl }; accepted = refl };
+          met = (turned-away-met d, (k₁ .met, (turned-away-met d, (k₂ .met, tt))));
+          chained = rw (no₁, yes₁, yes₂) (refl, ((refl, refl, refl, refl, refl), tt));
+        },
+        rw (no₁, yes₁, yes₂),
+        rw (no₁, yes₁, yes₂) (omega arith),
+      )

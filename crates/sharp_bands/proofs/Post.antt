@@ -1,0 +1,58 @@
+-- The promise of a band call, from what its two answers give: refused, the state is the one it got and no byte moved; finished, the band's rows
+-- are in the planes and its last row is carried. And what the promise of a refused call comes to.
+-- Assumes nothing.
+use Prim.Native.Nat.{ℕ, _+_, _-_, _/_, _%_}
+use mathlib.Core.Path.{_≡_, ap, subst, _∙_}
+use mathlib.Core.List.{List}
+use native.Mathlib.Nat.{le-of-eq, add-zero}
+use native.Mathlib.Omega.{arith}
+use lib.ListN.{length}
+use Rattle.yuv_error.specs.declared.YuvError.{YuvError}
+use Rattle.yuv_error.specs.declared.YuvAnswer.{YuvAnswer}
+use Rattle.yuv_error.specs.declared.YuvAnswer.the-variants.{Finished, Refused}
+use Rattle.yuv_error.specs.Numbers.{numbersOf}
+use Rattle.yuv_error.specs.Rules.{firstOf}
+use Rattle.sharp_row.specs.Painted.{Painted}
+use Rattle.sharp_row.proofs.Painted.{painted-none, painted-same}
+use Rattle.sharp_planes.specs.Image.{finishedOf}
+use Rattle.sharp_planes.specs.Band.{ownRows, bandImage, Sharpened}
+use Rattle.sharp_planes.proofs.Planes.{plane-same}
+use Rattle.sharp_planes.proofs.Sharpened.{sharpened-none}
+use Rattle.sharp_rgba_to_yuv.specs.Frame.{taken}
+use Rattle.sharp_bands.specs.declared.FrameState.{FrameState}
+use Rattle.sharp_bands.specs.declared.FrameAnswer.{FrameAnswer}
+use Rattle.sharp_bands.specs.Band.{stateOf, bandRules, carriedBytes, BandPost}
+
+module _ (s : FrameState) (rows stride : ℕ) (source y u v carried : List ℕ) (answer : YuvAnswer)
+    (numbers : numbersOf answer ≡ firstOf (bandRules s rows stride (length source) (length y) (length u) (length v) (length carried))) where
+  pub refused : {e : YuvError} → answer ≡ Refused e → BandPost s rows stride source y u v carried (record { state = s; answer = answer }) y u v carried
+  refused is =
+      let none : taken answer rows ≡ 0 = rw is in
+      let stays : s .done ≡ s .done + taken answer rows = omega arith in
+      record {
+        answered = numbers;
+        state = ap (stateOf (s .frame)) stays;
+        planes = subst (λ (n : ℕ). Sharpened (s .frame) (s .done) n (bandImage (s .frame .settings) (s .frame .width) (s .done) stride source carried) y u v y u v) stays (sharpened-none (s .frame) (s .done) _ y u v);
+        carry = rw is (painted-none _ carried);
+      }
+
+  pub finished : {y′ u′ v′ carried′ : List ℕ} → answer ≡ Finished
+      → Sharpened (s .frame) (s .done) (s .done + rows) (bandImage (s .frame .settings) (s .frame .width) (s .done) stride source carried) y u v y′ u′ v′
+      → Painted (carriedBytes (s .frame .settings .sampling) (s .frame .width) (s .frame .height) (s .done + rows))
+      (λ q. ownRows (s .frame .settings) (s .frame .width) (s .done) stride source (s .done + rows - 1) (q / 3) (q % 3)) carried carried′
+      → BandPost s rows stride source y u v carried (record { state = stateOf (s .frame) (s .done + rows); answer = answer }) y′ u′ v′ carried′
+  finished is planes carry = record { answered = numbers; state = rw is; planes = rw is planes; carry = rw is carry }
+
+-- "A refused call returns the state unchanged.", and writes no byte
+pub refused-writes-nothing : {s : FrameState} {rows stride : ℕ} {source y u v carried : List ℕ} {r : FrameAnswer} {y′ u′ v′ carried′ : List ℕ} → ((n : ℕ) → taken (r .answer) n ≡ 0)
+    → BandPost s rows stride source y u v carried r y′ u′ v′ carried′ → (r .state ≡ s) × (y′ ≡ y) × (u′ ≡ u) × (v′ ≡ v) × (carried′ ≡ carried)
+refused-writes-nothing {s} none p =
+    let stays = add-zero (s .done) in
+    let rows = le-of-eq (ap (finishedOf (s .frame .settings .sampling) (s .frame .height)) stays) in
+    let planes = rw none at (p .planes) in (
+      (rw none at (p .state)) ∙ ap (stateOf (s .frame)) stays,
+      plane-same _ _ _ _ _ _ _ (le-of-eq stays) (planes .luma),
+      plane-same _ _ _ _ _ _ _ rows (planes .cb),
+      plane-same _ _ _ _ _ _ _ rows (planes .cr),
+      painted-same (rw none at (p .carry)),
+    )

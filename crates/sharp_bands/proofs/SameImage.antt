@@ -1,0 +1,41 @@
+-- A frame call with the tally's rows is one of an image that begins with them. A plane keeps the bytes that are not written.
+-- Assumes nothing.
+use Prim.Native.Nat.{ℕ}
+use mathlib.Core.Path.{_≡_, ap, subst, _∙_}
+use mathlib.Core.List.{List}
+use Rattle.sharp_row.specs.Row.{pixelsOf}
+use Rattle.sharp_planes.specs.declared.FrameDescription.{FrameDescription}
+use Rattle.sharp_planes.specs.Image.{Image, sourceImage}
+use Rattle.sharp_planes.specs.Plane.{PlaneIs}
+use Rattle.sharp_planes.specs.Band.{Sharpened, Whole}
+use Rattle.sharp_rgba_to_yuv.specs.Frame.{FramePost}
+use Rattle.sharp_rgba_to_yuv.specs.Same.{withStrides}
+use Rattle.sharp_rgba_to_yuv.proofs.Accepted.{accepted}
+use Rattle.sharp_bands.specs.Calls.{Tally, FrameCall, SameRows, OthersEqual}
+use Rattle.sharp_bands.proofs.Tally.{Begins}
+
+-- the opening's size and settings, the frame call's strides
+abbrev alike : FrameDescription → FrameCall → FrameDescription
+alike d f = withStrides d (f .frame .«y_stride») (f .frame .«u_stride») (f .frame .«v_stride»)
+
+abbrev pub frameImage : FrameDescription → FrameCall → Image
+frameImage d f = sourceImage (d .settings) (d .width) (f .stride) (f .source)
+
+module _ {d : FrameDescription} {t : Tally} {f : FrameCall} (same : SameRows d t f) where
+  met : FramePost (alike d f) (f .stride) (f .source) (f .y) (f .u) (f .v) (f .result) (f .y′) (f .u′) (f .v′)
+  met =
+      let is : f .frame ≡ alike d f = λ i. record { width = same .width i; height = same .height i; settings = same .settings i; «y_stride» = f .frame .«y_stride»; «u_stride» = f .frame .«u_stride»; «v_stride» = f .frame .«v_stride» } in
+      subst (λ (e : FrameDescription). FramePost e (f .stride) (f .source) (f .y) (f .u) (f .v) (f .result) (f .y′) (f .u′) (f .v′)) is (same .met)
+
+  pub frame-planes : Sharpened (alike d f) 0 (d .height) (frameImage d f) (f .y) (f .u) (f .v) (f .y′) (f .u′) (f .v′)
+  frame-planes = rw (same .accepted) at (met .planes)
+
+  pub frame-whole : Whole (alike d f) (f .y) (f .u) (f .v)
+  frame-whole = accepted (alike d f) (f .stride) (f .source) (f .y) (f .u) (f .v) (same .accepted) (met .answered) .whole
+
+  pub frame-begins : Begins d t (frameImage d f)
+  unfolding sourceImage
+  frame-begins r l = ap (pixelsOf _) (same .rows r l)
+
+pub others-equal : {from to stride n : ℕ} {f : ℕ → ℕ → ℕ} {x x′ : List ℕ} → from ≡ 0 → PlaneIs from to stride n f x x′ → OthersEqual to n stride x′ x
+others-equal start p = (p .size, λ i out. p .byte i ∙ rw (start, out))

@@ -1,0 +1,58 @@
+-- What an opening and a band call answer and leave. Document 01, "Bands", first paragraph.
+-- Assumes nothing.
+use Prim.Native.Nat.{ℕ, _+_, _*_, _-_, _/_, _%_}
+use mathlib.Core.Path.{_≡_}
+use mathlib.Core.Bool.{Bool, false, cond, not, _&&_, _||_}
+use mathlib.Core.List.{List, [], _∷_, _++_}
+use lib.Dec.{eqb, ltb}
+use lib.ListN.{length}
+use Rattle.yuv_support.specs.declared.YuvChromaSubsampling.{YuvChromaSubsampling}
+use Rattle.yuv_support.specs.declared.YuvChromaSubsampling.the-variants.{Yuv420, Yuv422}
+use Rattle.yuv_error.specs.Numbers.{numbersOf}
+use Rattle.yuv_error.specs.Rules.{Rule, rule, firstOf}
+use Rattle.sharp_row.specs.Painted.{Painted}
+use Rattle.sharp_planes.specs.declared.FrameDescription.{FrameDescription}
+use Rattle.sharp_planes.specs.Band.{ownRows, bandImage, Sharpened}
+use Rattle.sharp_rgba_to_yuv.specs.Frame.{openingRules, lentRules, taken}
+use Rattle.sharp_bands.specs.declared.FrameState.{FrameState}
+use Rattle.sharp_bands.specs.declared.FrameAnswer.{FrameAnswer}
+
+abbrev pub stateOf : FrameDescription → (done : ℕ) → FrameState
+stateOf d n = record { frame = d; done = n }
+
+-- "Opening fixes w, h, settings and plane strides, and answers 2, 3, 4."; a fresh state has 0 rows done. What a refused opening hands back is
+-- left free: it is this state too.
+pub record OpenPost (d : FrameDescription) (r : FrameAnswer) : Type 0 where
+  pub answered : numbersOf (r .answer) ≡ firstOf (openingRules d)
+  pub state : r .state ≡ stateOf d 0
+
+-- "5: a band has 0 rows, or more than remain." "Rows done at or past h means none remain.": h less the rows done is then 0
+abbrev pub rowRules : (h done rows : ℕ) → List Rule
+rowRules h done rows = rule 5 (eqb rows 0 || ltb (h - done) rows) 0 0 ∷ []
+
+-- "13: carried row shorter than 3 × w (3 × w, its length); band calls only."
+abbrev pub carriedRules : (w carried : ℕ) → List Rule
+carriedRules w carried = rule 13 (ltb carried (3 * w)) (3 * w) carried ∷ []
+
+-- "It checks 2, 3, 4 again, 5, 6 to 12 (source rows are the band's, plane rows the frame's), 13."
+abbrev pub bandRules : FrameState → (rows stride source y u v carried : ℕ) → List Rule
+bandRules s rows stride source y u v carried =
+    openingRules (s .frame) ++ rowRules (s .frame .height) (s .done) rows ++ lentRules (s .frame) rows stride source y u v ++ carriedRules (s .frame .width) carried
+
+-- "In 4:2:0 a band that ends on an even-numbered row (from 0) other than the frame's last stores the first three bytes of each pixel of that row
+-- in the carried row, pixel p (from 0) at byte 3 × p; no other byte of it is written, and in 4:2:2 none." With `end` rows done the band's last
+-- row is row end − 1.
+abbrev pub isCarried : YuvChromaSubsampling → (h end : ℕ) → Bool
+isCarried Yuv420 h end = eqb ((end - 1) % 2) 0 && not (eqb end h)
+isCarried Yuv422 h end = false
+
+abbrev pub carriedBytes : YuvChromaSubsampling → (w h end : ℕ) → ℕ
+carriedBytes s w h end = cond (isCarried s h end) (3 * w) 0
+
+-- everything of a band call: what it was given, what it handed back, and what it was lent as it left it
+pub record BandPost (s : FrameState) (rows stride : ℕ) (source y u v carried : List ℕ) (r : FrameAnswer) (y′ u′ v′ carried′ : List ℕ) : Type 0 where
+  pub answered : numbersOf (r .answer) ≡ firstOf (bandRules s rows stride (length source) (length y) (length u) (length v) (length carried))
+  pub state : r .state ≡ stateOf (s .frame) (s .done + taken (r .answer) rows)
+  pub planes : Sharpened (s .frame) (s .done) (s .done + taken (r .answer) rows) (bandImage (s .frame .settings) (s .frame .width) (s .done) stride source carried) y u v y′ u′ v′
+  pub carry : Painted (taken (r .answer) (carriedBytes (s .frame .settings .sampling) (s .frame .width) (s .frame .height) (s .done + rows)))
+      (λ q. ownRows (s .frame .settings) (s .frame .width) (s .done) stride source (s .done + rows - 1) (q / 3) (q % 3)) carried carried′
