@@ -1,0 +1,3 @@
+-- The program's request.
+pub mod Request
+pub mod Packed

@@ -1,0 +1,162 @@
+-- A request of the program: the frame that it describes, the refusals, and the bytes that answer it. Document 01, "The program".
+-- Where a request has fewer bytes than are asked of it here, 0 stands for the others: refusal 1 is first, so no answer turns on them.
+-- Assumes nothing.
+use Prim.Native.Nat.{ℕ, _+_, _*_, _-_, _/_, _%_}
+use mathlib.Core.Path.{_≡_}
+use mathlib.Core.Bool.{Bool, cond, _||_}
+use mathlib.Core.List.{List, [], _∷_, _++_}
+use lib.Dec.{ltb, leb}
+use lib.ListN.{length, getD, drop}
+use Rattle.yuv_support.specs.declared.YuvSourceChannels.{YuvSourceChannels}
+use Rattle.yuv_support.specs.declared.YuvSourceChannels.the-variants.{Rgb, Rgba, Bgra, Bgr}
+use Rattle.yuv_support.specs.declared.YuvChromaSubsampling.{YuvChromaSubsampling}
+use Rattle.yuv_support.specs.declared.YuvChromaSubsampling.the-variants.{Yuv420, Yuv422}
+use Rattle.yuv_support.specs.declared.YuvRange.{YuvRange}
+use Rattle.yuv_support.specs.declared.YuvRange.the-variants.{Limited, Full}
+use Rattle.yuv_support.specs.declared.YuvStandardMatrix.{YuvStandardMatrix}
+use Rattle.yuv_support.specs.declared.YuvStandardMatrix.the-variants.{Bt601, Bt709, Bt2020, Smpte240, «Bt470_6», Fcc}
+use Rattle.yuv_support.specs.Channels.{channelsCount}
+use Rattle.yuv_support.specs.Sampling.{chromaWidth, chromaHeight}
+use Rattle.sharp_gamma.specs.declared.SharpYuvGammaTransfer.{SharpYuvGammaTransfer}
+use Rattle.sharp_gamma.specs.declared.SharpYuvGammaTransfer.the-variants.{Srgb, Rec709, Gamma2p2, Gamma2p8}
+use Rattle.sharp_row.specs.declared.YuvSettings.{YuvSettings}
+use Rattle.sharp_row.specs.Painted.{Painted}
+use Rattle.yuv_error.specs.Numbers.{Numbers, numbers, errorNumbers}
+use Rattle.yuv_error.specs.Rules.{Rule, rule, firstOf, sizeRules, matrixRules}
+use Rattle.sharp_planes.specs.declared.FrameDescription.{FrameDescription}
+use Rattle.sharp_planes.specs.Image.{Image, sourceImage, lumaAt, cbAt, crAt}
+use Rattle.sharp_rgba_to_yuv.specs.Frame.{lentRules}
+use Rattle.frame_request.specs.declared.Response.{Response}
+use Rattle.frame_request.specs.declared.Response.the-variants.{Planes, Refused}
+
+-- ---- what a request says
+
+-- the meaning of each code, at its place: "codes for channels (0 to 3: Rgb, Rgba, Bgra, Bgr)"
+abbrev pub channelsCodes : List YuvSourceChannels
+channelsCodes = Rgb ∷ Rgba ∷ Bgra ∷ Bgr ∷ []
+
+-- "sampling (0 4:2:0, 1 4:2:2)"
+abbrev pub samplingCodes : List YuvChromaSubsampling
+samplingCodes = Yuv420 ∷ Yuv422 ∷ []
+
+-- "range (0 Limited, 1 Full)"
+abbrev pub rangeCodes : List YuvRange
+rangeCodes = Limited ∷ Full ∷ []
+
+-- "matrix (0 to 5: Bt601, Bt709, Bt2020, Smpte240, Bt470_6, Fcc)"
+abbrev pub matrixCodes : List YuvStandardMatrix
+matrixCodes = Bt601 ∷ Bt709 ∷ Bt2020 ∷ Smpte240 ∷ «Bt470_6» ∷ Fcc ∷ []
+
+-- "transfer (0 to 3: Srgb, Rec709, Gamma2p2, Gamma2p8)"
+abbrev pub transferCodes : List SharpYuvGammaTransfer
+transferCodes = Srgb ∷ Rec709 ∷ Gamma2p2 ∷ Gamma2p8 ∷ []
+
+-- "w, h (u16, low byte first)"
+abbrev pub wordAt : List ℕ → ℕ → ℕ
+wordAt input i = getD input i 0 + 256 * getD input (i + 1) 0
+
+unfoldable pub settingsOf : List ℕ → YuvSettings
+settingsOf input = record {
+  channels = getD channelsCodes (getD input 4 0) Rgb;
+  sampling = getD samplingCodes (getD input 5 0) Yuv420;
+  range = getD rangeCodes (getD input 6 0) Limited;
+  matrix = getD matrixCodes (getD input 7 0) Bt601;
+  transfer = getD transferCodes (getD input 8 0) Srgb;
+}
+
+-- the frame of a request, its planes without padding
+unfoldable pub frameOf : List ℕ → FrameDescription
+frameOf input = record {
+  width = wordAt input 0;
+  height = wordAt input 2;
+  settings = settingsOf input;
+  «y_stride» = wordAt input 0;
+  «u_stride» = chromaWidth (wordAt input 0);
+  «v_stride» = chromaWidth (wordAt input 0);
+}
+
+-- "then rows without padding"
+abbrev pub sourceStride : FrameDescription → ℕ
+sourceStride d = d .width * channelsCount (d .settings .channels)
+
+abbrev pub lumaSize : FrameDescription → ℕ
+lumaSize d = d .width * d .height
+
+abbrev pub chromaSize : FrameDescription → ℕ
+chromaSize d = chromaWidth (d .width) * chromaHeight (d .settings .sampling) (d .height)
+
+-- ---- which requests are refused
+
+-- "1: program only: header under 9 bytes, or a code byte without a meaning."
+abbrev pub unknownCode : (channels sampling range matrix transfer : ℕ) → Bool
+unknownCode channels sampling range matrix transfer =
+    leb (length channelsCodes) channels
+    || leb (length samplingCodes) sampling
+    || leb (length rangeCodes) range
+    || leb (length matrixCodes) matrix
+    || leb (length transferCodes) transfer
+
+unfoldable pub malformed : List ℕ → Bool
+malformed input =
+    ltb (length input) 9 || unknownCode (getD input 4 0) (getD input 5 0) (getD input 6 0) (getD input 7 0) (getD input 8 0)
+
+abbrev pub headerRules : List ℕ → List Rule
+headerRules input = rule 1 (malformed input) 0 0 ∷ []
+
+-- "3: .. in the program also w × h above 16,384."
+abbrev pub areaRules : (w h : ℕ) → List Rule
+areaRules w h = rule 3 (ltb 16384 (w * h)) 0 0 ∷ []
+
+-- 1, 2, 3
+abbrev pub openingRules : List ℕ → List Rule
+openingRules input = let d = frameOf input in headerRules input ++ (sizeRules (d .width) (d .height) ++ areaRules (d .width) (d .height))
+
+-- 4 and 6 to 12, of planes without padding
+abbrev pub bufferRules : List ℕ → List Rule
+bufferRules input =
+    let d = frameOf input in
+    matrixRules (d .settings .matrix) ++ lentRules d (d .height) (sourceStride d) (length (drop 9 input)) (lumaSize d) (chromaSize d) (chromaSize d)
+
+abbrev pub requestRules : List ℕ → List Rule
+requestRules input = openingRules input ++ bufferRules input
+
+-- ---- what is answered
+
+abbrev pub responseNumbers : Response → Numbers
+responseNumbers (Planes n) = numbers 0 0 0
+responseNumbers (Refused e) = errorNumbers e
+
+-- how many bytes are answered, of a frame with n bytes in its planes
+abbrev pub bytesOf : Response → ℕ → ℕ
+bytesOf (Planes k) n = n
+bytesOf (Refused e) n = 0
+
+-- how many the answer says
+abbrev pub bytesSaid : Response → ℕ
+bytesSaid (Planes k) = k
+bytesSaid (Refused e) = 0
+
+-- byte p of rows of n bytes, without padding
+abbrev pub byteIn : (ℕ → ℕ → ℕ) → (n p : ℕ) → ℕ
+byteIn rows n p = rows (p / n) (p % n)
+
+-- "Output: Y, U, V without padding": byte p
+unfoldable pub outputAt : FrameDescription → Image → (p : ℕ) → ℕ
+outputAt d image p =
+    let s = d .settings in
+    cond (ltb p (lumaSize d)) (byteIn (lumaAt s image) (d .width) p)
+    (cond (ltb p (lumaSize d + chromaSize d)) (byteIn (cbAt s (d .width) (d .height) image) (chromaWidth (d .width)) (p - lumaSize d))
+    (byteIn (crAt s (d .width) (d .height) image) (chromaWidth (d .width)) (p - (lumaSize d + chromaSize d))))
+
+abbrev pub outputSize : FrameDescription → ℕ
+outputSize d = lumaSize d + 2 * chromaSize d
+
+-- the bytes that answer a request
+abbrev pub answerAt : List ℕ → (p : ℕ) → ℕ
+answerAt input = let d = frameOf input in outputAt d (sourceImage (d .settings) (d .width) (sourceStride d) (drop 9 input))
+
+-- everything of a request: its bytes, the answer, and the output as it was left
+pub record RequestPost (input output : List ℕ) (response : Response) (output′ : List ℕ) : Type 0 where
+  pub answered : responseNumbers response ≡ firstOf (requestRules input)
+  pub said : bytesSaid response ≡ bytesOf response (outputSize (frameOf input))
+  pub written : Painted (bytesSaid response) (answerAt input) output output′

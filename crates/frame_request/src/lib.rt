@@ -1,0 +1,245 @@
+// A request of the program `frame`, from its bytes to those that answer it.
+mod codes; // codes.rt: the code bytes of a header
+
+use sharp_planes::FrameDescription;
+use sharp_row::YuvSettings;
+use yuv_error::YuvAnswer;
+use yuv_error::YuvError;
+ghost use mathlib.Core.Path.{_≡_};
+ghost use mathlib.Core.List.{_++_};
+ghost use Prim.Native.Nat.{_+_, _*_, _≤_, _<_};
+ghost use lib.ListN.{length, take, drop};
+ghost use Rattle.sharp_row.specs.Painted.{Painted};
+ghost use Rattle.yuv_error.specs.Numbers.{errorNumbers, numbersOf};
+ghost use Rattle.yuv_error.specs.Rules.{firstOf, sizeRules};
+ghost use Rattle.sharp_planes.specs.Image.{sourceImage};
+ghost use Rattle.sharp_rgba_to_yuv.specs.Frame.{frameRules, taken};
+ghost use Rattle.frame_request.specs.Request.{settingsOf, frameOf, sourceStride, lumaSize, chromaSize, headerRules, areaRules, openingRules, outputAt, outputSize, RequestPost};
+ghost use Rattle.frame_request.specs.Packed.{Packed, responseOf};
+
+// The bytes of w, h and the five codes.
+const HEADER: usize = 9;
+
+// The most pixels of a side, and of the frame, of document 01's refusal 3.
+const MOST_PIXELS: u32 = 16384;
+
+// The answer to a request: the planes, so many bytes of output, or one numbered refusal.
+pub enum Response {
+    Planes(usize),
+    Refused(YuvError),
+}
+
+// The answer of a frame call as a response, with the bytes of the planes.
+fn respond(answer: YuvAnswer, bytes: usize) -> Response
+    ensures { λ r. ⌜ r ≡ responseOf answer bytes ⌝ }
+{
+    match answer {
+        YuvAnswer::Finished => Response::Planes(bytes),
+        YuvAnswer::Refused(e) => Response::Refused(e),
+    }
+}
+
+// Document 01's number of a refusal.
+pub fn refusal_number(e: YuvError) -> u64
+    ensures { λ r. ⌜ r ≡ errorNumbers e .number ⌝ }
+{
+    match e {
+        YuvError::MalformedRequest => 1,
+        YuvError::ZeroBaseSize => 2,
+        YuvError::SizeTooLarge => 3,
+        YuvError::MatrixNotAccepted => 4,
+        YuvError::BandRowsMismatch => 5,
+        YuvError::DestinationSizeMismatch(_) => 6,
+        YuvError::MinimumStrideSizeMismatch(_) => 7,
+        YuvError::LumaPlaneMinimumSizeMismatch(_) => 8,
+        YuvError::LumaPlaneSizeMismatch(_) => 9,
+        YuvError::UPlaneMinimumSizeMismatch(_) => 10,
+        YuvError::VPlaneMinimumSizeMismatch(_) => 11,
+        YuvError::WholeRowsMismatch(_) => 12,
+        YuvError::CarriedRowSizeMismatch(_) => 13,
+    }
+}
+
+// A u16 of two bytes.
+fn word(low: u8, high: u8) -> u32
+    ensures { λ r. ⌜ r ≡ low + 256 * high ⌝ }
+{
+    low as u32 + 256 * high as u32
+}
+
+fn settings_of(input: &[u8]) -> YuvSettings
+    requires { ⌜ 9 ≤ length (now input) ⌝ }
+    ensures { λ r. ⌜ r ≡ settingsOf (now (input .entry)) ⌝ }
+{
+    YuvSettings {
+        channels: codes::channels_of(input[4]),
+        sampling: codes::sampling_of(input[5]),
+        range: codes::range_of(input[6]),
+        matrix: codes::matrix_of(input[7]),
+        transfer: codes::transfer_of(input[8]),
+    }
+}
+
+fn frame_of(input: &[u8]) -> FrameDescription
+    requires { ⌜ 9 ≤ length (now input) ⌝ }
+    ensures { λ r. ⌜ r ≡ frameOf (now (input .entry)) ⌝ }
+{
+    let width = word(input[0], input[1]);
+    let height = word(input[2], input[3]);
+    let chroma_width = yuv_support::chroma_width(width as usize) as u32;
+    let settings = settings_of(input);
+    FrameDescription {
+        width,
+        height,
+        settings,
+        y_stride: width,
+        u_stride: chroma_width,
+        v_stride: chroma_width,
+    }
+}
+
+fn check_header(input: &[u8]) -> YuvAnswer
+    ensures { λ a. ⌜ numbersOf a ≡ firstOf (headerRules (now (input .entry))) ⌝ }
+{
+    if input.len() < HEADER {
+        return YuvAnswer::Refused(YuvError::MalformedRequest);
+    }
+    if codes::has_unknown(input[4], input[5], input[6], input[7], input[8]) {
+        return YuvAnswer::Refused(YuvError::MalformedRequest);
+    }
+    YuvAnswer::Finished
+}
+
+// Refusals 2 and 3.
+fn check_size(width: u32, height: u32) -> YuvAnswer
+    ensures { λ a. ⌜ numbersOf a ≡ firstOf (sizeRules width height ++ areaRules width height) ⌝ }
+{
+    if (width == 0) | (height == 0) {
+        return YuvAnswer::Refused(YuvError::ZeroBaseSize);
+    }
+    let area = width as u64 * height as u64;
+    if (width > MOST_PIXELS) | (height > MOST_PIXELS) | (area > MOST_PIXELS as u64) {
+        return YuvAnswer::Refused(YuvError::SizeTooLarge);
+    }
+    YuvAnswer::Finished
+}
+
+// Refusals 1, 2 and 3.
+fn check_request(input: &[u8]) -> YuvAnswer
+    ensures { λ a. ⌜ numbersOf a ≡ firstOf (openingRules (now (input .entry))) ⌝ }
+{
+    let header = check_header(input);
+    match header {
+        YuvAnswer::Refused(_) => {
+            return header;
+        }
+        YuvAnswer::Finished => {}
+    }
+    let frame = frame_of(input);
+    check_size(frame.width, frame.height)
+}
+
+// The bytes of a source row.
+fn source_stride(frame: FrameDescription) -> u32
+    requires { ⌜ frame .width ≤ 16384 ⌝ }
+    ensures { λ r. ⌜ r ≡ sourceStride frame ⌝ }
+{
+    let settings = frame.settings;
+    let channels = settings.channels;
+    frame.width * channels.get_channels_count() as u32
+}
+
+// The bytes of a frame's planes without padding: of Y, and of U or V.
+struct PlaneSizes {
+    luma: usize,
+    chroma: usize,
+}
+
+fn plane_sizes(frame: FrameDescription) -> PlaneSizes
+    requires { ⌜ (frame .width ≤ 16384) × (1 ≤ frame .height) × (frame .height ≤ 16384) ⌝ }
+    ensures { λ r. ⌜ (r .luma ≡ lumaSize frame) × (r .chroma ≡ chromaSize frame) ⌝ }
+{
+    let settings = frame.settings;
+    let sampling = settings.sampling;
+    let width = frame.width as usize;
+    let height = frame.height as usize;
+    PlaneSizes {
+        luma: width * height,
+        chroma: yuv_support::chroma_width(width) * sampling.chroma_height(height),
+    }
+}
+
+// Puts `part` into the output, from byte `at` on.
+fn put(part: &[u8], output: &mut [u8], at: usize)
+    requires { ⌜ at + length (now part) ≤ length (now output) ⌝ }
+    ensures { λ _. ⌜ now (output .exit) ≡ take at (now (output .entry)) ++ (now (part .entry) ++ drop (length (now (part .entry))) (drop at (now (output .entry)))) ⌝ }
+{
+    bytes::copy(part, &mut output[at..at + part.len()]);
+}
+
+// A chroma plane of the largest frame.
+fn plane() -> [u8; 16384]
+    ensures { λ r. ⌜ 16384 ≡ length r ⌝ }
+{
+    [0; 16384]
+}
+
+// The frame call, with Y at the start of the output and U and V after it.
+fn convert_into(
+    frame: FrameDescription,
+    source: &[u8],
+    stride: u32,
+    sizes: PlaneSizes,
+    output: &mut [u8],
+) -> YuvAnswer
+    requires { ⌜ Packed frame sizes ⌝ }
+    requires { ⌜ 49152 ≤ length (now output) ⌝ }
+    ensures { λ a. ⌜ numbersOf a ≡ firstOf (frameRules frame stride (length (now (source .entry))) (lumaSize frame) (chromaSize frame) (chromaSize frame)) ⌝ }
+    ensures { λ a. ⌜ Painted (taken a (outputSize frame)) (outputAt frame (sourceImage (frame .settings) (frame .width) stride (now (source .entry)))) (now (output .entry)) (now (output .exit)) ⌝ }
+{
+    let luma = sizes.luma;
+    let chroma = sizes.chroma;
+    let mut u = plane();
+    let mut v = plane();
+    let answer = sharp_rgba_to_yuv::rgbx_to_sharp_yuv(
+        frame,
+        source,
+        stride,
+        &mut output[0..luma],
+        &mut u[0..chroma],
+        &mut v[0..chroma],
+    );
+    match answer {
+        YuvAnswer::Refused(_) => {
+            return answer;
+        }
+        YuvAnswer::Finished => {}
+    }
+    put(&u[0..chroma], output, luma);
+    put(&v[0..chroma], output, luma + chroma);
+    answer
+}
+
+// Answers a request that was not refused for its header or size.
+fn convert(input: &[u8], output: &mut [u8]) -> Response
+    requires { ⌜ firstOf (openingRules (now input)) .number ≡ 0 ⌝ }
+    requires { ⌜ 49152 ≤ length (now output) ⌝ }
+    ensures { λ r. ⌜ RequestPost (now (input .entry)) (now (output .entry)) r (now (output .exit)) ⌝ }
+{
+    let frame = frame_of(input);
+    let stride = source_stride(frame);
+    let sizes = plane_sizes(frame);
+    let answer = convert_into(frame, &input[HEADER..], stride, sizes, output);
+    respond(answer, sizes.luma + 2 * sizes.chroma)
+}
+
+// Answers a request: its planes in the first bytes of the output, or a refusal and no byte written.
+pub fn answer_request(input: &[u8], output: &mut [u8; 49152]) -> Response
+    ensures { λ r. ⌜ RequestPost (now (input .entry)) (now (output .entry)) r (now (output .exit)) ⌝ }
+{
+    let checked = check_request(input);
+    match checked {
+        YuvAnswer::Refused(e) => Response::Refused(e),
+        YuvAnswer::Finished => convert(input, output),
+    }
+}
