@@ -1,12 +1,16 @@
 //! Compares the model of document 01 with the oracle, the Rust over the exact tables, on random
 //! requests. Exit status 1 where anything differs.
 
+mod calls;
 mod check;
 mod conditions;
 mod converter;
+mod mistakes;
 mod random;
 mod request;
 mod smaller;
+mod stored;
+mod vectors;
 mod worked;
 
 use check::{CATCHING, Case, Converters, band_of, checked, frame_of, smallest};
@@ -14,11 +18,13 @@ use model::{YuvRange, YuvStandardMatrix};
 use random::Random;
 use request::{Lent, band_vector, frame_vector, program_vector};
 use std::collections::{BTreeMap, BTreeSet};
+use std::path::Path;
 use std::process::exit;
 use std::sync::atomic::Ordering;
 use std::time::Instant;
 
 const USAGE: &str = "compare [OPTION NUMBER]..
+compare --vectors ROOT | --check ROOT | --mistakes
 
   --frames N     random frame calls (40000)
   --calls N      random band calls on any state (10000)
@@ -29,7 +35,11 @@ const USAGE: &str = "compare [OPTION NUMBER]..
   --seed N       seed of all of these (1)
   --list N       print N requests of each kind with their answers, compared, and do nothing else
 
-A mismatch is printed as the smallest request found that shows it, in the form of --list.";
+A mismatch is printed as the smallest request found that shows it, in the form of --list.
+
+  --vectors ROOT   write the stored list of frame calls into the repository ROOT
+  --check ROOT     say whether the list in ROOT is what --vectors writes
+  --mistakes       for each mistake near at hand the call made for it, and how many calls catch it";
 
 /// Bytes of a request that --list still prints.
 const LONGEST_LISTED: usize = 10_000;
@@ -75,10 +85,6 @@ fn options() -> Option<Options> {
 }
 
 fn main() {
-    let Some(options) = options() else {
-        eprintln!("{USAGE}");
-        exit(2);
-    };
     // A panic in a comparison is reported with the request that brings it about.
     std::panic::set_hook(Box::new(|panic| {
         if !CATCHING.load(Ordering::Relaxed) {
@@ -86,6 +92,14 @@ fn main() {
         }
     }));
     let converters = converter::converters();
+    if let Some(result) = stored_list(&converters) {
+        println!("{}", result.as_ref().unwrap_or_else(|wrong| wrong));
+        exit(i32::from(result.is_err()));
+    }
+    let Some(options) = options() else {
+        eprintln!("{USAGE}");
+        exit(2);
+    };
     if options.list > 0 {
         list(&options, &converters);
         return;
@@ -119,6 +133,18 @@ fn main() {
         random::input(&mut Random::new(seed, 4, case), side)
     });
     println!("all equal, {:.1} s", start.elapsed().as_secs_f64());
+}
+
+/// What the options on the stored list ask for, where one is given.
+fn stored_list(converters: &Converters) -> Option<Result<String, String>> {
+    let words: Vec<String> = std::env::args().skip(1).collect();
+    let words: Vec<&str> = words.iter().map(String::as_str).collect();
+    match words[..] {
+        ["--vectors", root] => Some(vectors::write(Path::new(root), converters)),
+        ["--check", root] => Some(vectors::check(Path::new(root), converters)),
+        ["--mistakes"] => Some(vectors::report(converters)),
+        _ => None,
+    }
 }
 
 fn compare<C: Case>(kind: &str, cases: u64, converters: &Converters, make: impl Fn(u64) -> C) {

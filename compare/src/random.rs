@@ -150,7 +150,7 @@ fn padding(random: &mut Random) -> u32 {
 }
 
 /// Source bytes of several kinds: extremes, near each other, one colour, a slope, noise.
-fn source_bytes(random: &mut Random, length: usize) -> Vec<u8> {
+pub fn source_bytes(random: &mut Random, length: usize) -> Vec<u8> {
     let base = random.next() as u8;
     let colour = random.bytes(3);
     let step = random.from(1, 7);

@@ -63,7 +63,7 @@ pub fn check(converters: &Converters) -> Result<u64, Vec<String>> {
 }
 
 /// An accepted frame without padding. `colour` gives r, g, b by row and column.
-fn painted(
+pub fn painted(
     w: u32,
     h: u32,
     settings: Settings,
@@ -94,7 +94,7 @@ fn painted(
     }
 }
 
-fn bt601(range: YuvRange) -> Settings {
+pub fn bt601(range: YuvRange) -> Settings {
     Settings {
         channels: YuvSourceChannels::Rgb,
         sampling: YuvChromaSubsampling::Yuv420,

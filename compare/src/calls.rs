@@ -1,0 +1,573 @@
+//! The frame calls of the stored list, from fixed seeds.
+
+use crate::mistakes::{MISTAKES, Mistake, convert};
+use crate::random::{self, Random};
+use crate::request::{FrameRequest, frame_text, shapes};
+use crate::stored::repeated;
+use crate::worked::{bt601, painted};
+use model::settings::{channels_of, matrix_of, range_of, sampling_of, transfer_of};
+use model::{
+    Frame, Settings, SharpYuvGammaTransfer, YuvChromaSubsampling, YuvRange, YuvSourceChannels,
+    YuvStandardMatrix,
+};
+use std::collections::BTreeSet;
+
+const SEED: u64 = 1;
+
+/// A frame call and what it stands in the list for.
+pub struct Call {
+    pub group: &'static str,
+    pub why: String,
+    pub request: FrameRequest,
+}
+
+fn call(why: impl Into<String>, request: FrameRequest) -> Call {
+    Call {
+        group: "",
+        why: why.into(),
+        request,
+    }
+}
+
+/// All calls, none twice.
+pub fn calls() -> Vec<Call> {
+    let groups = [
+        ("worked line", worked_lines()),
+        ("mistake", mistakes()),
+        ("sides", sides()),
+        ("Custom limit", custom_limits()),
+        ("boundary", boundaries()),
+        ("long stride", long_strides()),
+        ("two conditions", two_conditions()),
+        ("settings", all_settings()),
+        ("Custom pair", custom_pairs()),
+        ("large", large()),
+        ("ramp", ramps()),
+    ];
+    let mut seen = BTreeSet::new();
+    let mut calls = Vec::new();
+    for (group, list) in groups {
+        for call in list {
+            if seen.insert(frame_text(&call.request)) {
+                calls.push(Call { group, ..call });
+            }
+        }
+    }
+    calls
+}
+
+/// An accepted frame with rows this much longer than they must be, planes full of a pattern, and
+/// a source of one of the kinds that the random requests have.
+fn frame(
+    random: &mut Random,
+    w: u32,
+    h: u32,
+    settings: Settings,
+    padding: [u32; 4],
+) -> FrameRequest {
+    let shapes = shapes(w, h, h, &settings);
+    let strides = [0, 1, 2, 3].map(|i| shapes[i].row as u32 + padding[i]);
+    let length = |i: usize| strides[i] as usize * shapes[i].rows as usize;
+    let source = random::source_bytes(random, length(0));
+    let planes = [1, 2, 3].map(|i| repeated(&random.bytes(7), length(i)));
+    let [y, u, v] = planes;
+    FrameRequest {
+        frame: Frame {
+            w,
+            h,
+            settings,
+            source_stride: strides[0],
+            y_stride: strides[1],
+            u_stride: strides[2],
+            v_stride: strides[3],
+        },
+        lent: [source, y, u, v],
+    }
+}
+
+fn some_settings(random: &mut Random) -> Settings {
+    let mut below = |count| random.below(count) as u8;
+    let codes = [below(4), below(2), below(2), below(6), below(4)];
+    settings_of(codes).expect("codes with a meaning")
+}
+
+/// By the program's codes. None: one has no meaning.
+fn settings_of([channels, sampling, range, matrix, transfer]: [u8; 5]) -> Option<Settings> {
+    Some(Settings {
+        channels: channels_of(channels)?,
+        sampling: sampling_of(sampling)?,
+        range: range_of(range)?,
+        matrix: matrix_of(matrix)?,
+        transfer: transfer_of(transfer)?,
+    })
+}
+
+fn some_padding(random: &mut Random) -> [u32; 4] {
+    [(); 4].map(|()| {
+        if random.one_in(3) {
+            0
+        } else {
+            random.from(1, 5)
+        }
+    })
+}
+
+/// Document 01, "Frames and entries worked out": those that are frames.
+fn worked_lines() -> Vec<Call> {
+    use YuvChromaSubsampling::{Yuv420, Yuv422};
+    let with = |sampling, range| Settings {
+        sampling,
+        ..bt601(range)
+    };
+    let red = |_, _| [255, 0, 0];
+    let first_red = |row, column| [255 * u8::from(row + column == 0), 0, 0];
+    let limited = with(Yuv420, YuvRange::Limited);
+    let mut calls = vec![
+        call("red", painted(1, 1, with(Yuv420, YuvRange::Full), red)),
+        call("red", painted(1, 1, with(Yuv422, YuvRange::Full), red)),
+        call(
+            "green",
+            painted(1, 1, with(Yuv422, YuvRange::Limited), |_, _| [0, 255, 0]),
+        ),
+        call("black", painted(4, 5, limited, |_, _| [0; 3])),
+        call("white", painted(3, 3, limited, |_, _| [255; 3])),
+        call(
+            "black and white",
+            painted(4, 4, limited, |r, p| [255 * ((r / 2 + p / 2) % 2) as u8; 3]),
+        ),
+    ];
+    for (why, sampling, w, h) in [
+        ("weight 9: 36,863", Yuv420, 2, 2),
+        ("weight 12: 49,151", Yuv420, 1, 2),
+        ("weight 12: 49,151", Yuv422, 2, 1),
+    ] {
+        let settings = with(sampling, YuvRange::Full);
+        calls.push(call(why, painted(w, h, settings, first_red)));
+    }
+    for (why, length) in [
+        ("Y one byte under its minimum", 6),
+        ("Y at its minimum, short of its last padding", 7),
+    ] {
+        let mut request = painted(2, 2, with(Yuv420, YuvRange::Full), |_, _| [1, 2, 3]);
+        request.frame.y_stride = 5;
+        request.lent[1].resize(length, 7);
+        calls.push(call(why, request));
+    }
+    calls
+}
+
+/// For each mistake a frame that it converts otherwise, of one pixel where that is enough. "Rounding
+/// curve entries, so 10 survives": the first is a red of 10.
+fn mistakes() -> Vec<Call> {
+    let ten = painted(1, 1, bt601(YuvRange::Full), |_, _| [10, 0, 0]);
+    let one = |(mistake, name): (Mistake, &str), kind: u64| {
+        let ten = (mistake == Mistake::BothRounded).then(|| ten.clone());
+        let found = (0..).map(|case| {
+            let mut random = Random::new(SEED, kind, case);
+            let mut settings = some_settings(&mut random);
+            let mut side = 1;
+            match mistake {
+                Mistake::ChromaHalf | Mistake::OddPixelThroughTables => {
+                    settings.sampling = YuvChromaSubsampling::Yuv422;
+                }
+                Mistake::SumOf8192(_) => {
+                    settings.range = YuvRange::Full;
+                    settings.matrix = YuvStandardMatrix::Smpte240;
+                }
+                Mistake::EqualWeights => {
+                    settings.sampling = YuvChromaSubsampling::Yuv420;
+                    side = 2;
+                }
+                Mistake::HalvesToEven => {
+                    let mut half = || (4 * random.from(0, 2_047) + 1) as f32 / 16_384.0;
+                    settings.range = YuvRange::Full;
+                    settings.matrix = YuvStandardMatrix::Custom(half(), half());
+                }
+                _ => settings.sampling = YuvChromaSubsampling::Yuv420,
+            }
+            frame(&mut random, side, side, settings, [0; 4])
+        });
+        let caught =
+            |request: &FrameRequest| convert(mistake, request) != convert(Mistake::None, request);
+        let request = ten.into_iter().chain(found).find(caught);
+        call(name, request.expect("a frame that catches it"))
+    };
+    MISTAKES
+        .into_iter()
+        .zip(100..)
+        .map(|(mistake, kind)| one(mistake, kind))
+        .collect()
+}
+
+/// 2 and 3: sides around 0 and 16,384, with all else as it must be.
+fn sides() -> Vec<Call> {
+    use YuvChromaSubsampling::{Yuv420, Yuv422};
+    use YuvSourceChannels::{Bgra, Rgb};
+    let mut calls = Vec::new();
+    for (w, h, channels, sampling) in [
+        (0, 1, Rgb, Yuv420),
+        (1, 0, Rgb, Yuv420),
+        (0, 0, Rgb, Yuv420),
+        (0, 16_385, Rgb, Yuv420),
+        (16_385, 0, Rgb, Yuv420),
+        (16_383, 1, Rgb, Yuv420),
+        (16_384, 1, Rgb, Yuv420),
+        (16_385, 1, Rgb, Yuv420),
+        (1, 16_383, Rgb, Yuv420),
+        (1, 16_384, Rgb, Yuv420),
+        (1, 16_385, Rgb, Yuv420),
+        (16_383, 1, Bgra, Yuv422),
+        (16_384, 1, Bgra, Yuv422),
+        (1, 16_383, Bgra, Yuv422),
+        (1, 16_384, Bgra, Yuv422),
+        (16_385, 16_385, Rgb, Yuv420),
+        (u32::MAX, 1, Rgb, Yuv420),
+        (1, u32::MAX, Rgb, Yuv420),
+    ] {
+        let settings = Settings {
+            channels,
+            sampling,
+            ..bt601(YuvRange::Full)
+        };
+        let mut request = painted(1, 1, settings, |_, _| [0; 3]);
+        (request.frame.w, request.frame.h) = (w, h);
+        if u64::from(w) * u64::from(h) <= 16_385 {
+            let shapes = request.shapes();
+            request.set_strides(shapes.map(|shape| shape.row as u32));
+            // Red where both sides are odd, so that the last chroma byte is as all others and the
+            // planes are stored short.
+            let pixels = match (w % 2 + h % 2, channels) {
+                (2, Rgb) => vec![255, 0, 0],
+                (2, _) => vec![0, 0, 255, 9],
+                _ => Random::new(SEED, 200, u64::from(w ^ h)).bytes(12 * 3),
+            };
+            for (i, block) in [&pixels[..], &[1, 2, 3], &[4, 5], &[6]]
+                .into_iter()
+                .enumerate()
+            {
+                request.lent[i] = repeated(block, (shapes[i].row * shapes[i].rows) as usize);
+            }
+        }
+        calls.push(call(format!("{w} and {h}"), request));
+    }
+    calls
+}
+
+/// 4: kr and kb around 0 and 0.5, and what is no number.
+fn custom_limits() -> Vec<Call> {
+    let least = f32::from_bits(1);
+    let mut calls = Vec::new();
+    for k in [
+        -least,
+        -0.0,
+        0.0,
+        least,
+        0.5f32.next_down(),
+        0.5,
+        0.5f32.next_up(),
+        f32::NAN,
+        -f32::NAN,
+        f32::from_bits(0x7f80_0001),
+        f32::INFINITY,
+        f32::NEG_INFINITY,
+        1.0,
+        -0.25,
+    ] {
+        for (kr, kb) in [(k, 0.125), (0.125, k)] {
+            let mut random = Random::new(SEED, 300, u64::from(k.to_bits()));
+            let settings = Settings {
+                matrix: YuvStandardMatrix::Custom(kr, kb),
+                ..some_settings(&mut random)
+            };
+            calls.push(call(
+                format!("{k:?}"),
+                frame(&mut random, 3, 2, settings, [0; 4]),
+            ));
+        }
+    }
+    calls
+}
+
+const BUFFERS: [&str; 4] = ["source", "Y", "U", "V"];
+
+/// The request with another stride and length of one buffer.
+fn with_buffer(request: &FrameRequest, i: usize, stride: u32, length: u64) -> FrameRequest {
+    let mut changed = request.clone();
+    let mut strides = request.strides();
+    strides[i] = stride;
+    changed.set_strides(strides);
+    changed.lent[i] = repeated(&request.lent[i], length as usize);
+    changed
+}
+
+/// The least length that holds all rows, and that of whole rows.
+fn lengths(request: &FrameRequest, i: usize, stride: u32) -> (u64, u64) {
+    let shape = request.shapes()[i];
+    let stride = u64::from(stride);
+    (stride * (shape.rows - 1) + shape.row, stride * shape.rows)
+}
+
+/// 6 to 12: lengths and strides of each buffer around those that decide.
+fn boundaries() -> Vec<Call> {
+    use YuvChromaSubsampling::{Yuv420, Yuv422};
+    let mut calls = Vec::new();
+    for (case, (w, h, channels, sampling, padding)) in [
+        (5, 3, YuvSourceChannels::Rgb, Yuv420, [2, 3, 1, 4]),
+        (4, 2, YuvSourceChannels::Bgra, Yuv422, [1, 2, 3, 2]),
+        (2, 1, YuvSourceChannels::Bgr, Yuv420, [0; 4]),
+    ]
+    .into_iter()
+    .enumerate()
+    {
+        let mut random = Random::new(SEED, 400, case as u64);
+        let settings = Settings {
+            channels,
+            sampling,
+            ..some_settings(&mut random)
+        };
+        let base = frame(&mut random, w, h, settings, padding);
+        for i in 0..4 {
+            let row = base.shapes()[i].row as u32;
+            let stride = base.strides()[i];
+            let (least, whole) = lengths(&base, i, stride);
+            let mut changes: Vec<(String, u32, u64)> = [
+                ("none", 0),
+                ("one under the least", least - 1),
+                ("the least", least),
+                ("one above the least", least + 1),
+                ("one under whole rows", whole - 1),
+                ("whole rows", whole),
+                ("one above whole rows", whole + 1),
+                ("a row too many", whole + u64::from(stride)),
+            ]
+            .map(|(length, bytes)| (format!("length {length}"), stride, bytes))
+            .into();
+            for (text, stride) in [
+                ("one under the row", row - 1),
+                ("the row", row),
+                ("one above the row", row + 1),
+                ("0", 0),
+            ] {
+                let (least, whole) = lengths(&base, i, stride);
+                changes.push((format!("stride {text}, whole rows"), stride, whole));
+                changes.push((format!("stride {text}, the least"), stride, least));
+            }
+            changes.push(("stride the longest".to_string(), u32::MAX, whole));
+            for (text, stride, length) in changes {
+                let request = with_buffer(&base, i, stride, length);
+                calls.push(call(format!("{} {text}", BUFFERS[i]), request));
+            }
+        }
+    }
+    calls
+}
+
+/// The longest stride in a frame of 16,384 rows: the products that need 64 bits.
+fn long_strides() -> Vec<Call> {
+    let mut calls = Vec::new();
+    for sampling in [YuvChromaSubsampling::Yuv420, YuvChromaSubsampling::Yuv422] {
+        let settings = Settings {
+            sampling,
+            ..bt601(YuvRange::Full)
+        };
+        let base = painted(1, 16_384, settings, |_, _| [9, 8, 7]);
+        for i in 0..4 {
+            let request = with_buffer(&base, i, u32::MAX, base.lent[i].len() as u64);
+            calls.push(call(BUFFERS[i], request));
+        }
+    }
+    calls
+}
+
+/// The conditions of a frame call, those that hold of a buffer once for each way.
+const CONDITIONS: [&str; 15] = [
+    "2",
+    "3",
+    "4",
+    "6",
+    "7",
+    "8",
+    "9",
+    "10 stride",
+    "10 length",
+    "11 stride",
+    "11 length",
+    "12 source",
+    "12 Y",
+    "12 U",
+    "12 V",
+];
+
+/// The request changed so that a condition holds.
+fn with_condition(request: &FrameRequest, condition: &str) -> FrameRequest {
+    let narrow = |i: usize| {
+        let row = request.shapes()[i].row as u32;
+        with_buffer(request, i, row - 1, request.lent[i].len() as u64)
+    };
+    let short = |i: usize| {
+        let stride = request.strides()[i];
+        let (least, _) = lengths(request, i, stride);
+        with_buffer(request, i, stride, least - 1)
+    };
+    let long = |i: usize| {
+        let stride = request.strides()[i];
+        with_buffer(request, i, stride, request.lent[i].len() as u64 + 1)
+    };
+    let mut changed = request.clone();
+    match condition {
+        "2" => changed.frame.w = 0,
+        "3" => changed.frame.h = 16_385,
+        "4" => changed.frame.settings.matrix = YuvStandardMatrix::Custom(0.3, f32::NAN),
+        "6" => changed = short(0),
+        "7" => changed = narrow(0),
+        "8" => changed = narrow(1),
+        "9" => changed = short(1),
+        "10 stride" => changed = narrow(2),
+        "10 length" => changed = short(2),
+        "11 stride" => changed = narrow(3),
+        "11 length" => changed = short(3),
+        "12 source" => changed = long(0),
+        "12 Y" => changed = long(1),
+        "12 U" => changed = long(2),
+        _ => changed = long(3),
+    }
+    changed
+}
+
+/// Two conditions at once, of which the lower number is answered. The lower is made to hold last:
+/// 2, 3 and 4 leave the buffers as they are.
+fn two_conditions() -> Vec<Call> {
+    let mut calls = Vec::new();
+    for (higher, second) in CONDITIONS.into_iter().enumerate() {
+        for first in &CONDITIONS[..higher] {
+            let mut random = Random::new(SEED, 500, calls.len() as u64);
+            let settings = some_settings(&mut random);
+            let base = frame(&mut random, 3, 3, settings, [1, 2, 3, 4]);
+            let request = with_condition(&with_condition(&base, second), first);
+            calls.push(call(format!("{first} and {second}"), request));
+        }
+    }
+    calls
+}
+
+/// Every combination of the settings, Custom as one matrix, with sides from 1 to 40.
+fn all_settings() -> Vec<Call> {
+    let mut calls = Vec::new();
+    for case in 0..4 * 2 * 2 * 7 * 4 {
+        let mut random = Random::new(SEED, 600, case);
+        let mut rest = case;
+        let mut below = |count: u64| {
+            let code = rest % count;
+            rest /= count;
+            code as u8
+        };
+        let [channels, sampling, range] = [below(4), below(2), below(2)];
+        let [matrix, transfer] = [below(7), below(4)];
+        let codes = [channels, sampling, range, matrix % 6, transfer];
+        let mut settings = settings_of(codes).expect("codes with a meaning");
+        if matrix == 6 {
+            let (kr, kb) = random::accepted_pair(&mut random);
+            settings.matrix = YuvStandardMatrix::Custom(kr, kb);
+        }
+        let long = random.from(1, 40);
+        let short = random.from(1, (80 / long).clamp(1, 40));
+        let (w, h) = random.pick(&[(long, short), (short, long)]);
+        let padding = some_padding(&mut random);
+        calls.push(call("", frame(&mut random, w, h, settings, padding)));
+    }
+    calls
+}
+
+/// Pairs whose weights are exact halves before rounding, extremes, and the pairs of named matrices
+/// as Custom, in both ranges; then pairs near halves.
+fn custom_pairs() -> Vec<Call> {
+    let half = |n: u16| f32::from(n) / 16_384.0;
+    let mut calls = Vec::new();
+    for (case, (kr, kb)) in [
+        (half(2), 0.0),
+        (half(1), 0.0),
+        (0.0, half(2)),
+        (0.0, half(1)),
+        (half(1), half(1)),
+        (half(4_897), half(1_869)),
+        (half(3_481), half(1_183)),
+        (half(8_191), half(8_191)),
+        (0.0, 0.0),
+        (-0.0, -0.0),
+        (0.5, 0.0),
+        (0.0, 0.5),
+        (0.5, 0.5),
+        (0.299, 0.114),
+        (0.2126, 0.0722),
+        (0.30, 0.11),
+    ]
+    .into_iter()
+    .enumerate()
+    {
+        for range in [YuvRange::Limited, YuvRange::Full] {
+            let mut random = Random::new(SEED, 700, case as u64);
+            let settings = Settings {
+                range,
+                matrix: YuvStandardMatrix::Custom(kr, kb),
+                ..some_settings(&mut random)
+            };
+            let padding = some_padding(&mut random);
+            calls.push(call("", frame(&mut random, 7, 4, settings, padding)));
+        }
+    }
+    for case in 0..24 {
+        let mut random = Random::new(SEED, 800, case);
+        let (kr, kb) = random::accepted_pair(&mut random);
+        let settings = Settings {
+            matrix: YuvStandardMatrix::Custom(kr, kb),
+            ..some_settings(&mut random)
+        };
+        let (w, h) = (random.from(1, 8), random.from(1, 8));
+        let padding = some_padding(&mut random);
+        calls.push(call("", frame(&mut random, w, h, settings, padding)));
+    }
+    calls
+}
+
+/// Both sides near 40.
+fn large() -> Vec<Call> {
+    use SharpYuvGammaTransfer::*;
+    use YuvChromaSubsampling::{Yuv420, Yuv422};
+    use YuvSourceChannels::*;
+    let mut calls = Vec::new();
+    for (case, (w, h, channels, sampling, transfer)) in [
+        (40, 40, Rgba, Yuv420, Srgb),
+        (39, 39, Bgr, Yuv420, Gamma2p2),
+        (39, 40, Rgb, Yuv422, Rec709),
+        (40, 39, Bgra, Yuv422, Gamma2p8),
+    ]
+    .into_iter()
+    .enumerate()
+    {
+        let mut random = Random::new(SEED, 900, case as u64);
+        let settings = Settings {
+            channels,
+            sampling,
+            transfer,
+            ..some_settings(&mut random)
+        };
+        calls.push(call("", frame(&mut random, w, h, settings, [3, 2, 1, 5])));
+    }
+    calls
+}
+
+/// Every byte through both tables of a transfer: rows of two equal pixels, red from 0 to 255, once
+/// with blue 0 and once with a blue that moves V by a half, so that V tells red from the next red.
+fn ramps() -> Vec<Call> {
+    let mut calls = Vec::new();
+    for transfer in [0, 1, 2, 3].map(transfer_of) {
+        let settings = Settings {
+            sampling: YuvChromaSubsampling::Yuv422,
+            transfer: transfer.expect("a code with a meaning"),
+            ..bt601(YuvRange::Full)
+        };
+        let colour = |row: u32, _| [row as u8, 0, 10 * (row / 256) as u8];
+        calls.push(call("", painted(2, 512, settings, colour)));
+    }
+    calls
+}

@@ -1,0 +1,242 @@
+//! Document 01, "Mistakes near at hand": a converter of accepted frames that can make each of
+//! them, so that a list of calls can be held to catch them. With none it converts as the model.
+
+use crate::request::{FrameRequest, Lent};
+use model::curves::tables;
+use model::matrix::{Weights, weights};
+use model::settings::{chroma_width, plane_rows};
+use model::{SharpYuvGammaTransfer, YuvChromaSubsampling, YuvRange, YuvStandardMatrix};
+
+#[derive(Clone, Copy, PartialEq)]
+pub enum Mistake {
+    None,
+    LinearRounded,
+    GammaRounded,
+    BothRounded,
+    LumaHalf,
+    ChromaHalf,
+    OddPixelThroughTables,
+    EqualWeights,
+    /// The weight of this channel (r, g, b) in luma is 8,192 less the other two.
+    SumOf8192(usize),
+    HalvesToEven,
+}
+
+use Mistake::*;
+
+/// All of them in the words of document 01, a mistake that can be made in several places in each
+/// of them; and one of "The matrix".
+pub const MISTAKES: [(Mistake, &str); 11] = [
+    (BothRounded, "curve entries rounded, both tables"),
+    (LinearRounded, "curve entries rounded, linear table"),
+    (GammaRounded, "curve entries rounded, gamma table"),
+    (LumaHalf, "4,096 where 4,095 stands, luma"),
+    (ChromaHalf, "4,096 where 4,095 stands, chroma"),
+    (
+        OddPixelThroughTables,
+        "4:2:2's odd pixel through the tables",
+    ),
+    (EqualWeights, "four pixels averaged equally"),
+    (SumOf8192(0), "stored weights taken to add to 8,192, by red"),
+    (
+        SumOf8192(1),
+        "stored weights taken to add to 8,192, by green",
+    ),
+    (
+        SumOf8192(2),
+        "stored weights taken to add to 8,192, by blue",
+    ),
+    (HalvesToEven, "a Custom weight's half rounded to even"),
+];
+
+struct Rules {
+    mistake: Mistake,
+    weights: Weights,
+    range: YuvRange,
+    linear: Vec<u64>,
+    gamma: Vec<i64>,
+}
+
+/// The buffers of an accepted frame after the call of a converter with this mistake.
+pub fn convert(mistake: Mistake, request: &FrameRequest) -> Lent {
+    let f = &request.frame;
+    let settings = &f.settings;
+    let rules = Rules::new(mistake, request);
+    let (w, h) = (f.w as usize, f.h as usize);
+    let c = settings.channels.bytes() as usize;
+    let rgb = |row: usize, pixel: usize| {
+        let row = &request.source_row(row)[pixel * c..];
+        settings.channels.offsets().map(|offset| row[offset])
+    };
+    let [_, y_stride, u_stride, v_stride] = request.strides().map(|stride| stride as usize);
+    let mut lent = request.lent.clone();
+    for (r, p) in (0..h).flat_map(|r| (0..w).map(move |p| (r, p))) {
+        lent[1][r * y_stride + p] = rules.luma(rgb(r, p));
+    }
+    let (_, chroma_rows) = plane_rows(settings.sampling, f.h);
+    let (rows, columns) = (chroma_rows as usize, chroma_width(w as u64) as usize);
+    for (k, j) in (0..rows).flat_map(|k| (0..columns).map(move |j| (k, j))) {
+        let p = 2 * j;
+        let corrected = match settings.sampling {
+            YuvChromaSubsampling::Yuv420 => {
+                let (this, below) = (2 * k, (2 * k + 1).min(h - 1));
+                if p + 1 < w {
+                    let four = [
+                        rgb(this, p),
+                        rgb(this, p + 1),
+                        rgb(below, p),
+                        rgb(below, p + 1),
+                    ];
+                    rules.interpolated(rules.shares([9, 3, 3, 1], [4, 4, 4, 4]), four)
+                } else {
+                    let two = [rgb(this, p), rgb(below, p)];
+                    rules.interpolated(rules.shares([12, 4], [8, 8]), two)
+                }
+            }
+            YuvChromaSubsampling::Yuv422 if p + 1 < w => {
+                rules.interpolated([12, 4], [rgb(k, p), rgb(k, p + 1)])
+            }
+            YuvChromaSubsampling::Yuv422 if mistake == OddPixelThroughTables => {
+                rules.interpolated([16], [rgb(k, p)])
+            }
+            YuvChromaSubsampling::Yuv422 => rgb(k, p).map(i64::from),
+        };
+        lent[2][k * u_stride + j] = rules.chroma(rules.weights.cb, corrected);
+        lent[3][k * v_stride + j] = rules.chroma(rules.weights.cr, corrected);
+    }
+    lent
+}
+
+impl Rules {
+    fn new(mistake: Mistake, request: &FrameRequest) -> Rules {
+        let settings = &request.frame.settings;
+        let transfer = settings.transfer;
+        let exact = tables(transfer);
+        let mut weights = weights(settings.matrix, settings.range);
+        if let (SumOf8192(channel), true) = (mistake, full_and_stored(settings)) {
+            weights.y[channel] -= weights.y.iter().sum::<i64>() - 8_192;
+        }
+        if let (HalvesToEven, YuvStandardMatrix::Custom(kr, kb)) = (mistake, settings.matrix) {
+            weights = rounded_to_even(kr, kb, settings.range);
+        }
+        let linear = match mistake {
+            LinearRounded | BothRounded => rounded_linear(transfer),
+            _ => exact.linear.iter().copied().map(u64::from).collect(),
+        };
+        let gamma = match mistake {
+            GammaRounded | BothRounded => rounded_gamma(transfer),
+            _ => exact.gamma.iter().copied().map(i64::from).collect(),
+        };
+        Rules {
+            mistake,
+            weights,
+            range: settings.range,
+            linear,
+            gamma,
+        }
+    }
+
+    fn shares<const N: usize>(&self, right: [u64; N], equal: [u64; N]) -> [u64; N] {
+        if self.mistake == EqualWeights {
+            equal
+        } else {
+            right
+        }
+    }
+
+    fn interpolated<const N: usize>(&self, shares: [u64; N], pixels: [[u8; 3]; N]) -> [i64; 3] {
+        [0, 1, 2].map(|channel| {
+            let linear = pixels.map(|rgb| self.linear[usize::from(rgb[channel])]);
+            let sum: u64 = (0..N).map(|i| shares[i] * linear[i]).sum();
+            self.gamma[((sum + 8) / 16) as usize]
+        })
+    }
+
+    fn luma(&self, rgb: [u8; 3]) -> u8 {
+        let by = self.range.bias_y();
+        let half = if self.mistake == LumaHalf {
+            4_096
+        } else {
+            4_095
+        };
+        let value = weighted(self.weights.y, rgb.map(i64::from), by, half);
+        value.min(by + i64::from(self.range.range_y())) as u8
+    }
+
+    fn chroma(&self, triple: [i64; 3], corrected: [i64; 3]) -> u8 {
+        let by = self.range.bias_y();
+        let half = if self.mistake == ChromaHalf {
+            4_096
+        } else {
+            4_095
+        };
+        let value = weighted(triple, corrected, 128, half);
+        value.clamp(by, by + i64::from(self.range.range_uv())) as u8
+    }
+}
+
+fn weighted(triple: [i64; 3], rgb: [i64; 3], bias: i64, half: i64) -> i64 {
+    let sum: i64 = (0..3).map(|i| triple[i] * rgb[i]).sum();
+    (sum + bias * 8_192 + half).div_euclid(8_192)
+}
+
+/// Whether a stored set of the full range is taken: only there one may expect 8,192.
+fn full_and_stored(settings: &model::Settings) -> bool {
+    let stored = !matches!(
+        settings.matrix,
+        YuvStandardMatrix::Fcc | YuvStandardMatrix::Custom(..)
+    );
+    stored && settings.range == YuvRange::Full
+}
+
+/// The weights of a Custom pair, in f32 as document 01 has them, halves rounded to even.
+fn rounded_to_even(kr: f32, kb: f32, range: YuvRange) -> Weights {
+    let (range_y, range_uv) = (f32::from(range.range_y()), f32::from(range.range_uv()));
+    let kg = 1f32 - kr - kb;
+    let y = |k: f32| k * range_y / 255f32;
+    let uv = |k: f32, own: f32| -0.5f32 * k / (1f32 - own) * range_uv / 255f32;
+    let own = 0.5f32 * range_uv / 255f32;
+    let whole = |triple: [f32; 3]| triple.map(|x| (x * 8_192f32).round_ties_even() as i64);
+    Weights {
+        y: whole([y(kr), y(kg), y(kb)]),
+        cb: whole([uv(kr, kb), uv(kg, kb), own]),
+        cr: whole([own, uv(kg, kr), uv(kb, kr)]),
+    }
+}
+
+/// Document 01, "The curves": slope, break, offset, scale and power of a transfer.
+fn curve(transfer: SharpYuvGammaTransfer) -> [f64; 5] {
+    match transfer {
+        SharpYuvGammaTransfer::Srgb => [12.92, 0.0030412825, 0.055010717, 1.0550107, 2.4],
+        SharpYuvGammaTransfer::Rec709 => [4.5, 0.01805397, 0.09929682, 1.0992968, 20.0 / 9.0],
+        SharpYuvGammaTransfer::Gamma2p2 => [1.0, 0.0, 0.0, 1.0, 2.2],
+        SharpYuvGammaTransfer::Gamma2p8 => [1.0, 0.0, 0.0, 1.0, 2.8],
+    }
+}
+
+/// The nearest whole number, where the rule takes the largest that is not above.
+fn rounded_linear(transfer: SharpYuvGammaTransfer) -> Vec<u64> {
+    let [slope, break_at, offset, scale, power] = curve(transfer);
+    let linearize = |x: f64| {
+        if x < slope * break_at {
+            x / slope
+        } else {
+            ((x + offset) / scale).powf(power)
+        }
+    };
+    let entry = |v: u32| (linearize(f64::from(v) / 255.0) * 65_535.0).round();
+    (0..=255).map(|v| entry(v).min(65_535.0) as u64).collect()
+}
+
+fn rounded_gamma(transfer: SharpYuvGammaTransfer) -> Vec<i64> {
+    let [slope, break_at, offset, scale, power] = curve(transfer);
+    let gamma = |x: f64| {
+        if x < break_at {
+            x * slope
+        } else {
+            scale * x.powf(1.0 / power) - offset
+        }
+    };
+    let entry = |i: u32| (gamma(f64::from(i) / 65_535.0) * 255.0).round();
+    (0..=65_535).map(|i| entry(i).min(255.0) as i64).collect()
+}

@@ -1,0 +1,2 @@
+-- What the replay says of a call.
+pub mod Verdict
