@@ -24,6 +24,11 @@ pub trait Case: Clone {
     fn combination(&self) -> Option<String> {
         None
     }
+
+    /// Width and height.
+    fn size(&self) -> Option<(u32, u32)> {
+        None
+    }
 }
 
 /// Whether panics are being caught, and so need not be printed as they happen.
@@ -152,6 +157,10 @@ impl Case for FrameRequest {
 
     fn combination(&self) -> Option<String> {
         Some(frame_combination(&self.frame))
+    }
+
+    fn size(&self) -> Option<(u32, u32)> {
+        Some((self.frame.w, self.frame.h))
     }
 }
 
@@ -333,6 +342,10 @@ impl Case for Run {
 
     fn combination(&self) -> Option<String> {
         Some(frame_combination(&self.request.frame))
+    }
+
+    fn size(&self) -> Option<(u32, u32)> {
+        self.request.size()
     }
 }
 

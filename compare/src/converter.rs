@@ -1,4 +1,4 @@
-//! What is compared: the model, the oracle, and what may join them.
+//! What is compared: the model, the oracle, and the library that users link.
 
 use crate::request::BandRequest;
 use model::{Answer, Frame, FrameState, Refusal, Settings};
@@ -46,7 +46,12 @@ pub trait Converter {
 /// The model stands first and the oracle second: frames of all others are held to the model's,
 /// bands of all, the model's too, to the oracle's frames.
 pub fn converters() -> Vec<Box<dyn Converter>> {
-    vec![Box::new(Model), Box::new(Oracle)]
+    vec![
+        Box::new(Model),
+        Box::new(Oracle),
+        #[cfg(library)]
+        Box::new(crate::library::Library),
+    ]
 }
 
 struct Model;

@@ -1,13 +1,17 @@
-//! Compares the model of document 01 with the oracle, the Rust over the exact tables, on random
-//! requests. Exit status 1 where anything differs.
+//! Compares the model of document 01, the oracle, which is the Rust over the exact tables, and the
+//! linked library on random requests. Exit status 1 where anything differs.
 
+mod bands;
 mod calls;
 mod check;
 mod conditions;
 mod converter;
+#[cfg(library)]
+mod library;
 mod mistakes;
 mod random;
 mod request;
+mod sequences;
 mod smaller;
 mod stored;
 mod vectors;
@@ -23,22 +27,23 @@ use std::process::exit;
 use std::sync::atomic::Ordering;
 use std::time::Instant;
 
-const USAGE: &str = "compare [OPTION NUMBER]..
+const USAGE: &str = "compare [--quick] [OPTION NUMBER]..
 compare --vectors ROOT | --check ROOT | --mistakes
 
-  --frames N     random frame calls (40000)
-  --calls N      random band calls on any state (10000)
-  --runs N       frames cut into bands, with refused calls between them (5000)
-  --programs N   inputs of the program (5000)
-  --pairs N      Custom pairs whose nine weights are compared (200000)
-  --side N       sizes to N by N (40); some are 1,920 by 1,080, some up to 16,384 long and thin
+  --quick        a tenth of each number below, for a first look
+  --frames N     random frame calls (200000)
+  --calls N      random band calls on any state (60000)
+  --runs N       frames cut into bands, with refused calls between them (40000)
+  --programs N   inputs of the program (20000)
+  --pairs N      Custom pairs whose nine weights are compared (1000000)
+  --side N       sizes to N by N (64); some are 1,920 by 1,080, some up to 16,384 long and thin
   --seed N       seed of all of these (1)
   --list N       print N requests of each kind with their answers, compared, and do nothing else
 
 A mismatch is printed as the smallest request found that shows it, in the form of --list.
 
-  --vectors ROOT   write the stored list of frame calls into the repository ROOT
-  --check ROOT     say whether the list in ROOT is what --vectors writes
+  --vectors ROOT   write the stored lists of frame calls and band sequences into the repository ROOT
+  --check ROOT     say whether the lists in ROOT are what --vectors writes
   --mistakes       for each mistake near at hand the call made for it, and how many calls catch it";
 
 /// Bytes of a request that --list still prints.
@@ -57,18 +62,26 @@ struct Options {
 
 fn options() -> Option<Options> {
     let mut options = Options {
-        frames: 40_000,
-        calls: 10_000,
-        runs: 5_000,
-        programs: 5_000,
-        pairs: 200_000,
-        side: 40,
+        frames: 200_000,
+        calls: 60_000,
+        runs: 40_000,
+        programs: 20_000,
+        pairs: 1_000_000,
+        side: 64,
         seed: 1,
         list: 0,
     };
     let mut words = std::env::args().skip(1);
     while let Some(word) = words.next() {
         let option = match word.as_str() {
+            "--quick" => {
+                options.frames /= 10;
+                options.calls /= 10;
+                options.runs /= 10;
+                options.programs /= 10;
+                options.pairs /= 10;
+                continue;
+            }
             "--frames" => &mut options.frames,
             "--calls" => &mut options.calls,
             "--runs" => &mut options.runs,
@@ -135,13 +148,41 @@ fn main() {
     println!("all equal, {:.1} s", start.elapsed().as_secs_f64());
 }
 
-/// What the options on the stored list ask for, where one is given.
+type OnList = fn(&Path, &Converters) -> Result<String, String>;
+
+/// The list of frame calls and that of band sequences: what is said of both, an error before the rest.
+fn both(
+    root: &Path,
+    converters: &Converters,
+    one: OnList,
+    other: OnList,
+) -> Result<String, String> {
+    match (one(root, converters), other(root, converters)) {
+        (Ok(one), Ok(other)) => Ok([one, other].join("\n")),
+        (one, other) => {
+            let all = [one, other].map(|said| said.unwrap_or_else(|wrong| wrong));
+            Err(all.join("\n"))
+        }
+    }
+}
+
+/// What the options on the stored lists ask for, where one is given.
 fn stored_list(converters: &Converters) -> Option<Result<String, String>> {
     let words: Vec<String> = std::env::args().skip(1).collect();
     let words: Vec<&str> = words.iter().map(String::as_str).collect();
     match words[..] {
-        ["--vectors", root] => Some(vectors::write(Path::new(root), converters)),
-        ["--check", root] => Some(vectors::check(Path::new(root), converters)),
+        ["--vectors", root] => Some(both(
+            Path::new(root),
+            converters,
+            vectors::write,
+            bands::write,
+        )),
+        ["--check", root] => Some(both(
+            Path::new(root),
+            converters,
+            vectors::check,
+            bands::check,
+        )),
         ["--mistakes"] => Some(vectors::report(converters)),
         _ => None,
     }
@@ -151,12 +192,16 @@ fn compare<C: Case>(kind: &str, cases: u64, converters: &Converters, make: impl 
     let start = Instant::now();
     let mut answers: BTreeMap<u8, u64> = BTreeMap::new();
     let mut combinations = BTreeSet::new();
+    let (mut large, mut long) = (0, 0);
     for case in 0..cases {
         let request = make(case);
         match checked(&request, converters) {
             Ok(number) => {
                 *answers.entry(number).or_default() += 1;
                 combinations.extend(request.combination().filter(|_| number == 0));
+                let (w, h) = request.size().filter(|_| number == 0).unwrap_or((0, 0));
+                large += u64::from((w, h) == (1_920, 1_080));
+                long += u64::from(w.max(h) == 16_384);
             }
             Err(wrong) => {
                 println!("{kind}: case {case}: {wrong}");
@@ -169,7 +214,10 @@ fn compare<C: Case>(kind: &str, cases: u64, converters: &Converters, make: impl 
     let accepted = answers.remove(&0).unwrap_or(0);
     let mut text = format!("{kind}: {cases} equal, {accepted} accepted");
     if !combinations.is_empty() {
-        text += &format!(" ({} of 1792 combinations)", combinations.len());
+        let combinations = combinations.len();
+        text += &format!(
+            " ({combinations} of 1792 combinations, {large} of 1920 by 1080, {long} with a side of 16384)"
+        );
     }
     if !answers.is_empty() {
         let refused = answers

@@ -33,9 +33,6 @@ pub record Kept (d : FrameDescription) (image : Image) (n : ℕ) (y₀ u₀ v₀
 pub kept-none : (d : FrameDescription) (image : Image) (y u v carried : List ℕ) → Kept d image 0 y u v y u v carried
 kept-none d image y u v carried = record { planes = sharpened-none d 0 image y u v; above = λ k f l. absurd (omega arith) }
 
-pub carried-few : (s : YuvChromaSubsampling) (w h end : ℕ) → carriedBytes s w h end ≤ 3 * w
-carried-few s w h end = elim (isCarried s h end) as (λ b. cond b (3 * w) 0 ≤ 3 * w) [ true ↦ le-refl _ | false ↦ zero-le ]
-
 -- where a chroma row starts before the band's end and is not finished there, its first row is the band's last, and is carried
 carried-row : (s : YuvChromaSubsampling) (w h end k : ℕ) → end ≤ h → finishedOf s h end ≤ k → firstRow s k < end → (carriedBytes s w h end ≡ 3 * w) × (firstRow s k ≡ end - 1)
 carried-row Yuv420 w h end k most f l =
@@ -43,6 +40,9 @@ carried-row Yuv420 w h end k most f l =
     (λ less. let part = finished-some h end (λ e. omega arith) in (rw (eq-eqb ((end - 1) % 2) 0 (omega arith), ne-eqb end h (λ e. omega arith)), omega arith))
     (λ all. let whole = finished-all h end (omega arith) in absurd (omega arith))
 carried-row Yuv422 w h end k most f l = absurd (omega arith)
+
+pub carried-few : (s : YuvChromaSubsampling) (w h end : ℕ) → carriedBytes s w h end ≤ 3 * w
+carried-few s w h end = elim (isCarried s h end) as (λ b. cond b (3 * w) 0 ≤ 3 * w) [ true ↦ le-refl _ | false ↦ zero-le ]
 
 -- a band whose own rows are the image's
 module _ {d : FrameDescription} {image : Image} {n rows stride : ℕ} {source carried : List ℕ} (given : Given d n rows stride source carried)

@@ -2,10 +2,9 @@
 -- are in the planes and its last row is carried. And what the promise of a refused call comes to.
 -- Assumes nothing.
 use Prim.Native.Nat.{ℕ, _+_, _-_, _/_, _%_}
-use mathlib.Core.Path.{_≡_, ap, subst, _∙_}
+use mathlib.Core.Path.{_≡_, sym, ap, subst, _∙_}
 use mathlib.Core.List.{List}
 use native.Mathlib.Nat.{le-of-eq, add-zero}
-use native.Mathlib.Omega.{arith}
 use lib.ListN.{length}
 use Rattle.yuv_error.specs.declared.YuvError.{YuvError}
 use Rattle.yuv_error.specs.declared.YuvAnswer.{YuvAnswer}
@@ -27,13 +26,13 @@ module _ (s : FrameState) (rows stride : ℕ) (source y u v carried : List ℕ) 
     (numbers : numbersOf answer ≡ firstOf (bandRules s rows stride (length source) (length y) (length u) (length v) (length carried))) where
   pub refused : {e : YuvError} → answer ≡ Refused e → BandPost s rows stride source y u v carried (record { state = s; answer = answer }) y u v carried
   refused is =
-      let none : taken answer rows ≡ 0 = rw is in
-      let stays : s .done ≡ s .done + taken answer rows = omega arith in
+      let none : (n : ℕ) → taken answer n ≡ 0 = λ n. rw is in
+      let stays = sym (add-zero (s .done)) in
       record {
         answered = numbers;
-        state = ap (stateOf (s .frame)) stays;
-        planes = subst (λ (n : ℕ). Sharpened (s .frame) (s .done) n (bandImage (s .frame .settings) (s .frame .width) (s .done) stride source carried) y u v y u v) stays (sharpened-none (s .frame) (s .done) _ y u v);
-        carry = rw is (painted-none _ carried);
+        state = rw none (ap (stateOf (s .frame)) stays);
+        planes = rw none (subst (λ (n : ℕ). Sharpened (s .frame) (s .done) n (bandImage (s .frame .settings) (s .frame .width) (s .done) stride source carried) y u v y u v) stays (sharpened-none (s .frame) (s .done) _ y u v));
+        carry = rw none (painted-none _ carried);
       }
 
   pub finished : {y′ u′ v′ carried′ : List ℕ} → answer ≡ Finished

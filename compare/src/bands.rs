@@ -1,0 +1,370 @@
+//! The stored list of band sequences, which the crate replay_bands replays with no Rust at hand:
+//! what is answered, what the list must have, and its files.
+
+use crate::check::{Converters, band_of, checked, frame_of};
+use crate::conditions;
+use crate::request::{answer_text, band_text, state_text};
+use crate::sequences::{Held, MOST_CALLS, Sequence, sequences};
+use crate::stored::Stored;
+use model::{Answer, FrameState};
+use std::collections::{BTreeMap, BTreeSet};
+use std::fmt::Write;
+use std::path::Path;
+
+/// The longest buffer that the replaying program can hold, and the longest list that it can read.
+const LONGEST_BUFFER: usize = 4_096;
+const LONGEST_LIST: usize = 524_288;
+
+/// The model's answer to a call, and all that is held after it.
+struct After {
+    answer: Answer,
+    state: FrameState,
+    held: Held,
+}
+
+struct Answered {
+    sequence: Sequence,
+    opened: Answer,
+    after: Vec<After>,
+}
+
+fn number(answer: &Answer) -> u8 {
+    answer.map_or_else(|refusal| refusal.number, |()| 0)
+}
+
+/// Every call is compared as `compare` compares one: the model's answer is that of the list of
+/// conditions; refused, it leaves all as it was; accepted, it finishes the rows as the oracle's
+/// whole frame has them and writes nothing else but the carried row.
+fn answered(sequence: Sequence, converters: &Converters) -> Result<Answered, String> {
+    let model = &*converters[0];
+    let s = &sequence.opening;
+    let strides = [s.y_stride, s.u_stride, s.v_stride];
+    let opened = model.open(s.w, s.h, s.settings, strides);
+    let opened = opened.expect("the model has bands");
+    if opened.map(|_| ()) != conditions::of_opening(s.w, s.h, &s.settings)
+        || opened.is_ok_and(|state| state_text(&state) != state_text(s))
+    {
+        return Err(format!("the opening differs: {}", state_text(s)));
+    }
+    let mut held = sequence.held.clone();
+    let mut after = Vec::new();
+    for call in &sequence.calls {
+        let request = call.request(&held);
+        checked(&request, converters).map_err(|wrong| {
+            format!(
+                "{}, {}: {wrong}\n{}",
+                sequence.group,
+                call.why,
+                band_text(&request)
+            )
+        })?;
+        let (state, answer, left) = band_of(model, &request).expect("the model has bands");
+        let [_, y, u, v] = left.lent;
+        for (whole, part) in held.iter_mut().zip([y, u, v, left.carried]) {
+            whole[..part.len()].copy_from_slice(&part);
+        }
+        after.push(After {
+            answer,
+            state,
+            held: held.clone(),
+        });
+    }
+    let answered = Answered {
+        sequence,
+        opened: opened.map(|_| ()),
+        after,
+    };
+    answered.check_whole(converters)?;
+    Ok(answered)
+}
+
+impl Answered {
+    /// The rows done by calls that were each handed the state that the accepted call before it gave
+    /// back, the first the opening's; None: one was handed another.
+    fn done(&self) -> Option<u32> {
+        let mut state = self.opened.is_ok().then_some(self.sequence.opening)?;
+        for (call, after) in self.sequence.calls.iter().zip(&self.after) {
+            if after.answer.is_ok() {
+                if state_text(&call.state) != state_text(&state) {
+                    return None;
+                }
+                state = after.state;
+            }
+        }
+        Some(state.done)
+    }
+
+    /// A sequence that brings a whole frame leaves the planes of the oracle's frame call.
+    fn check_whole(&self, converters: &Converters) -> Result<(), String> {
+        let Some(whole) = &self.sequence.whole else {
+            return Ok(());
+        };
+        let (answer, frame) = frame_of(&*converters[1], whole);
+        let last = self.after.last().map_or(&self.sequence.held, |a| &a.held);
+        let equal = (0..3).all(|i| {
+            let length = frame.lent[i + 1].len();
+            last[i][..length] == frame.lent[i + 1]
+                && last[i][length..] == self.sequence.held[i][length..]
+        });
+        if answer.is_err() || !equal || self.done() != Some(whole.frame.h) {
+            return Err(format!(
+                "{}: not the oracle's whole frame",
+                self.sequence.group
+            ));
+        }
+        Ok(())
+    }
+}
+
+fn list(converters: &Converters) -> Result<Vec<Answered>, String> {
+    let list = sequences().into_iter();
+    let list = list.map(|sequence| answered(sequence, converters));
+    let list = list.collect::<Result<Vec<_>, _>>()?;
+    complete(&list)?;
+    Ok(list)
+}
+
+/// What the list must have.
+fn complete(list: &[Answered]) -> Result<(), String> {
+    let whole: Vec<&Answered> = (list.iter())
+        .filter(|answered| answered.sequence.whole.is_some())
+        .collect();
+    let kinds = |of: &dyn Fn(&FrameState) -> String| {
+        let states = whole.iter().map(|answered| &answered.sequence.opening);
+        states.map(of).collect::<BTreeSet<_>>().len()
+    };
+    let sides = |of: &dyn Fn(&FrameState) -> u32| {
+        (1..=12).all(|side| (whole.iter()).any(|answered| of(&answered.sequence.opening) == side))
+    };
+    let numbers: BTreeSet<u8> = (list.iter())
+        .flat_map(|answered| &answered.after)
+        .map(|after| number(&after.answer))
+        .collect();
+    let opened: BTreeSet<u8> = list.iter().map(|a| number(&a.opened)).collect();
+    let odd = list.iter().any(|answered| {
+        let first = (answered.sequence.calls.iter()).zip(&answered.after).next();
+        first.is_some_and(|(call, after)| call.state.done % 2 == 1 && after.answer.is_ok())
+    });
+    let strides = whole.iter().any(|answered| {
+        let calls = answered.sequence.calls.iter().zip(&answered.after);
+        let accepted = calls.filter(|(_, after)| after.answer.is_ok());
+        let strides: BTreeSet<u32> = accepted.map(|(call, _)| call.source_stride).collect();
+        strides.len() > 1
+    });
+    let matrix = |s: &FrameState| {
+        let name = format!("{:?}", s.settings.matrix);
+        name.split('(').next().unwrap_or("").to_string()
+    };
+    let orders = |s: &FrameState| format!("{:?} {:?}", s.settings.channels, s.settings.sampling);
+    let counts = |a: &Answered| (1..=MOST_CALLS).contains(&a.sequence.calls.len());
+    let short = |a: &Answered| {
+        let held = a.sequence.held.iter();
+        let sources = a.sequence.calls.iter().map(|call| &call.source);
+        held.chain(sources)
+            .all(|bytes| bytes.len() <= LONGEST_BUFFER)
+    };
+    for (has, what) in [
+        (list.len() >= 120, "120 sequences"),
+        (whole.len() >= 100, "100 sequences that bring a whole frame"),
+        (list.iter().all(counts), "1 to 8 calls in each sequence"),
+        (list.iter().all(short), "buffers that the program can hold"),
+        (kinds(&orders) == 8, "every order with every sampling"),
+        (
+            kinds(&|s| format!("{:?}", s.settings.range)) == 2,
+            "both ranges",
+        ),
+        (kinds(&matrix) == 7, "every matrix"),
+        (
+            kinds(&|s| format!("{:?}", s.settings.transfer)) == 4,
+            "every transfer",
+        ),
+        (sides(&|s| s.w), "every width from 1 to 12"),
+        (sides(&|s| s.h), "every height from 1 to 12"),
+        (opened.into_iter().eq([0, 2, 3, 4]), "every opening answer"),
+        (
+            numbers.into_iter().eq((0..=13).filter(|n| *n != 1)),
+            "every band answer",
+        ),
+        (odd, "odd rows done at first"),
+        (strides, "a source stride that changes"),
+    ] {
+        if !has {
+            return Err(format!("the list of bands lacks {what}"));
+        }
+    }
+    Ok(())
+}
+
+// The files.
+
+fn put_frame(stored: &mut Stored, state: &FrameState) {
+    stored.numbers(&[state.w, state.h]);
+    stored.settings(&state.settings);
+    stored.numbers(&[state.y_stride, state.u_stride, state.v_stride]);
+}
+
+fn stored(list: &[Answered]) -> Vec<u8> {
+    let mut stored = Stored::default();
+    for answered in list {
+        let sequence = &answered.sequence;
+        put_frame(&mut stored, &sequence.opening);
+        stored.answer(&answered.opened);
+        stored.numbers(&sequence.held.each_ref().map(|bytes| bytes.len() as u32));
+        stored.numbers(&[sequence.calls.len() as u32]);
+        for buffer in &sequence.held {
+            stored.block(buffer);
+        }
+        for (call, after) in sequence.calls.iter().zip(&answered.after) {
+            put_frame(&mut stored, &call.state);
+            stored.numbers(&[call.state.done, call.rows, call.source_stride]);
+            stored.numbers(&[call.source.len() as u32]);
+            stored.numbers(&call.lengths.map(|length| length as u32));
+            stored.answer(&after.answer);
+            stored.numbers(&[after.state.done]);
+            stored.block(&call.source);
+            for buffer in &after.held {
+                stored.block(buffer);
+            }
+        }
+    }
+    stored.0
+}
+
+/// Openings and band calls.
+fn calls(list: &[Answered]) -> usize {
+    list.iter().map(|answered| 1 + answered.after.len()).sum()
+}
+
+/// A line for each opening and each call, without the bytes.
+fn index(list: &[Answered], bytes: usize) -> String {
+    let mut answers: BTreeMap<u8, usize> = BTreeMap::new();
+    let mut groups: Vec<(&str, usize)> = Vec::new();
+    for answered in list {
+        for after in &answered.after {
+            *answers.entry(number(&after.answer)).or_default() += 1;
+        }
+        match groups.last_mut() {
+            Some((group, count)) if *group == answered.sequence.group => *count += 1,
+            _ => groups.push((answered.sequence.group, 1)),
+        }
+    }
+    let accepted = answers.remove(&0).unwrap_or(0);
+    let refused: Vec<String> = (answers.iter())
+        .map(|(number, count)| format!("{number}: {count}"))
+        .collect();
+    let groups: Vec<String> = (groups.iter())
+        .map(|(group, count)| format!("{group} {count}"))
+        .collect();
+    let mut text = format!(
+        "# The band sequences of crates/replay_bands/stdin, made by vectors/make; README.md says how.\n\
+         # {} sequences of {} band calls in {bytes} bytes: {accepted} accepted, refused {}.\n\
+         # {}.\n\
+         # number | group | size and settings | strides of Y, U, V | lengths of Y, U, V, carried row | the opening's number, expected, received\n\
+         # number.call | what it is for | rows done, rows | source stride | lengths of source, Y, U, V, carried row | number, expected, received | rows done after\n",
+        list.len(),
+        calls(list) - list.len(),
+        refused.join(", "),
+        groups.join(", "),
+    );
+    let words = |numbers: &[usize]| {
+        let words: Vec<String> = numbers.iter().map(usize::to_string).collect();
+        words.join(" ")
+    };
+    for (answered, place) in list.iter().zip(1..) {
+        let sequence = &answered.sequence;
+        let FrameState { w, h, settings, .. } = &sequence.opening;
+        let s = &sequence.opening;
+        let _ = writeln!(
+            text,
+            "{place} | {} | {w} x {h} {:?} {:?} {:?} {:?} {:?} | {} {} {} | {} | {}",
+            sequence.group,
+            settings.channels,
+            settings.sampling,
+            settings.range,
+            settings.matrix,
+            settings.transfer,
+            s.y_stride,
+            s.u_stride,
+            s.v_stride,
+            words(&sequence.held.each_ref().map(Vec::len)),
+            answer_text(&answered.opened),
+        );
+        for ((call, after), count) in sequence.calls.iter().zip(&answered.after).zip(1..) {
+            let _ = writeln!(
+                text,
+                "{place}.{count} | {} | {} {} | {} | {} {} | {} | {}",
+                call.why,
+                call.state.done,
+                call.rows,
+                call.source_stride,
+                call.source.len(),
+                words(&call.lengths),
+                answer_text(&after.answer),
+                after.state.done,
+            );
+        }
+    }
+    text
+}
+
+/// The files of the repository that are made here, with their bytes.
+fn files(list: &[Answered]) -> Result<Vec<(&'static str, Vec<u8>)>, String> {
+    let stored = stored(list);
+    if stored.len() >= LONGEST_LIST {
+        return Err(format!(
+            "a list of {} bytes is too long to be replayed",
+            stored.len()
+        ));
+    }
+    let counts = format!("{} sequences, {} calls", list.len(), calls(list));
+    Ok(vec![
+        ("vectors/bands.txt", index(list, stored.len()).into_bytes()),
+        (
+            "crates/replay_bands/stdout",
+            format!("{counts}, all equal\n").into_bytes(),
+        ),
+        ("crates/replay_bands/stdin", stored),
+    ])
+}
+
+pub fn write(root: &Path, converters: &Converters) -> Result<String, String> {
+    let list = list(converters)?;
+    for (file, bytes) in files(&list)? {
+        std::fs::write(root.join(file), bytes).map_err(|error| format!("{file}: {error}"))?;
+    }
+    Ok(format!("{} band sequences written", list.len()))
+}
+
+/// The list's line in the README.
+fn readme_line(list: &[Answered]) -> String {
+    let refused = list.iter().filter(|answered| answered.opened.is_err());
+    let after = list.iter().flat_map(|answered| &answered.after);
+    let (accepted, all) = after.fold((0, 0), |(accepted, all), after| {
+        (accepted + usize::from(after.answer.is_ok()), all + 1)
+    });
+    format!(
+        "| `crates/replay_bands/stdin` | {0} band sequences: {0} openings, {1} of them refused, and \
+         {all} band calls, {accepted} accepted, {2} refused | `replay_bands` | `bands.txt` |",
+        list.len(),
+        refused.count(),
+        all - accepted,
+    )
+}
+
+/// Whether the files are those that `write` writes, and the README counts them so.
+pub fn check(root: &Path, converters: &Converters) -> Result<String, String> {
+    let list = list(converters)?;
+    let read =
+        |file: &str| std::fs::read(root.join(file)).map_err(|error| format!("{file}: {error}"));
+    for (file, bytes) in files(&list)? {
+        if read(file)? != bytes {
+            return Err(format!("{file} is not what is made"));
+        }
+    }
+    let readme = "vectors/README.md";
+    let line = readme_line(&list);
+    if !String::from_utf8_lossy(&read(readme)?).contains(&line) {
+        return Err(format!("{readme} lacks the line: {line}"));
+    }
+    Ok(format!("{} band sequences, as they are made", list.len()))
+}

@@ -1,0 +1,477 @@
+//! The band sequences of the stored list, from fixed seeds: an opening and the band calls after it,
+//! all on the same planes and the same carried row.
+
+use crate::conditions;
+use crate::random::{self, Random};
+use crate::request::{BandRequest, FrameRequest, Lent};
+use model::settings::{channels_of, matrix_of, range_of, sampling_of, transfer_of};
+use model::{FrameState, Settings, YuvChromaSubsampling, YuvStandardMatrix};
+
+const SEED: u64 = 2;
+
+/// The most calls after an opening.
+pub const MOST_CALLS: usize = 8;
+
+/// Y, U, V and the carried row, longer than any call that is accepted is lent.
+pub type Held = [Vec<u8>; 4];
+
+/// A band call on the first bytes of the buffers that its sequence holds.
+pub struct BandCall {
+    pub why: &'static str,
+    pub state: FrameState,
+    pub rows: u32,
+    pub source_stride: u32,
+    pub source: Vec<u8>,
+    pub lengths: [usize; 4],
+}
+
+pub struct Sequence {
+    pub group: &'static str,
+    /// What the opening is asked to fix; no row is done.
+    pub opening: FrameState,
+    pub held: Held,
+    pub calls: Vec<BandCall>,
+    /// The frame whose rows the accepted calls bring, where they bring all of them.
+    pub whole: Option<FrameRequest>,
+}
+
+impl BandCall {
+    /// The call as the model is asked.
+    pub fn request(&self, held: &Held) -> BandRequest {
+        let part = |i: usize| held[i][..self.lengths[i]].to_vec();
+        BandRequest {
+            state: self.state,
+            rows: self.rows,
+            source_stride: self.source_stride,
+            lent: [self.source.clone(), part(0), part(1), part(2)],
+            carried: part(3),
+        }
+    }
+
+    fn is_refused(&self, held: &Held) -> bool {
+        conditions::of_band(&self.request(held)).is_err()
+    }
+}
+
+pub fn sequences() -> Vec<Sequence> {
+    let mut list = Vec::new();
+    for case in 0..48 {
+        list.push(cuts(case));
+    }
+    for case in 0..64 {
+        list.push(refused_between("refused between", case, 1, &FAULTS));
+    }
+    for case in 0..24 {
+        list.push(refused_between("forged between", case, 2, &FORGED));
+    }
+    for case in 0..12 {
+        list.push(unfinished(case));
+    }
+    for case in 0..32 {
+        list.push(no_call_made(case));
+    }
+    for case in 0..12 {
+        list.push(opening_refused(case));
+    }
+    list
+}
+
+/// Orders, samplings and matrices come round, Custom as one; range and transfer are any.
+fn settings(random: &mut Random, case: u64) -> Settings {
+    let (range, transfer) = (random.from(0, 1) as u8, random.from(0, 3) as u8);
+    Settings {
+        channels: channels_of((case % 4) as u8).expect("a code with a meaning"),
+        sampling: sampling_of((case / 4 % 2) as u8).expect("a code with a meaning"),
+        range: range_of(range).expect("a code with a meaning"),
+        matrix: matrix_of((case % 7) as u8).unwrap_or_else(|| {
+            let (kr, kb) = random::accepted_pair(random);
+            YuvStandardMatrix::Custom(kr, kb)
+        }),
+        transfer: transfer_of(transfer).expect("a code with a meaning"),
+    }
+}
+
+/// An accepted frame of at most 12 by 12 with these settings, and the buffers held for it: a few
+/// bytes longer than its planes and its carried row, all random.
+fn frame(random: &mut Random, settings: Settings, h: u32) -> (FrameRequest, Held) {
+    let w = random.from(1, 12);
+    let mut request = random::accepted_frame(random, 1);
+    request.frame.settings = settings;
+    (request.frame.w, request.frame.h) = (w, h);
+    let shapes = request.shapes();
+    let padding = |random: &mut Random| random.from(0, 3);
+    request.set_strides(shapes.map(|shape| shape.row as u32 + padding(random)));
+    let strides = request.strides();
+    let length = |i: usize| strides[i] as usize * shapes[i].rows as usize;
+    let source = random::source_bytes(random, length(0));
+    let [y, u, v] = [1, 2, 3].map(|i| {
+        let more = random.from(1, 3) as usize;
+        random.bytes(length(i) + more)
+    });
+    let more = random.from(0, 4) as usize;
+    let carried = random.bytes(3 * w as usize + more);
+    request.lent = [
+        source,
+        y[..length(1)].to_vec(),
+        u[..length(2)].to_vec(),
+        v[..length(3)].to_vec(),
+    ];
+    (request, [y, u, v, carried])
+}
+
+fn opening(request: &FrameRequest) -> FrameState {
+    let f = &request.frame;
+    FrameState {
+        w: f.w,
+        h: f.h,
+        settings: f.settings,
+        y_stride: f.y_stride,
+        u_stride: f.u_stride,
+        v_stride: f.v_stride,
+        done: 0,
+    }
+}
+
+/// An accepted call: the next rows of the frame, with a source stride of its own.
+fn band(
+    random: &mut Random,
+    request: &FrameRequest,
+    held: &Held,
+    done: u32,
+    rows: u32,
+) -> BandCall {
+    let row = request.shapes()[0].row as usize;
+    let padding = random.from(0, 4) as usize;
+    let mut source = Vec::new();
+    for r in done..done + rows {
+        source.extend(request.source_row(r as usize));
+        source.extend(vec![0x5a; padding]);
+    }
+    let [_, y, u, v] = request.lent.each_ref().map(Vec::len);
+    let least = 3 * request.frame.w as usize;
+    let carried = if random.one_in(2) {
+        least
+    } else {
+        held[3].len()
+    };
+    BandCall {
+        why: "",
+        state: FrameState {
+            done,
+            ..opening(request)
+        },
+        rows,
+        source_stride: (row + padding) as u32,
+        source,
+        lengths: [y, u, v, carried],
+    }
+}
+
+/// Cuts a height into at most `most` bands of these rows each, 0: any number of them.
+fn cut(random: &mut Random, h: u32, each: u32, most: usize) -> Vec<u32> {
+    let mut bands = Vec::new();
+    let mut remain = h;
+    while remain > 0 {
+        let rows = match each {
+            _ if bands.len() + 1 == most => remain,
+            0 => random.from(1, remain),
+            each => each.min(remain),
+        };
+        bands.push(rows);
+        remain -= rows;
+    }
+    bands
+}
+
+/// The calls that bring bands one after the other.
+fn bands(random: &mut Random, request: &FrameRequest, held: &Held, rows: &[u32]) -> Vec<BandCall> {
+    let mut done = 0;
+    let mut calls = Vec::new();
+    for rows in rows {
+        calls.push(band(random, request, held, done, *rows));
+        done += rows;
+    }
+    calls
+}
+
+/// Whole frames in bands of 1, 2, 3 or any number of rows, with no other call.
+fn cuts(case: u64) -> Sequence {
+    let mut random = Random::new(SEED, 1, case);
+    let settings = settings(&mut random, case);
+    let each = (case / 8 % 4) as u32;
+    let highest = if each == 1 { MOST_CALLS as u64 } else { 12 };
+    let h = 1 + (5 * case % highest) as u32;
+    let (request, held) = frame(&mut random, settings, h);
+    let rows = cut(&mut random, h, each, MOST_CALLS);
+    Sequence {
+        group: "cuts",
+        opening: opening(&request),
+        calls: bands(&mut random, &request, &held, &rows),
+        held,
+        whole: Some(request),
+    }
+}
+
+/// A change of an accepted call, and what it is. Most are refused: all that stand between calls.
+type Fault = (&'static str, fn(&mut Random, &mut BandCall));
+
+/// The bytes of a row and the least length of the source (0) or a plane (1, 2, 3).
+fn least(call: &BandCall, i: usize) -> (u32, usize) {
+    let empty: Lent = Default::default();
+    let request = BandRequest {
+        state: call.state,
+        rows: call.rows,
+        source_stride: call.source_stride,
+        lent: empty,
+        carried: Vec::new(),
+    };
+    let shape = request.shapes()[i];
+    let rows = shape.rows.saturating_sub(1) as usize;
+    let least = request.strides()[i] as usize * rows + shape.row as usize;
+    (shape.row as u32, least)
+}
+
+fn remain(call: &BandCall) -> u32 {
+    call.state.h.saturating_sub(call.state.done)
+}
+
+/// The current state, or one whose plane strides were changed, with a fault in what is lent.
+const FAULTS: [Fault; 22] = [
+    ("no row", |_, call| call.rows = 0),
+    ("a row too many", |_, call| call.rows = remain(call) + 1),
+    ("the most rows", |_, call| call.rows = u32::MAX),
+    ("source one under its least", |_, call| {
+        let (_, least) = least(call, 0);
+        call.source.truncate(least - 1);
+    }),
+    ("no source", |_, call| call.source.clear()),
+    ("source stride one under", |_, call| {
+        call.source_stride = least(call, 0).0 - 1;
+    }),
+    ("longest source stride", |_, call| {
+        call.source_stride = u32::MAX;
+    }),
+    ("Y stride one under", |_, call| {
+        call.state.y_stride = least(call, 1).0 - 1;
+    }),
+    ("Y one under its least", |_, call| {
+        call.lengths[0] = least(call, 1).1 - 1;
+    }),
+    ("U stride one under", |_, call| {
+        call.state.u_stride = least(call, 2).0 - 1;
+    }),
+    ("U one under its least", |_, call| {
+        call.lengths[1] = least(call, 2).1 - 1;
+    }),
+    ("V stride one under", |_, call| {
+        call.state.v_stride = least(call, 3).0 - 1;
+    }),
+    ("V one under its least", |_, call| {
+        call.lengths[2] = least(call, 3).1 - 1;
+    }),
+    ("source one over", |_, call| call.source.push(7)),
+    ("source at its least", |_, call| {
+        let (_, least) = least(call, 0);
+        call.source.truncate(least);
+    }),
+    ("Y one over", |_, call| call.lengths[0] += 1),
+    ("Y at its least", |_, call| {
+        call.lengths[0] = least(call, 1).1;
+    }),
+    ("U one over", |_, call| call.lengths[1] += 1),
+    ("V one over", |_, call| call.lengths[2] += 1),
+    ("carried row one under", |_, call| {
+        call.lengths[3] = 3 * call.state.w as usize - 1;
+    }),
+    ("no carried row", |_, call| call.lengths[3] = 0),
+    ("all buffers empty", |_, call| {
+        call.source.clear();
+        call.lengths = [0; 4];
+    }),
+];
+
+/// States that no call made.
+const FORGED: [Fault; 14] = [
+    ("rows done at the height", |_, call| {
+        call.state.done = call.state.h;
+    }),
+    ("rows done past the height", |_, call| {
+        call.state.done = call.state.h + 1;
+    }),
+    ("the most rows done", |_, call| call.state.done = u32::MAX),
+    ("the most rows done and asked for", |_, call| {
+        call.state.done = u32::MAX;
+        call.rows = u32::MAX;
+    }),
+    ("no width", |_, call| call.state.w = 0),
+    ("no height", |_, call| call.state.h = 0),
+    ("too wide", |_, call| call.state.w = 16_385),
+    ("too high", |_, call| call.state.h = u32::MAX),
+    ("matrix no number", |random, call| {
+        let kb = random.pick(&[0.1, -0.0, f32::NAN]);
+        call.state.settings.matrix = YuvStandardMatrix::Custom(f32::NAN, kb);
+    }),
+    ("matrix over a half", |_, call| {
+        call.state.settings.matrix = YuvStandardMatrix::Custom(-0.0, 0.5f32.next_up());
+    }),
+    ("wider than the buffers", |_, call| call.state.w += 9),
+    ("higher than the buffers", |_, call| {
+        call.state.h += 8;
+        call.state.done += 1;
+    }),
+    ("other sampling", |_, call| {
+        use YuvChromaSubsampling::{Yuv420, Yuv422};
+        let sampling = &mut call.state.settings.sampling;
+        *sampling = if *sampling == Yuv420 { Yuv422 } else { Yuv420 };
+    }),
+    ("other strides", |_, call| {
+        call.state.y_stride = u32::MAX;
+        call.state.u_stride = 0;
+        call.state.v_stride += 1;
+    }),
+];
+
+/// The call with the first of the faults, from one on, with which it is refused.
+fn refused(
+    random: &mut Random,
+    held: &Held,
+    faults: &[Fault],
+    first: u64,
+    again: impl Fn(&mut Random) -> BandCall,
+) -> BandCall {
+    (first..)
+        .find_map(|place| {
+            let (why, fault) = faults[place as usize % faults.len()];
+            let mut call = again(random);
+            fault(random, &mut call);
+            call.why = why;
+            call.is_refused(held).then_some(call)
+        })
+        .expect("a fault that is refused")
+}
+
+/// Whole frames with refused calls before, between and after the bands.
+fn refused_between(group: &'static str, case: u64, kind: u64, faults: &[Fault]) -> Sequence {
+    let mut random = Random::new(SEED, 10 + kind, case);
+    let settings = settings(&mut random, case);
+    let h = random.from(1, 9);
+    let (request, held) = frame(&mut random, settings, h);
+    let each = random.from(0, 3);
+    let rows = cut(&mut random, h, each, 4);
+    let accepted = bands(&mut random, &request, &held, &rows);
+    let mut spare = MOST_CALLS - accepted.len();
+    let mut first = 3 * case;
+    let mut calls = Vec::new();
+    let mut done = 0;
+    for call in accepted {
+        for _ in 0..random.from(0, 2).min(spare as u32) {
+            calls.push(refused(&mut random, &held, faults, first, |random| {
+                band(random, &request, &held, done, call.rows)
+            }));
+            (first, spare) = (first + 1, spare - 1);
+        }
+        done += call.rows;
+        calls.push(call);
+    }
+    if spare > 0 {
+        // All rows are done: none remains, whatever else is wrong.
+        calls.push(refused(&mut random, &held, faults, first, |random| {
+            let mut call = band(random, &request, &held, h - 1, 1);
+            call.state.done = h;
+            call
+        }));
+    }
+    Sequence {
+        group,
+        opening: opening(&request),
+        calls,
+        held,
+        whole: Some(request),
+    }
+}
+
+/// Frames that are left after some of their rows, refused calls among them.
+fn unfinished(case: u64) -> Sequence {
+    let mut sequence = refused_between("not finished", case, 3, &FAULTS);
+    let keep = 1 + sequence.calls.len() / 2;
+    sequence.calls.truncate(keep);
+    if sequence.calls.iter().map(|call| call.state.done).max() >= Some(sequence.opening.h) {
+        sequence.calls.truncate(1);
+    }
+    sequence.whole = None;
+    sequence
+}
+
+/// Accepted calls on states that no call made, most with odd rows done, the carried row anything;
+/// one call goes back to rows that were done, one has other settings than the opening.
+fn no_call_made(case: u64) -> Sequence {
+    let mut random = Random::new(SEED, 20, case);
+    let mut settings = settings(&mut random, case);
+    if case % 4 != 3 {
+        settings.sampling = YuvChromaSubsampling::Yuv420;
+    }
+    let h = random.from(2, 12);
+    let (request, held) = frame(&mut random, settings, h);
+    let odd = 2 * random.from(0, (h - 2) / 2) + 1;
+    let rows = random.from(1, h - odd);
+    let mut calls = vec![band(&mut random, &request, &held, odd, rows)];
+    calls[0].why = "odd rows done, any carried row";
+    let done = random.from(0, h - 1);
+    let rows = random.from(1, h - done);
+    calls.push(band(&mut random, &request, &held, done, rows));
+    calls[1].why = "any rows done";
+    let mut other = band(&mut random, &request, &held, odd, 1);
+    other.state.settings = Settings {
+        channels: settings.channels,
+        sampling: settings.sampling,
+        ..self::settings(&mut random, case + 1 + case / 7)
+    };
+    other.why = "other range, matrix and transfer";
+    calls.push(other);
+    Sequence {
+        group: "no call made",
+        opening: opening(&request),
+        calls,
+        held,
+        whole: None,
+    }
+}
+
+/// Openings that are refused, and a band call on the state that comes back.
+fn opening_refused(case: u64) -> Sequence {
+    let mut random = Random::new(SEED, 30, case);
+    let settings = settings(&mut random, case);
+    let (request, held) = frame(&mut random, settings, 3);
+    let mut call = band(&mut random, &request, &held, 0, 2);
+    let mut state = opening(&request);
+    let custom = |kr, kb| YuvStandardMatrix::Custom(kr, kb);
+    match case {
+        0 => state.w = 0,
+        1 => state.h = 0,
+        2 => (state.w, state.h) = (0, u32::MAX),
+        3 => state.w = 16_385,
+        4 => state.h = 16_385,
+        5 => (state.w, state.h) = (u32::MAX, u32::MAX),
+        6 => state.settings.matrix = custom(f32::NAN, 0.1),
+        7 => state.settings.matrix = custom(0.1, -f32::from_bits(1)),
+        8 => state.settings.matrix = custom(0.5f32.next_up(), 0.0),
+        9 => state.settings.matrix = custom(-0.0, f32::INFINITY),
+        10 => {
+            state.w = 16_385;
+            state.settings.matrix = custom(f32::NAN, f32::NAN);
+        }
+        _ => {
+            state.h = 0;
+            state.settings.matrix = custom(-1.0, 1.0);
+        }
+    }
+    call.state = state;
+    call.why = "the refused opening's state";
+    Sequence {
+        group: "opening refused",
+        opening: state,
+        calls: vec![call],
+        held,
+        whole: None,
+    }
+}

@@ -1,0 +1,2 @@
+-- Laws of the functions that C links.
+pub mod Answered

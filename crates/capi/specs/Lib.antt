@@ -1,0 +1,3 @@
+-- What the functions that C links mean.
+pub mod Codes
+pub mod Calls

@@ -1,0 +1,22 @@
+-- `range_of` meets its contract: a code that is none of the arms' has no meaning.
+-- Assumes nothing.
+use mathlib.Core.Path.{sym}
+use native.Mathlib.Omega.{arith}
+use lib.ListN.{List·getD-eq-default}
+use Rattle.yuv_support.specs.declared.YuvRange.the-variants.{Limited}
+use Rattle.setting_codes.specs.Codes.{rangeCodes}
+use borrow.Author.Needs.{needs}
+use Rattle.setting_codes.proofs.range_of.Statement.{statement}
+use Rattle.setting_codes.proofs.range_of.Tie as tie
+
+returns : tie.Need-returns
+returns c = search needs
+
+returns-2 : tie.Need-returns-2
+returns-2 c = search needs
+
+returns-3 : tie.Need-returns-3
+returns-3 c = sym (List·getD-eq-default rangeCodes Limited {n = c .before .args .code} (omega arith))
+
+pub range-of-spec : {M : Type 1} → statement M
+range-of-spec = tie.close (tie.spec returns returns-2 returns-3)

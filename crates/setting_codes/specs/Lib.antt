@@ -1,0 +1,2 @@
+-- Settings as numbers.
+pub mod Codes

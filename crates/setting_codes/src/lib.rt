@@ -1,0 +1,69 @@
+// Settings as numbers, for callers that have no enums: the codes of a request and of the C functions.
+ghost use mathlib.Core.Path.{_≡_};
+ghost use lib.ListN.{getD};
+ghost use Rattle.setting_codes.specs.Codes.{channelsCodes, samplingCodes, rangeCodes, matrixCodes, transferCodes};
+use sharp_gamma::SharpYuvGammaTransfer;
+use yuv_support::YuvChromaSubsampling;
+use yuv_support::YuvRange;
+use yuv_support::YuvSourceChannels;
+use yuv_support::YuvStandardMatrix;
+
+// A code without a meaning is for the caller to refuse; the functions here answer the first meaning for it.
+pub fn channels_of(code: u32) -> YuvSourceChannels
+    ensures { λ r. ⌜ r ≡ getD channelsCodes code YuvSourceChannels.Rgb ⌝ }
+{
+    match code {
+        0 => YuvSourceChannels::Rgb,
+        1 => YuvSourceChannels::Rgba,
+        2 => YuvSourceChannels::Bgra,
+        3 => YuvSourceChannels::Bgr,
+        _ => YuvSourceChannels::Rgb,
+    }
+}
+
+pub fn sampling_of(code: u32) -> YuvChromaSubsampling
+    ensures { λ r. ⌜ r ≡ getD samplingCodes code YuvChromaSubsampling.Yuv420 ⌝ }
+{
+    match code {
+        0 => YuvChromaSubsampling::Yuv420,
+        1 => YuvChromaSubsampling::Yuv422,
+        _ => YuvChromaSubsampling::Yuv420,
+    }
+}
+
+pub fn range_of(code: u32) -> YuvRange
+    ensures { λ r. ⌜ r ≡ getD rangeCodes code YuvRange.Limited ⌝ }
+{
+    match code {
+        0 => YuvRange::Limited,
+        1 => YuvRange::Full,
+        _ => YuvRange::Limited,
+    }
+}
+
+// The six named matrices.
+pub fn matrix_of(code: u32) -> YuvStandardMatrix
+    ensures { λ r. ⌜ r ≡ getD matrixCodes code YuvStandardMatrix.Bt601 ⌝ }
+{
+    match code {
+        0 => YuvStandardMatrix::Bt601,
+        1 => YuvStandardMatrix::Bt709,
+        2 => YuvStandardMatrix::Bt2020,
+        3 => YuvStandardMatrix::Smpte240,
+        4 => YuvStandardMatrix::Bt470_6,
+        5 => YuvStandardMatrix::Fcc,
+        _ => YuvStandardMatrix::Bt601,
+    }
+}
+
+pub fn transfer_of(code: u32) -> SharpYuvGammaTransfer
+    ensures { λ r. ⌜ r ≡ getD transferCodes code SharpYuvGammaTransfer.Srgb ⌝ }
+{
+    match code {
+        0 => SharpYuvGammaTransfer::Srgb,
+        1 => SharpYuvGammaTransfer::Rec709,
+        2 => SharpYuvGammaTransfer::Gamma2p2,
+        3 => SharpYuvGammaTransfer::Gamma2p8,
+        _ => SharpYuvGammaTransfer::Srgb,
+    }
+}

@@ -1,0 +1,196 @@
+/*
+ * Segvartin: strided 8-bit RGB frames to planar YUV 4:2:0 and 4:2:2 ("sharp YUV", chroma interpolated over linear light).
+ *
+ * Link libcapi.a (x86-64, System V ABI). It has no state, no heap, no threads, no input and no output, and of libc it calls memset alone;
+ * calls on separate buffers may run on separate threads. A call takes less than 80 KiB of stack.
+ *
+ * Every function answers finished work (0) or the number of one refusal, and a refusal writes no byte of a plane or of the carried row.
+ * This holds for all values of all numbers: sizes, strides, lengths, codes, kr, kb. What no function can check, and the caller must see to:
+ *   - a pointer is not NULL, also where its length is 0, and points to as many bytes as the length beside it says;
+ *   - source, y, u, v, carried, done, expected and received do not overlap.
+ *
+ * Write w, h for width and height; c for the bytes of a pixel, 3 (RGB, BGR) or 4; cw for w / 2 rounded up; ch for h in 4:2:2, and for h / 2
+ * rounded up in 4:2:0. Strides are in bytes, from the start of a row to the start of the next. Of a row only its first w (Y) or cw (U, V)
+ * bytes are written; what follows up to the stride is left as it is. Alpha and the source's padding are never looked at.
+ */
+#ifndef SEGVARTIN_H
+#define SEGVARTIN_H
+
+#include <stddef.h>
+#include <stdint.h>
+
+#ifdef __cplusplus
+extern "C" {
+#endif
+
+/* Order of the bytes of a pixel. */
+enum { SEGVARTIN_RGB = 0, SEGVARTIN_RGBA = 1, SEGVARTIN_BGRA = 2, SEGVARTIN_BGR = 3 };
+
+/* Chroma sampling. */
+enum { SEGVARTIN_YUV420 = 0, SEGVARTIN_YUV422 = 1 };
+
+/* Limited: Y 16 to 235, U and V 16 to 240. Full: 0 to 255. */
+enum { SEGVARTIN_LIMITED = 0, SEGVARTIN_FULL = 1 };
+
+/* Matrix. SEGVARTIN_CUSTOM takes kr and kb, each from 0 to 0.5; the others do not look at them. */
+enum {
+    SEGVARTIN_BT601 = 0,
+    SEGVARTIN_BT709 = 1,
+    SEGVARTIN_BT2020 = 2,
+    SEGVARTIN_SMPTE240 = 3,
+    SEGVARTIN_BT470_6 = 4,
+    SEGVARTIN_FCC = 5,
+    SEGVARTIN_CUSTOM = 6
+};
+
+/* Transfer: the curve between stored and linear values. */
+enum { SEGVARTIN_SRGB = 0, SEGVARTIN_REC709 = 1, SEGVARTIN_GAMMA2P2 = 2, SEGVARTIN_GAMMA2P8 = 3 };
+
+/*
+ * What a call answers. Where several conditions hold, the lowest number is answered. In parentheses: what *expected and *received get;
+ * where nothing stands there, and after finished work, both get 0.
+ */
+enum {
+    SEGVARTIN_FINISHED = 0,
+    /* a code of channels, sampling, range, matrix or transfer without a meaning */
+    SEGVARTIN_MALFORMED_REQUEST = 1,
+    /* w or h is 0 */
+    SEGVARTIN_ZERO_BASE_SIZE = 2,
+    /* w or h is above 16384 */
+    SEGVARTIN_SIZE_TOO_LARGE = 3,
+    /* kr or kb of SEGVARTIN_CUSTOM is not from 0 to 0.5, or is no number; -0.0 is 0 */
+    SEGVARTIN_MATRIX_NOT_ACCEPTED = 4,
+    /* band calls only: a band of 0 rows, or of more than remain */
+    SEGVARTIN_BAND_ROWS_MISMATCH = 5,
+    /* source shorter than stride * (its rows - 1) + w * c (that, its length) */
+    SEGVARTIN_SOURCE_SIZE_MISMATCH = 6,
+    /* source stride below w * c (w * c, stride) */
+    SEGVARTIN_SOURCE_STRIDE_MISMATCH = 7,
+    /* y_stride below w (w * h, y_stride * h) */
+    SEGVARTIN_Y_STRIDE_MISMATCH = 8,
+    /* y shorter than y_stride * (h - 1) + w (that, its length) */
+    SEGVARTIN_Y_SIZE_MISMATCH = 9,
+    /* u_stride below cw (cw * ch, u_stride * ch); or u shorter than u_stride * (ch - 1) + cw (that, its length) */
+    SEGVARTIN_U_MISMATCH = 10,
+    /* the same of v */
+    SEGVARTIN_V_MISMATCH = 11,
+    /* source, y, u or v, the first in this order, is not exactly its stride times its rows long (that, its length) */
+    SEGVARTIN_WHOLE_ROWS_MISMATCH = 12,
+    /* band calls only: the carried row is shorter than 3 * w (3 * w, its length) */
+    SEGVARTIN_CARRIED_ROW_MISMATCH = 13
+};
+
+#define SEGVARTIN_MAX_SIDE 16384
+
+/*
+ * Converts a whole frame. Answers 0, or a refusal: 1 to 4, 6 to 12.
+ *
+ *   width, height    1 to 16384
+ *   channels .. transfer    the codes above; kr and kb are looked at where matrix is SEGVARTIN_CUSTOM
+ *   source           h rows of w * c bytes: stride at least w * c, source_len exactly stride * h
+ *   y                h rows of w bytes: y_stride at least w, y_len exactly y_stride * h
+ *   u, v             ch rows of cw bytes: u_stride at least cw, u_len exactly u_stride * ch; so for v
+ *   expected, received    always written
+ */
+uint32_t segvartin_frame(uint32_t width, uint32_t height, uint32_t channels, uint32_t sampling, uint32_t range, uint32_t matrix, float kr,
+                         float kb, uint32_t transfer, const uint8_t *source, size_t source_len, uint32_t stride, uint8_t *y, size_t y_len,
+                         uint32_t y_stride, uint8_t *u, size_t u_len, uint32_t u_stride, uint8_t *v, size_t v_len, uint32_t v_stride,
+                         size_t *expected, size_t *received);
+
+/*
+ * Opens a frame that comes in bands of rows. Answers 0, or a refusal: 1 to 4. Of plane strides it says nothing; the first band call does.
+ *
+ *   done             gets 0, the rows done so far, also after a refusal
+ *   the others       as in segvartin_frame
+ */
+uint32_t segvartin_open(uint32_t width, uint32_t height, uint32_t channels, uint32_t sampling, uint32_t range, uint32_t matrix, float kr,
+                        float kb, uint32_t transfer, uint32_t y_stride, uint32_t u_stride, uint32_t v_stride, uint32_t *done, size_t *expected,
+                        size_t *received);
+
+/*
+ * Converts the next rows of a frame. Answers 0, or a refusal: 1 to 13; a refusal leaves *done as it is.
+ *
+ * The frame's numbers are those of its opening. *done, the planes and the carried row are those that the last accepted call left: then the
+ * rows finished are those of segvartin_frame on the same rows, byte for byte. After n rows these are n rows of Y; n rows of U and V in 4:2:2,
+ * n / 2 rounded down in 4:2:0, and all once n is h. No other byte of a plane is written.
+ *
+ *   rows             1 to the rows that remain, h - *done; none remain where *done is h or more
+ *   source           the band's rows of w * c bytes: stride at least w * c, source_len exactly stride * rows; stride may change between bands
+ *   y, u, v          the whole planes, as in segvartin_frame
+ *   carried          at least 3 * w bytes, in either sampling: in 4:2:0 a band that ends between two rows that share a chroma row leaves its
+ *                    last row here for the next call
+ *   done             in: the rows done; out: the rows done, this band's among them
+ */
+uint32_t segvartin_band(uint32_t width, uint32_t height, uint32_t channels, uint32_t sampling, uint32_t range, uint32_t matrix, float kr,
+                        float kb, uint32_t transfer, uint32_t rows, const uint8_t *source, size_t source_len, uint32_t stride, uint8_t *y,
+                        size_t y_len, uint32_t y_stride, uint8_t *u, size_t u_len, uint32_t u_stride, uint8_t *v, size_t v_len,
+                        uint32_t v_stride, uint8_t *carried, size_t carried_len, uint32_t *done, size_t *expected, size_t *received);
+
+/*
+ * The same calls with their numbers in structs. These are inline: they only pass each field on.
+ */
+
+/* A frame's size, settings and plane strides, by the rules above. */
+typedef struct segvartin_description {
+    uint32_t width, height;
+    uint32_t channels, sampling, range, matrix;
+    float kr, kb;
+    uint32_t transfer;
+    uint32_t y_stride, u_stride, v_stride;
+} segvartin_description;
+
+/* Bytes that the library reads, and bytes that it may write. */
+typedef struct segvartin_bytes {
+    const uint8_t *at;
+    size_t len;
+} segvartin_bytes;
+
+typedef struct segvartin_bytes_mut {
+    uint8_t *at;
+    size_t len;
+} segvartin_bytes_mut;
+
+typedef struct segvartin_answer {
+    uint32_t number;
+    size_t expected, received;
+} segvartin_answer;
+
+/* A frame in bands: what its opening fixed, and the rows done. */
+typedef struct segvartin_state {
+    segvartin_description frame;
+    uint32_t done;
+} segvartin_state;
+
+static inline segvartin_answer segvartin_convert_frame(const segvartin_description *d, segvartin_bytes source, uint32_t stride,
+                                                       segvartin_bytes_mut y, segvartin_bytes_mut u, segvartin_bytes_mut v) {
+    segvartin_answer a;
+    a.number = segvartin_frame(d->width, d->height, d->channels, d->sampling, d->range, d->matrix, d->kr, d->kb, d->transfer, source.at,
+                               source.len, stride, y.at, y.len, d->y_stride, u.at, u.len, d->u_stride, v.at, v.len, d->v_stride, &a.expected,
+                               &a.received);
+    return a;
+}
+
+static inline segvartin_answer segvartin_open_frame(segvartin_state *state, const segvartin_description *d) {
+    segvartin_answer a;
+    state->frame = *d;
+    a.number = segvartin_open(d->width, d->height, d->channels, d->sampling, d->range, d->matrix, d->kr, d->kb, d->transfer, d->y_stride,
+                              d->u_stride, d->v_stride, &state->done, &a.expected, &a.received);
+    return a;
+}
+
+static inline segvartin_answer segvartin_convert_band(segvartin_state *state, uint32_t rows, segvartin_bytes source, uint32_t stride,
+                                                      segvartin_bytes_mut y, segvartin_bytes_mut u, segvartin_bytes_mut v,
+                                                      segvartin_bytes_mut carried) {
+    const segvartin_description *d = &state->frame;
+    segvartin_answer a;
+    a.number = segvartin_band(d->width, d->height, d->channels, d->sampling, d->range, d->matrix, d->kr, d->kb, d->transfer, rows, source.at,
+                              source.len, stride, y.at, y.len, d->y_stride, u.at, u.len, d->u_stride, v.at, v.len, d->v_stride, carried.at,
+                              carried.len, &state->done, &a.expected, &a.received);
+    return a;
+}
+
+#ifdef __cplusplus
+}
+#endif
+
+#endif

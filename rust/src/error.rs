@@ -1,0 +1,136 @@
+//! The refusals.
+
+use std::error::Error;
+use std::fmt::{Display, Formatter};
+
+/// Shows size mismatching.
+#[derive(Debug, Copy, Clone, Ord, PartialOrd, Eq, PartialEq)]
+pub struct MismatchedSize {
+    pub expected: usize,
+    pub received: usize,
+}
+
+/// The refusals, lowest number first. Where several hold, the lowest is answered.
+#[derive(Debug, Copy, Clone, Eq, PartialEq)]
+pub enum YuvError {
+    /// 1: a setting without a meaning. The enums of this crate have none, so no call here answers it.
+    MalformedRequest,
+    /// 2: width or height is 0.
+    ZeroBaseSize,
+    /// 3: width or height is above 16,384.
+    SizeTooLarge,
+    /// 4: kr or kb of Custom is not from 0 to 0.5, or is no number.
+    MatrixNotAccepted,
+    /// 5: a band of 0 rows, or of more than remain.
+    BandRowsMismatch,
+    /// 6: the source is too short.
+    DestinationSizeMismatch(MismatchedSize),
+    /// 7: the source's stride is below its row.
+    MinimumStrideSizeMismatch(MismatchedSize),
+    /// 8: the stride of Y is below its row.
+    LumaPlaneMinimumSizeMismatch(MismatchedSize),
+    /// 9: Y is too short.
+    LumaPlaneSizeMismatch(MismatchedSize),
+    /// 10: the stride of U is below its row, or U is too short.
+    UPlaneMinimumSizeMismatch(MismatchedSize),
+    /// 11: the same of V.
+    VPlaneMinimumSizeMismatch(MismatchedSize),
+    /// 12: the first of source, Y, U, V that is not exactly its stride times its rows long.
+    WholeRowsMismatch(MismatchedSize),
+    /// 13: the carried row is shorter than 3 × width.
+    CarriedRowSizeMismatch(MismatchedSize),
+}
+
+impl YuvError {
+    /// The refusal's number.
+    #[must_use]
+    pub fn number(&self) -> u32 {
+        match self {
+            YuvError::MalformedRequest => 1,
+            YuvError::ZeroBaseSize => 2,
+            YuvError::SizeTooLarge => 3,
+            YuvError::MatrixNotAccepted => 4,
+            YuvError::BandRowsMismatch => 5,
+            YuvError::DestinationSizeMismatch(_) => 6,
+            YuvError::MinimumStrideSizeMismatch(_) => 7,
+            YuvError::LumaPlaneMinimumSizeMismatch(_) => 8,
+            YuvError::LumaPlaneSizeMismatch(_) => 9,
+            YuvError::UPlaneMinimumSizeMismatch(_) => 10,
+            YuvError::VPlaneMinimumSizeMismatch(_) => 11,
+            YuvError::WholeRowsMismatch(_) => 12,
+            YuvError::CarriedRowSizeMismatch(_) => 13,
+        }
+    }
+
+    /// Expected and received, where the refusal carries them.
+    #[must_use]
+    pub fn size(&self) -> Option<MismatchedSize> {
+        match *self {
+            YuvError::MalformedRequest
+            | YuvError::ZeroBaseSize
+            | YuvError::SizeTooLarge
+            | YuvError::MatrixNotAccepted
+            | YuvError::BandRowsMismatch => None,
+            YuvError::DestinationSizeMismatch(size)
+            | YuvError::MinimumStrideSizeMismatch(size)
+            | YuvError::LumaPlaneMinimumSizeMismatch(size)
+            | YuvError::LumaPlaneSizeMismatch(size)
+            | YuvError::UPlaneMinimumSizeMismatch(size)
+            | YuvError::VPlaneMinimumSizeMismatch(size)
+            | YuvError::WholeRowsMismatch(size)
+            | YuvError::CarriedRowSizeMismatch(size) => Some(size),
+        }
+    }
+
+    /// An answer of the library: 0 is finished work. It is proved to answer none but these numbers.
+    pub(crate) fn answer(number: u32, expected: usize, received: usize) -> Result<(), YuvError> {
+        let size = MismatchedSize { expected, received };
+        Err(match number {
+            0 => return Ok(()),
+            2 => YuvError::ZeroBaseSize,
+            3 => YuvError::SizeTooLarge,
+            4 => YuvError::MatrixNotAccepted,
+            5 => YuvError::BandRowsMismatch,
+            6 => YuvError::DestinationSizeMismatch(size),
+            7 => YuvError::MinimumStrideSizeMismatch(size),
+            8 => YuvError::LumaPlaneMinimumSizeMismatch(size),
+            9 => YuvError::LumaPlaneSizeMismatch(size),
+            10 => YuvError::UPlaneMinimumSizeMismatch(size),
+            11 => YuvError::VPlaneMinimumSizeMismatch(size),
+            12 => YuvError::WholeRowsMismatch(size),
+            13 => YuvError::CarriedRowSizeMismatch(size),
+            _ => YuvError::MalformedRequest,
+        })
+    }
+}
+
+impl Display for YuvError {
+    fn fmt(&self, f: &mut Formatter<'_>) -> std::fmt::Result {
+        let what = match self {
+            YuvError::MalformedRequest => "a setting has no meaning",
+            YuvError::ZeroBaseSize => "width or height is 0",
+            YuvError::SizeTooLarge => "width or height is above 16384",
+            YuvError::MatrixNotAccepted => "kr or kb is not from 0 to 0.5",
+            YuvError::BandRowsMismatch => "the band has no rows, or more than remain",
+            YuvError::DestinationSizeMismatch(_) => "the source is too short",
+            YuvError::MinimumStrideSizeMismatch(_) => "the source's stride is below its row",
+            YuvError::LumaPlaneMinimumSizeMismatch(_) => "the stride of Y is below its row",
+            YuvError::LumaPlaneSizeMismatch(_) => "Y is too short",
+            YuvError::UPlaneMinimumSizeMismatch(_) => "U is too narrow or too short",
+            YuvError::VPlaneMinimumSizeMismatch(_) => "V is too narrow or too short",
+            YuvError::WholeRowsMismatch(_) => "a buffer is not exactly its rows long",
+            YuvError::CarriedRowSizeMismatch(_) => "the carried row is too short",
+        };
+        write!(f, "refused {}: {what}", self.number())?;
+        match self.size() {
+            Some(size) => write!(
+                f,
+                ", expected {}, received {}",
+                size.expected, size.received
+            ),
+            None => Ok(()),
+        }
+    }
+}
+
+impl Error for YuvError {}

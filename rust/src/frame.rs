@@ -1,0 +1,155 @@
+//! Frame calls: the eight functions of the original, and the one under them.
+
+use crate::error::YuvError;
+use crate::ffi;
+use crate::image::YuvPlanarImageMut;
+use crate::settings::{
+    FrameDescription, SharpYuvGammaTransfer, YuvChromaSubsampling, YuvRange, YuvSourceChannels,
+    YuvStandardMatrix,
+};
+
+/// Converts a whole frame, or answers one refusal (2, 3, 4, 6 to 12) and writes no byte.
+///
+/// `source` is exactly `stride` × height bytes; `y`, `u`, `v` are exactly their stride times their rows.
+pub fn rgbx_to_sharp_yuv(
+    frame: &FrameDescription,
+    source: &[u8],
+    stride: u32,
+    y: &mut [u8],
+    u: &mut [u8],
+    v: &mut [u8],
+) -> Result<(), YuvError> {
+    let codes = frame.codes();
+    let (mut expected, mut received) = (0, 0);
+    // SAFETY: each pointer is that of a slice beside its own length, or of a local; no two overlap, as the borrows say.
+    let number = unsafe {
+        ffi::segvartin_frame(
+            frame.width,
+            frame.height,
+            codes.channels,
+            codes.sampling,
+            codes.range,
+            codes.matrix,
+            codes.kr,
+            codes.kb,
+            codes.transfer,
+            source.as_ptr(),
+            source.len(),
+            stride,
+            y.as_mut_ptr(),
+            y.len(),
+            frame.y_stride,
+            u.as_mut_ptr(),
+            u.len(),
+            frame.u_stride,
+            v.as_mut_ptr(),
+            v.len(),
+            frame.v_stride,
+            &mut expected,
+            &mut received,
+        )
+    };
+    YuvError::answer(number, expected, received)
+}
+
+macro_rules! sharp_yuv {
+    ($name:ident, $source:ident, $stride:ident, $channels:ident, $sampling:ident, $what:literal) => {
+        #[doc = $what]
+        ///
+        /// Refused (2, 3, 4, 6 to 12) with no byte written where size, matrix, strides or lengths do not fit.
+        pub fn $name(
+            planar_image: &mut YuvPlanarImageMut<u8>,
+            $source: &[u8],
+            $stride: u32,
+            range: YuvRange,
+            matrix: YuvStandardMatrix,
+            gamma_transfer: SharpYuvGammaTransfer,
+        ) -> Result<(), YuvError> {
+            let frame = FrameDescription {
+                width: planar_image.width,
+                height: planar_image.height,
+                channels: YuvSourceChannels::$channels,
+                sampling: YuvChromaSubsampling::$sampling,
+                range,
+                matrix,
+                transfer: gamma_transfer,
+                y_stride: planar_image.y_stride,
+                u_stride: planar_image.u_stride,
+                v_stride: planar_image.v_stride,
+            };
+            rgbx_to_sharp_yuv(
+                &frame,
+                $source,
+                $stride,
+                planar_image.y_plane.borrow_mut(),
+                planar_image.u_plane.borrow_mut(),
+                planar_image.v_plane.borrow_mut(),
+            )
+        }
+    };
+}
+
+sharp_yuv!(
+    rgb_to_sharp_yuv422,
+    rgb,
+    rgb_stride,
+    Rgb,
+    Yuv422,
+    "Convert RGB image data to YUV 4:2:2 planar format with bi-linear interpolation and gamma correction."
+);
+sharp_yuv!(
+    bgr_to_sharp_yuv422,
+    bgr,
+    bgr_stride,
+    Bgr,
+    Yuv422,
+    "Convert BGR image data to YUV 4:2:2 planar format with bi-linear interpolation and gamma correction."
+);
+sharp_yuv!(
+    rgba_to_sharp_yuv422,
+    rgba,
+    rgba_stride,
+    Rgba,
+    Yuv422,
+    "Convert RGBA image data to YUV 4:2:2 planar format with bi-linear interpolation and gamma correction."
+);
+sharp_yuv!(
+    bgra_to_sharp_yuv422,
+    bgra,
+    bgra_stride,
+    Bgra,
+    Yuv422,
+    "Convert BGRA image data to YUV 4:2:2 planar format with bi-linear interpolation and gamma correction."
+);
+sharp_yuv!(
+    rgb_to_sharp_yuv420,
+    rgb,
+    rgb_stride,
+    Rgb,
+    Yuv420,
+    "Convert RGB image data to YUV 4:2:0 planar format with bi-linear interpolation and gamma correction."
+);
+sharp_yuv!(
+    bgr_to_sharp_yuv420,
+    bgr,
+    bgr_stride,
+    Bgr,
+    Yuv420,
+    "Convert BGR image data to YUV 4:2:0 planar format with bi-linear interpolation and gamma correction."
+);
+sharp_yuv!(
+    rgba_to_sharp_yuv420,
+    rgba,
+    rgba_stride,
+    Rgba,
+    Yuv420,
+    "Convert RGBA image data to YUV 4:2:0 planar format with bi-linear interpolation and gamma correction."
+);
+sharp_yuv!(
+    bgra_to_sharp_yuv420,
+    bgra,
+    bgra_stride,
+    Bgra,
+    Yuv420,
+    "Convert BGRA image data to YUV 4:2:0 planar format with bi-linear interpolation and gamma correction."
+);

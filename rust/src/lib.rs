@@ -1,0 +1,29 @@
+//! RGB frames to planar YUV 4:2:0 and 4:2:2 over the proved library, under the names and with the argument order of yuvutils-rs's sharp path.
+//!
+//! Every call answers finished work or one numbered refusal ([`YuvError`]), for all sizes, strides, lengths and settings; a refusal writes no
+//! byte. Nothing here panics.
+//!
+//! ```
+//! use segvartin::*;
+//!
+//! let mut image = YuvPlanarImageMut::<u8>::alloc(1, 1, YuvChromaSubsampling::Yuv420);
+//! rgb_to_sharp_yuv420(&mut image, &[255, 0, 0], 3, YuvRange::Full, YuvStandardMatrix::Bt601, SharpYuvGammaTransfer::Srgb)?;
+//! assert_eq!((image.y_plane.borrow(), image.u_plane.borrow(), image.v_plane.borrow()), (&[76][..], &[85][..], &[255][..]));
+//! # Ok::<(), YuvError>(())
+//! ```
+
+mod bands;
+mod error;
+mod ffi;
+mod frame;
+mod image;
+mod settings;
+
+pub use bands::FrameState;
+pub use error::{MismatchedSize, YuvError};
+pub use frame::*;
+pub use image::{BufferStoreMut, YuvPlanarImageMut};
+pub use settings::{
+    FrameDescription, SharpYuvGammaTransfer, YuvChromaSubsampling, YuvRange, YuvSourceChannels,
+    YuvStandardMatrix,
+};

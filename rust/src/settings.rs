@@ -1,0 +1,116 @@
+//! The settings of a call, and the codes by which the library knows them.
+
+/// Order of the bytes of a pixel.
+#[derive(Debug, Copy, Clone, PartialEq, Eq)]
+pub enum YuvSourceChannels {
+    Rgb,
+    Rgba,
+    Bgra,
+    Bgr,
+}
+
+/// How luma and chroma share pixels.
+#[derive(Debug, Copy, Clone, PartialEq, Eq)]
+pub enum YuvChromaSubsampling {
+    Yuv420,
+    Yuv422,
+}
+
+/// Declares YUV range TV (limited) or Full.
+#[derive(Debug, Copy, Clone, PartialEq, Eq)]
+pub enum YuvRange {
+    /// Y 16 to 235, U and V 16 to 240.
+    Limited,
+    /// 0 to 255.
+    Full,
+}
+
+/// Declares standard prebuilt YUV conversion matrices.
+#[derive(Debug, Copy, Clone, PartialEq)]
+pub enum YuvStandardMatrix {
+    /// If you want to encode JPEG YUV use Bt.601 + Full Range.
+    Bt601,
+    Bt709,
+    Bt2020,
+    Smpte240,
+    Bt470_6,
+    Fcc,
+    /// kr, then kb, each from 0 to 0.5; anything else is refused.
+    Custom(f32, f32),
+}
+
+/// Declares transfer function for transfer components into a linear colorspace and its inverse.
+#[derive(Debug, Copy, Clone, PartialEq, Eq)]
+pub enum SharpYuvGammaTransfer {
+    Srgb,
+    Rec709,
+    /// Pure gamma 2.2.
+    Gamma2p2,
+    /// Pure gamma 2.8.
+    Gamma2p8,
+}
+
+/// A frame's size, settings and plane strides. Strides are in bytes.
+#[derive(Debug, Copy, Clone, PartialEq)]
+pub struct FrameDescription {
+    pub width: u32,
+    pub height: u32,
+    pub channels: YuvSourceChannels,
+    pub sampling: YuvChromaSubsampling,
+    pub range: YuvRange,
+    pub matrix: YuvStandardMatrix,
+    pub transfer: SharpYuvGammaTransfer,
+    pub y_stride: u32,
+    pub u_stride: u32,
+    pub v_stride: u32,
+}
+
+/// The settings as include/segvartin.h numbers them.
+pub(crate) struct Codes {
+    pub channels: u32,
+    pub sampling: u32,
+    pub range: u32,
+    pub matrix: u32,
+    pub kr: f32,
+    pub kb: f32,
+    pub transfer: u32,
+}
+
+impl FrameDescription {
+    pub(crate) fn codes(&self) -> Codes {
+        let (matrix, kr, kb) = match self.matrix {
+            YuvStandardMatrix::Bt601 => (0, 0.0, 0.0),
+            YuvStandardMatrix::Bt709 => (1, 0.0, 0.0),
+            YuvStandardMatrix::Bt2020 => (2, 0.0, 0.0),
+            YuvStandardMatrix::Smpte240 => (3, 0.0, 0.0),
+            YuvStandardMatrix::Bt470_6 => (4, 0.0, 0.0),
+            YuvStandardMatrix::Fcc => (5, 0.0, 0.0),
+            YuvStandardMatrix::Custom(kr, kb) => (6, kr, kb),
+        };
+        Codes {
+            channels: match self.channels {
+                YuvSourceChannels::Rgb => 0,
+                YuvSourceChannels::Rgba => 1,
+                YuvSourceChannels::Bgra => 2,
+                YuvSourceChannels::Bgr => 3,
+            },
+            sampling: match self.sampling {
+                YuvChromaSubsampling::Yuv420 => 0,
+                YuvChromaSubsampling::Yuv422 => 1,
+            },
+            range: match self.range {
+                YuvRange::Limited => 0,
+                YuvRange::Full => 1,
+            },
+            matrix,
+            kr,
+            kb,
+            transfer: match self.transfer {
+                SharpYuvGammaTransfer::Srgb => 0,
+                SharpYuvGammaTransfer::Rec709 => 1,
+                SharpYuvGammaTransfer::Gamma2p2 => 2,
+                SharpYuvGammaTransfer::Gamma2p8 => 3,
+            },
+        }
+    }
+}

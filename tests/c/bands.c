@@ -1,0 +1,177 @@
+/* Band calls: every cut of a small frame leaves what one frame call leaves, whatever is refused between the bands. */
+#include "lent.h"
+
+#include "segvartin.h"
+
+#define WIDTH 5
+#define MOST_ROWS 7
+
+static const uint32_t pixel_bytes[4] = {3, 4, 4, 3};
+
+typedef struct planes {
+    lent y, u, v;
+} planes;
+
+static segvartin_description description(uint32_t channels, uint32_t sampling, uint32_t height) {
+    segvartin_description d = {0};
+    d.width = WIDTH;
+    d.height = height;
+    d.channels = channels;
+    d.sampling = sampling;
+    d.range = SEGVARTIN_LIMITED;
+    d.matrix = SEGVARTIN_CUSTOM;
+    d.kr = 0.25f;
+    d.kb = 0.0625f;
+    d.transfer = SEGVARTIN_REC709;
+    d.y_stride = 6;
+    d.u_stride = 4;
+    d.v_stride = 3;
+    return d;
+}
+
+static planes lend_planes(const segvartin_description *d) {
+    size_t rows = d->sampling == SEGVARTIN_YUV420 ? d->height / 2 + d->height % 2 : d->height;
+    planes p = {lend(d->y_stride * (size_t)d->height), lend(d->u_stride * rows), lend(d->v_stride * rows)};
+    return p;
+}
+
+static void give_back_planes(planes *p) {
+    give_back(&p->y);
+    give_back(&p->u);
+    give_back(&p->v);
+}
+
+static segvartin_bytes_mut all(const lent *b) {
+    segvartin_bytes_mut bytes = {b->at, b->len};
+    return bytes;
+}
+
+static int same(const lent *a, const lent *b) { return a->len == b->len && memcmp(a->at, b->at, a->len) == 0; }
+
+/* Pixel bytes of row r, different in each place. */
+static void paint_row(uint8_t *row, uint32_t r, uint32_t size) {
+    for (uint32_t i = 0; i < size; i++) row[i] = (uint8_t)(r * r * 41 + i * i * 13 + i * 7);
+}
+
+static lent source_rows(uint32_t first, uint32_t rows, uint32_t size, uint32_t stride) {
+    lent source = lend((size_t)stride * rows);
+    for (uint32_t r = 0; r < rows; r++) paint_row(source.at + (size_t)r * stride, first + r, size);
+    return source;
+}
+
+/* A refusal with its numbers; state, planes and carried row are as they were. */
+static void refused(segvartin_state state, uint32_t rows, size_t source_len, uint32_t stride, planes *p, lent *carried, size_t carried_len,
+                    uint32_t number, size_t expected, size_t received, int line) {
+    lent source = lend(source_len);
+    lent before[4] = {lend(p->y.len), lend(p->u.len), lend(p->v.len), lend(carried->len)};
+    const lent *now[4] = {&p->y, &p->u, &p->v, carried};
+    for (int i = 0; i < 4; i++) memcpy(before[i].at, now[i]->at, now[i]->len);
+    segvartin_state after = state;
+    segvartin_bytes from = {source.at, source.len};
+    segvartin_bytes_mut row = {carried->at, carried_len};
+    segvartin_answer a = segvartin_convert_band(&after, rows, from, stride, all(&p->y), all(&p->u), all(&p->v), row);
+    int holds = a.number == number && a.expected == expected && a.received == received;
+    if (!holds) fprintf(stderr, "answered %u %zu %zu\n", a.number, a.expected, a.received);
+    expect(holds, "number, expected, received of the refusal", line);
+    expect(after.done == state.done, "a refusal leaves the rows done", line);
+    for (int i = 0; i < 4; i++) {
+        expect(same(&before[i], now[i]), "a refusal writes no byte", line);
+        give_back(&before[i]);
+    }
+    give_back(&source);
+}
+
+static void refusals(segvartin_state state, planes *p, lent *carried) {
+    uint32_t size = WIDTH * pixel_bytes[state.frame.channels], remain = state.frame.height - state.done;
+    segvartin_state other = state;
+    other.frame.transfer = 4;
+    refused(other, 1, size, size, p, carried, carried->len, 1, 0, 0, __LINE__);
+    other = state;
+    other.frame.height = 0;
+    refused(other, 1, size, size, p, carried, carried->len, 2, 0, 0, __LINE__);
+    other = state;
+    other.frame.width = 16385;
+    refused(other, 1, size, size, p, carried, carried->len, 3, 0, 0, __LINE__);
+    other = state;
+    other.frame.kb = 0.75f;
+    refused(other, 0, size, size, p, carried, carried->len, 4, 0, 0, __LINE__);
+    refused(state, 0, 0, size, p, carried, carried->len, 5, 0, 0, __LINE__);
+    refused(state, remain + 1, size, size, p, carried, carried->len, 5, 0, 0, __LINE__);
+    other = state;
+    other.done = state.frame.height;
+    refused(other, 1, size, size, p, carried, carried->len, 5, 0, 0, __LINE__);
+    other.done = UINT32_MAX;
+    refused(other, 1, size, size, p, carried, carried->len, 5, 0, 0, __LINE__);
+    if (remain == 0) return;
+    refused(state, 1, size - 1, size, p, carried, carried->len, 6, size, size - 1, __LINE__);
+    refused(state, 1, size, size - 1, p, carried, carried->len, 7, size, size - 1, __LINE__);
+    other = state;
+    other.frame.y_stride = 4;
+    refused(other, 1, size, size, p, carried, carried->len, 8, WIDTH * (size_t)state.frame.height, 4 * (size_t)state.frame.height, __LINE__);
+    refused(state, 1, size + 1, size, p, carried, carried->len, 12, size, size + 1, __LINE__);
+    refused(state, 1, size, size, p, carried, 3 * WIDTH - 1, 13, 3 * WIDTH, 3 * WIDTH - 1, __LINE__);
+    refused(state, 1, size, size, p, carried, 0, 13, 3 * WIDTH, 0, __LINE__);
+}
+
+static void every_cut(uint32_t channels, uint32_t sampling, uint32_t height) {
+    segvartin_description d = description(channels, sampling, height);
+    uint32_t size = WIDTH * pixel_bytes[channels];
+    planes whole = lend_planes(&d);
+    lent source = source_rows(0, height, size, size);
+    segvartin_bytes from = {source.at, source.len};
+    EXPECT(segvartin_convert_frame(&d, from, size, all(&whole.y), all(&whole.u), all(&whole.v)).number == SEGVARTIN_FINISHED);
+    /* bit r set: a band ends after row r */
+    for (uint32_t cuts = 0; cuts < 1u << (height - 1); cuts++) {
+        planes p = lend_planes(&d);
+        lent carried = lend(3 * WIDTH);
+        segvartin_state state;
+        state.done = 99;
+        EXPECT(segvartin_open_frame(&state, &d).number == SEGVARTIN_FINISHED && state.done == 0);
+        for (uint32_t end = 1; end <= height; end++) {
+            if (end < height && !(cuts >> (end - 1) & 1)) continue;
+            if (cuts % 7 == 0) refusals(state, &p, &carried);
+            uint32_t first = state.done, stride = size + first % 3;
+            lent band = source_rows(first, end - first, size, stride);
+            segvartin_bytes rows = {band.at, band.len};
+            segvartin_answer a = segvartin_convert_band(&state, end - first, rows, stride, all(&p.y), all(&p.u), all(&p.v), all(&carried));
+            EXPECT(a.number == SEGVARTIN_FINISHED && a.expected == 0 && a.received == 0 && state.done == end);
+            give_back(&band);
+        }
+        refusals(state, &p, &carried);
+        EXPECT(same(&p.y, &whole.y) && same(&p.u, &whole.u) && same(&p.v, &whole.v));
+        if (sampling == SEGVARTIN_YUV422) EXPECT(untouched(&carried));
+        give_back(&carried);
+        give_back_planes(&p);
+    }
+    give_back(&source);
+    give_back_planes(&whole);
+}
+
+static void refused_opening(segvartin_description d, uint32_t number) {
+    segvartin_state state;
+    segvartin_answer a = segvartin_open_frame(&state, &d);
+    EXPECT(a.number == number && a.expected == 0 && a.received == 0 && state.done == 0);
+}
+
+static void openings(void) {
+    segvartin_description d = description(SEGVARTIN_RGB, SEGVARTIN_YUV420, 3), e;
+    e = d, e.channels = 4, e.width = 0, refused_opening(e, 1);
+    e = d, e.sampling = 2, refused_opening(e, 1);
+    e = d, e.range = UINT32_MAX, refused_opening(e, 1);
+    e = d, e.matrix = 7, refused_opening(e, 1);
+    e = d, e.transfer = 4, refused_opening(e, 1);
+    e = d, e.width = 0, refused_opening(e, 2);
+    e = d, e.height = 16385, refused_opening(e, 3);
+    e = d, e.kr = -0.25f, refused_opening(e, 4);
+    /* an opening says nothing of plane strides */
+    e = d, e.y_stride = 0, e.u_stride = UINT32_MAX, refused_opening(e, 0);
+}
+
+int main(void) {
+    openings();
+    for (closed_before = 0; closed_before < 2; closed_before++)
+        for (uint32_t channels = 0; channels < 4; channels += 1)
+            for (uint32_t sampling = 0; sampling < 2; sampling++)
+                for (uint32_t height = 1; height <= MOST_ROWS; height += 2 - height % 2) every_cut(channels, sampling, height);
+    return finish("bands");
+}
