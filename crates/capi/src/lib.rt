@@ -3,12 +3,11 @@ use sharp_bands::FrameAnswer;
 use sharp_bands::FrameState;
 use sharp_planes::FrameDescription;
 use sharp_row::YuvSettings;
-use yuv_error::MismatchedSize;
 use yuv_error::YuvAnswer;
 use yuv_error::YuvError;
 use yuv_support::YuvStandardMatrix;
 ghost use mathlib.Core.Path.{_≡_};
-ghost use Rattle.yuv_error.specs.Numbers.{numbers, sized, errorNumbers, numbersOf};
+ghost use Rattle.yuv_error.specs.Numbers.{numbers, numbersOf};
 ghost use Rattle.capi.specs.Codes.{codesOf, matrixOf, settingsOf, unknownCode, frameOf};
 ghost use Rattle.capi.specs.Calls.{FrameAnswered, FrameCalled, OpenAnswered, OpenCalled, BandAnswered, BandCalled};
 
@@ -24,13 +23,6 @@ struct SettingCodes {
     transfer: u32,
     kr: f32,
     kb: f32,
-}
-
-// An answer as C gets it: 0 for finished work, or a refusal's number; and what the refusal carries.
-struct AnswerNumbers {
-    number: u32,
-    expected: usize,
-    received: usize,
 }
 
 // Whether one of the codes has no meaning.
@@ -88,62 +80,14 @@ fn describe(
     }
 }
 
-fn refusal(number: u32) -> AnswerNumbers
-    ensures { λ r. ⌜ numbers (r .number) (r .expected) (r .received) ≡ numbers number 0 0 ⌝ }
-{
-    AnswerNumbers {
-        number,
-        expected: 0,
-        received: 0,
-    }
-}
-
-fn refusal_of(number: u32, size: MismatchedSize) -> AnswerNumbers
-    ensures { λ r. ⌜ numbers (r .number) (r .expected) (r .received) ≡ sized number size ⌝ }
-{
-    AnswerNumbers {
-        number,
-        expected: size.expected,
-        received: size.received,
-    }
-}
-
-fn error_numbers(e: YuvError) -> AnswerNumbers
-    ensures { λ r. ⌜ numbers (r .number) (r .expected) (r .received) ≡ errorNumbers e ⌝ }
-{
-    match e {
-        YuvError::MalformedRequest => refusal(1),
-        YuvError::ZeroBaseSize => refusal(2),
-        YuvError::SizeTooLarge => refusal(3),
-        YuvError::MatrixNotAccepted => refusal(4),
-        YuvError::BandRowsMismatch => refusal(5),
-        YuvError::DestinationSizeMismatch(size) => refusal_of(6, size),
-        YuvError::MinimumStrideSizeMismatch(size) => refusal_of(7, size),
-        YuvError::LumaPlaneMinimumSizeMismatch(size) => refusal_of(8, size),
-        YuvError::LumaPlaneSizeMismatch(size) => refusal_of(9, size),
-        YuvError::UPlaneMinimumSizeMismatch(size) => refusal_of(10, size),
-        YuvError::VPlaneMinimumSizeMismatch(size) => refusal_of(11, size),
-        YuvError::WholeRowsMismatch(size) => refusal_of(12, size),
-        YuvError::CarriedRowSizeMismatch(size) => refusal_of(13, size),
-    }
-}
-
-fn answer_numbers(answer: YuvAnswer) -> AnswerNumbers
-    ensures { λ r. ⌜ numbers (r .number) (r .expected) (r .received) ≡ numbersOf answer ⌝ }
-{
-    match answer {
-        YuvAnswer::Finished => refusal(0),
-        YuvAnswer::Refused(e) => error_numbers(e),
-    }
-}
-
-// Writes what an answer carries, and returns its number.
+// Writes what an answer carries, and returns its number: 0 for finished work.
 fn tell(answer: YuvAnswer, expected: &mut usize, received: &mut usize) -> u32
     ensures { λ n. ⌜ numbers n (now (expected .exit)) (now (received .exit)) ≡ numbersOf answer ⌝ }
 {
-    let told = answer_numbers(answer);
-    *expected = told.expected;
-    *received = told.received;
+    let told = error_numbers::answer_numbers(answer);
+    let size = told.size;
+    *expected = size.expected;
+    *received = size.received;
     told.number
 }
 

@@ -35,15 +35,14 @@ abbrev pub Within : ℕ → ℕ → ℕ → Type 0
 Within low high n = (low ≤ n / 8192) × (n / 8192 ≤ high) × (n < 256 * 8192)
 
 -- the sum is a number that is not negative and lies so
-pub record Floored (low high : ℕ) (sum : ℤ) : Type 0 where
-  pub value : ℕ
+pub record Floored (low high value : ℕ) (sum : ℤ) : Type 0 where
   pub is : sum ≡ pos value
   pub least : low ≤ value / 8192
   pub most : value / 8192 ≤ high
   pub below : value < 256 * 8192
 
-floored : {low high : ℕ} {sum : ℤ} (n : ℕ) → sum ≡ pos n → Within low high n → Floored low high sum
-floored n e h = record { value = n; is = e; least = h .0; most = h .1; below = h .2 }
+floored : {low high : ℕ} {sum : ℤ} (n : ℕ) → sum ≡ pos n → Within low high n → Floored low high n sum
+floored n e h = record { is = e; least = h .0; most = h .1; below = h .2 }
 
 -- each product, and each sum on the way, is an i32
 pub record SumFits (x y z : ℤ) (r g b bias : ℕ) : Type 0 where
@@ -113,14 +112,14 @@ chroma-within Full a n s h k l = omega arith
 
 -- ---- a pixel of bytes r, g, b
 module _ {range : YuvRange} {t : CbCrForwardTransformI32} (s : Shape range t) (r g b : ℕ) (hr : r < 256) (hg : g < 256) (hb : b < 256) where
-  pub luma-sum : Floored (bias range) (bias range + yuvRange range .«range_y») (weighed (t .yr) (t .yg) (t .yb) r g b (lumaBias range))
+  pub luma-sum : Floored (bias range) (bias range + yuvRange range .«range_y») (r * s .luma-r + g * s .luma-g + b * s .luma-b + lumaBias range) (weighed (t .yr) (t .yg) (t .yb) r g b (lumaBias range))
   luma-sum =
       let n = r * s .luma-r + g * s .luma-g + b * s .luma-b in
       let sum = s .luma-r + s .luma-g + s .luma-b in
       let n≤ : n ≤ 255 * sum = omega (arith, byte-times r (s .luma-r) hr, byte-times g (s .luma-g) hg, byte-times b (s .luma-b) hb) in
       floored (n + lumaBias range) (λ i. weighed (s .yr i) (s .yg i) (s .yb i) r g b (lumaBias range)) (luma-within range n sum n≤ (s .luma-most))
 
-  pub cb-sum : Floored (bias range) (bias range + yuvRange range .«range_uv») (weighed (t .«cb_r») (t .«cb_g») (t .«cb_b») r g b chromaBias)
+  pub cb-sum : Floored (bias range) (bias range + yuvRange range .«range_uv») (b * chromaTop range + chromaBias - (r * s .cb-r + g * s .cb-g)) (weighed (t .«cb_r») (t .«cb_g») (t .«cb_b») r g b chromaBias)
   cb-sum =
       let a = b * chromaTop range in
       let n = r * s .cb-r + g * s .cb-g in
@@ -131,7 +130,7 @@ module _ {range : YuvRange} {t : CbCrForwardTransformI32} (s : Shape range t) (r
       ∙ rw (mul-neg r (s .cb-r), mul-neg g (s .cb-g)) (taken-first (r * s .cb-r) (g * s .cb-g) a chromaBias (h .0)))
       (h .1)
 
-  pub cr-sum : Floored (bias range) (bias range + yuvRange range .«range_uv») (weighed (t .«cr_r») (t .«cr_g») (t .«cr_b») r g b chromaBias)
+  pub cr-sum : Floored (bias range) (bias range + yuvRange range .«range_uv») (r * chromaTop range + chromaBias - (g * s .cr-g + b * s .cr-b)) (weighed (t .«cr_r») (t .«cr_g») (t .«cr_b») r g b chromaBias)
   cr-sum =
       let a = r * chromaTop range in
       let n = g * s .cr-g + b * s .cr-b in

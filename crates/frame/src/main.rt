@@ -31,7 +31,8 @@ fn main() {
         }
         Response::Refused(e) => {
             io::write_all(STDOUT_FILENO, b"refused ");
-            io::print_decimal(STDOUT_FILENO, frame_request::refusal_number(e));
+            let numbers = error_numbers::error_numbers(e);
+            io::print_decimal(STDOUT_FILENO, numbers.number as u64);
             io::write_all(STDOUT_FILENO, b"\n");
         }
     }

@@ -1,12 +1,12 @@
 -- What the program can answer, number by number: 1, 2, 3, then 6 for an input too short and 12 for one too long. 4 and 7 to 11 never:
 -- no code means a Custom matrix, and the planes are lent without padding. Assumes nothing.
-use Prim.Native.Nat.{ℕ, zero, suc, _+_, _*_, _-_, _≤_, _<_}
-use mathlib.Core.Path.{_≡_, refl, sym, ap, _∙_}
+use Prim.Native.Nat.{ℕ, zero, suc, _+_, _*_, _-_, _≤_}
+use mathlib.Core.Path.{_≡_, refl, ap, _∙_}
 use mathlib.Core.Bool.{Bool, true, false, cond, not, _||_}
-use mathlib.Core.List.{List, [], _∷_, _++_}
-use native.Mathlib.Nat.{le-refl, mul-comm, mul-le-mul, mul-le-mul-left, mul-le-mul-right, mul-one, one-mul, mul-add, add-mul}
+use mathlib.Core.List.{List, _++_}
+use native.Mathlib.Nat.{le-refl, mul-le-mul, mul-le-mul-left, mul-le-mul-right, mul-one, one-mul, mul-add}
 use native.Mathlib.Omega.{arith}
-use borrow.Author.Tests.{lt-ltb, le-ltb, ltb-true, ltb-false, eq-eqb, ne-eqb, eqb-false}
+use borrow.Author.Tests.{le-ltb, ltb-true, ltb-false, eq-eqb, ne-eqb, eqb-false}
 use lib.Dec.{ltb, eqb}
 use lib.ListN.{length, getD, drop}
 use Rattle.yuv_support.specs.declared.YuvStandardMatrix.{YuvStandardMatrix}
@@ -15,13 +15,14 @@ use Rattle.yuv_support.specs.Matrix.{accepted}
 use Rattle.yuv_error.specs.declared.LentBuffer.{LentBuffer}
 use Rattle.yuv_error.specs.Numbers.{Numbers, numbers}
 use Rattle.yuv_error.specs.Rules.{Rule, firstOf, matrixRules, leastOf, wholeOf, tooShort, tooNarrow, notWhole, bufferRules as Rules·bufferRules}
-use Rattle.yuv_error.specs.Lowest.{rising, Lowest}
+use Rattle.yuv_error.specs.Lowest.{Lowest}
+use Rattle.yuv_error.proofs.Accepted.{neither}
 use Rattle.yuv_error.proofs.Lowest.{first-is-lowest}
+use Rattle.setting_codes.specs.Codes.{matrixCodes}
 use Rattle.sharp_planes.specs.declared.FrameDescription.{FrameDescription}
 use Rattle.sharp_planes.proofs.Numbers.{chroma-rows}
 use Rattle.sharp_rgba_to_yuv.specs.Frame.{sourceOf, yOf, uOf, vOf}
-use Rattle.frame_request.specs.Request.{matrixCodes, settingsOf, frameOf, sourceStride, lumaSize, chromaSize, malformed, bufferRules, requestRules}
-use Rattle.frame_request.proofs.Checked.{neither}
+use Rattle.frame_request.specs.Request.{settingsOf, frameOf, sourceStride, lumaSize, chromaSize, malformed, bufferRules, requestRules}
 
 -- the rules stand by number, so the first that holds has the lowest number whose condition holds
 pub request-lowest : (input : List ℕ) → Lowest (requestRules input) (firstOf (requestRules input))
@@ -58,9 +59,6 @@ full n rows h = record {
   short = le-ltb (n * rows) (n * (rows - 1) + n) (omega (arith, least-whole n rows h));
   part = ap not (eq-eqb (n * rows) (n * rows) refl);
 }
-
-skip : (r : Rule) (rs : List Rule) → r .holds ≡ false → firstOf (r ∷ rs) ≡ firstOf rs
-skip r rs h = rw h
 
 -- ---- what is answered
 

@@ -1,8 +1,8 @@
 -- What a request is known to be once it was not refused with 1, 2 or 3, and that what is asked of it then is asked of its frame call.
 -- Assumes nothing.
-use Prim.Native.Nat.{ℕ, _*_, _≤_}
+use Prim.Native.Nat.{ℕ, _≤_}
 use mathlib.Core.Path.{_≡_, refl, sym, ap, _∙_}
-use mathlib.Core.Bool.{Bool, true, false, cond, _||_, true≢false}
+use mathlib.Core.Bool.{true, false, _||_}
 use mathlib.Core.List.{List, _++_}
 use native.Mathlib.Nat.{mul-le-mul}
 use native.Mathlib.Omega.{arith}
@@ -11,17 +11,12 @@ use lib.Dec.{ltb, eqb}
 use lib.ListN.{length, drop}
 use Rattle.yuv_error.specs.Rules.{Rule, firstOf, sizeRules}
 use Rattle.yuv_error.proofs.First.{numbered, first-append, append-finished}
-use Rattle.yuv_error.proofs.Accepted.{none-holds}
-use Rattle.sharp_planes.specs.declared.FrameDescription.{FrameDescription}
+use Rattle.yuv_error.proofs.Accepted.{none-holds, neither}
 use Rattle.sharp_planes.proofs.Numbers.{chroma-rows}
 use Rattle.sharp_rgba_to_yuv.specs.Frame.{frameRules}
 use Rattle.frame_request.specs.declared.PlaneSizes.{PlaneSizes}
 use Rattle.frame_request.specs.Request.{frameOf, sourceStride, lumaSize, chromaSize, malformed, headerRules, areaRules, openingRules, bufferRules, requestRules}
 use Rattle.frame_request.specs.Packed.{Packed}
-
-pub neither : (a b : Bool) → a || b ≡ false → (a ≡ false) × (b ≡ false)
-neither true b h = absurd (true≢false h)
-neither false b h = (refl, h)
 
 pub record Checked (input : List ℕ) : Type 0 where
   pub header : 9 ≤ length input

@@ -1,17 +1,15 @@
 -- The output is painted plane by plane: a plane without padding is a run of bytes, and a run that is put behind those painted so far
 -- paints so many more. Assumes nothing.
-use Prim.Native.Nat.{ℕ, _+_, _*_, _-_, _/_, _%_, _≤_, _<_, zero-le}
+use Prim.Native.Nat.{ℕ, _+_, _*_, _-_, _≤_, _<_, zero-le}
 use mathlib.Core.Path.{_≡_, refl, sym, ap, subst, _∙_}
 use mathlib.Core.Bool.{Bool, cond}
-use mathlib.Core.List.{List, _++_}
+use mathlib.Core.List.{List}
 use native.Mathlib.Nat.{mod-lt, mul-comm, div-lt-iff-lt-mul}
 use native.Mathlib.Omega.{arith}
 use borrow.Author.Tests.{lt-ltb, le-ltb}
 use borrow.Rule.Slice.PartMut.{putMid}
 use lib.ListN.{length, getD, take, drop, length-take, length-drop, List·getD-eq-default}
-use lib.Seq.{take-at}
 use Rattle.yuv_support.specs.declared.YuvChromaSubsampling.{YuvChromaSubsampling}
-use Rattle.yuv_support.specs.declared.YuvChromaSubsampling.the-variants.{Yuv420, Yuv422}
 use Rattle.yuv_support.specs.Sampling.{chromaWidth, chromaHeight}
 use Rattle.sharp_row.specs.Painted.{Painted}
 use Rattle.sharp_row.proofs.Painted.{painted, painted-at, painted-none, painted-join}
@@ -20,7 +18,7 @@ use Rattle.sharp_planes.specs.Image.{Image, lumaAt, cbAt, crAt, finishedOf}
 use Rattle.sharp_planes.specs.Plane.{PlaneIs}
 use Rattle.sharp_planes.specs.Band.{Sharpened}
 use Rattle.sharp_planes.proofs.Planes.{written-in, plane-other}
-use Rattle.sharp_planes.proofs.Finished.{finished-all, finished-some}
+use Rattle.sharp_planes.proofs.Finished.{finished-none, finished-last}
 use Rattle.frame_request.specs.declared.PlaneSizes.{PlaneSizes}
 use Rattle.frame_request.specs.Request.{byteIn, outputAt, outputSize, lumaSize, chromaSize}
 use Rattle.frame_request.specs.Packed.{Packed}
@@ -38,19 +36,10 @@ plane-painted rows n f d e some h = painted (h .size) within past
     past : (p : ℕ) → n * rows ≤ p → getD e p 0 ≡ getD d p 0
     past p l = plane-other 0 rows n n f d e h p (λ i. omega (arith, div-lt-iff-lt-mul {k = n} {x = p} {y = rows} some .0 (i .row-most), mul-comm n rows))
 
--- all chroma rows are finished with the last row, and none before the first
-all-rows : (s : YuvChromaSubsampling) (h : ℕ) → finishedOf s h h ≡ chromaHeight s h
-all-rows Yuv420 h = finished-all h h refl
-all-rows Yuv422 h = refl
-
-no-rows : (s : YuvChromaSubsampling) (h : ℕ) → 1 ≤ h → finishedOf s h 0 ≡ 0
-no-rows Yuv420 h some = finished-some h 0 (λ e. omega arith)
-no-rows Yuv422 h some = refl
-
 chroma-painted : (s : YuvChromaSubsampling) (h stride n : ℕ) (f : ℕ → ℕ → ℕ) (d e : List ℕ) → 1 ≤ h → 1 ≤ n → stride ≡ n
     → PlaneIs (finishedOf s h 0) (finishedOf s h h) stride n f d e → Painted (n * chromaHeight s h) (byteIn f n) d e
 chroma-painted s h stride n f d e tall wide packed p =
-    plane-painted (chromaHeight s h) n f d e wide (rw (no-rows s h tall, all-rows s h, packed) at p)
+    plane-painted (chromaHeight s h) n f d e wide (rw (finished-none s h tall, finished-last s h, packed) at p)
 
 -- ---- a run of bytes
 
@@ -64,10 +53,6 @@ painted-put n m f d e part size room byte p =
   where
     long : length (take (length part) (drop n e)) ≡ length part
     long = length-take (length part) (drop n e) ∙ omega (arith, length-drop n e)
-
--- a part from the start on, lent, and read when it was back
-pub read-back : (k : ℕ) (xs ys : List ℕ) → length ys ≡ k → take k (drop 0 (putMid 0 k xs ys)) ≡ ys
-read-back k xs ys e = take-at ys _ k e
 
 -- ---- the output
 

@@ -1,18 +1,18 @@
 -- The program reads one byte past the largest request, 9 + 4 × 16,384 bytes, and no further. It is enough: an input that is answered with
 -- planes is no longer than that, and one that is longer is refused with the number that its first 65,546 bytes are refused with.
 -- Assumes nothing.
-use Prim.Native.Nat.{ℕ, _+_, _*_, _≤_, _<_, min}
+use Prim.Native.Nat.{ℕ, _*_, _≤_, _<_}
 use mathlib.Core.Path.{_≡_, refl, sym, ap, _∙_}
 use mathlib.Core.Bool.{Bool, true, false, cond, _||_}
 use mathlib.Core.List.{List}
 use native.Mathlib.Nat.{mul-le-mul, mul-assoc, mul-comm}
 use native.Mathlib.Omega.{arith}
-use borrow.Author.Tests.{lt-ltb, le-ltb, ltb-true, ltb-false}
+use borrow.Author.Tests.{lt-ltb, le-ltb, ltb-false}
 use lib.Dec.{ltb, eqb, lit<}
 use lib.ListN.{length, getD, take, drop, length-take, length-drop}
 use lib.Seq.{take-all, getD-take}
 use Rattle.yuv_support.specs.Channels.{channelsCount}
-use Rattle.yuv_error.specs.Numbers.{Numbers, numbers}
+use Rattle.yuv_error.specs.Numbers.{Numbers}
 use Rattle.yuv_error.specs.Rules.{firstOf, matrixRules}
 use Rattle.yuv_error.proofs.First.{append-finished}
 use Rattle.yuv_error.proofs.Accepted.{accepted-buffers}

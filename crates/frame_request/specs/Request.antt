@@ -7,18 +7,14 @@ use mathlib.Core.Bool.{Bool, cond, _||_}
 use mathlib.Core.List.{List, [], _∷_, _++_}
 use lib.Dec.{ltb, leb}
 use lib.ListN.{length, getD, drop}
-use Rattle.yuv_support.specs.declared.YuvSourceChannels.{YuvSourceChannels}
-use Rattle.yuv_support.specs.declared.YuvSourceChannels.the-variants.{Rgb, Rgba, Bgra, Bgr}
-use Rattle.yuv_support.specs.declared.YuvChromaSubsampling.{YuvChromaSubsampling}
-use Rattle.yuv_support.specs.declared.YuvChromaSubsampling.the-variants.{Yuv420, Yuv422}
-use Rattle.yuv_support.specs.declared.YuvRange.{YuvRange}
-use Rattle.yuv_support.specs.declared.YuvRange.the-variants.{Limited, Full}
-use Rattle.yuv_support.specs.declared.YuvStandardMatrix.{YuvStandardMatrix}
-use Rattle.yuv_support.specs.declared.YuvStandardMatrix.the-variants.{Bt601, Bt709, Bt2020, Smpte240, «Bt470_6», Fcc}
+use Rattle.yuv_support.specs.declared.YuvSourceChannels.the-variants.{Rgb}
+use Rattle.yuv_support.specs.declared.YuvChromaSubsampling.the-variants.{Yuv420}
+use Rattle.yuv_support.specs.declared.YuvRange.the-variants.{Limited}
+use Rattle.yuv_support.specs.declared.YuvStandardMatrix.the-variants.{Bt601}
 use Rattle.yuv_support.specs.Channels.{channelsCount}
 use Rattle.yuv_support.specs.Sampling.{chromaWidth, chromaHeight}
-use Rattle.sharp_gamma.specs.declared.SharpYuvGammaTransfer.{SharpYuvGammaTransfer}
-use Rattle.sharp_gamma.specs.declared.SharpYuvGammaTransfer.the-variants.{Srgb, Rec709, Gamma2p2, Gamma2p8}
+use Rattle.sharp_gamma.specs.declared.SharpYuvGammaTransfer.the-variants.{Srgb}
+use Rattle.setting_codes.specs.Codes.{channelsCodes, samplingCodes, rangeCodes, matrixCodes, transferCodes}
 use Rattle.sharp_row.specs.declared.YuvSettings.{YuvSettings}
 use Rattle.sharp_row.specs.Painted.{Painted}
 use Rattle.yuv_error.specs.Numbers.{Numbers, numbers, errorNumbers}
@@ -30,26 +26,6 @@ use Rattle.frame_request.specs.declared.Response.{Response}
 use Rattle.frame_request.specs.declared.Response.the-variants.{Planes, Refused}
 
 -- ---- what a request says
-
--- the meaning of each code, at its place: "codes for channels (0 to 3: Rgb, Rgba, Bgra, Bgr)"
-abbrev pub channelsCodes : List YuvSourceChannels
-channelsCodes = Rgb ∷ Rgba ∷ Bgra ∷ Bgr ∷ []
-
--- "sampling (0 4:2:0, 1 4:2:2)"
-abbrev pub samplingCodes : List YuvChromaSubsampling
-samplingCodes = Yuv420 ∷ Yuv422 ∷ []
-
--- "range (0 Limited, 1 Full)"
-abbrev pub rangeCodes : List YuvRange
-rangeCodes = Limited ∷ Full ∷ []
-
--- "matrix (0 to 5: Bt601, Bt709, Bt2020, Smpte240, Bt470_6, Fcc)"
-abbrev pub matrixCodes : List YuvStandardMatrix
-matrixCodes = Bt601 ∷ Bt709 ∷ Bt2020 ∷ Smpte240 ∷ «Bt470_6» ∷ Fcc ∷ []
-
--- "transfer (0 to 3: Srgb, Rec709, Gamma2p2, Gamma2p8)"
-abbrev pub transferCodes : List SharpYuvGammaTransfer
-transferCodes = Srgb ∷ Rec709 ∷ Gamma2p2 ∷ Gamma2p8 ∷ []
 
 -- "w, h (u16, low byte first)"
 abbrev pub wordAt : List ℕ → ℕ → ℕ
@@ -88,17 +64,16 @@ chromaSize d = chromaWidth (d .width) * chromaHeight (d .settings .sampling) (d 
 -- ---- which requests are refused
 
 -- "1: program only: header under 9 bytes, or a code byte without a meaning."
-abbrev pub unknownCode : (channels sampling range matrix transfer : ℕ) → Bool
-unknownCode channels sampling range matrix transfer =
-    leb (length channelsCodes) channels
-    || leb (length samplingCodes) sampling
-    || leb (length rangeCodes) range
-    || leb (length matrixCodes) matrix
-    || leb (length transferCodes) transfer
+abbrev pub hasUnknown : List ℕ → Bool
+hasUnknown input =
+    leb (length channelsCodes) (getD input 4 0)
+    || leb (length samplingCodes) (getD input 5 0)
+    || leb (length rangeCodes) (getD input 6 0)
+    || leb (length matrixCodes) (getD input 7 0)
+    || leb (length transferCodes) (getD input 8 0)
 
 unfoldable pub malformed : List ℕ → Bool
-malformed input =
-    ltb (length input) 9 || unknownCode (getD input 4 0) (getD input 5 0) (getD input 6 0) (getD input 7 0) (getD input 8 0)
+malformed input = ltb (length input) 9 || hasUnknown input
 
 abbrev pub headerRules : List ℕ → List Rule
 headerRules input = rule 1 (malformed input) 0 0 ∷ []

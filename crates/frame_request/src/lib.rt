@@ -1,6 +1,4 @@
 // A request of the program `frame`, from its bytes to those that answer it.
-mod codes; // codes.rt: the code bytes of a header
-
 use sharp_planes::FrameDescription;
 use sharp_row::YuvSettings;
 use yuv_error::YuvAnswer;
@@ -10,12 +8,12 @@ ghost use mathlib.Core.List.{_++_};
 ghost use Prim.Native.Nat.{_+_, _*_, _≤_, _<_};
 ghost use lib.ListN.{length, take, drop};
 ghost use Rattle.sharp_row.specs.Painted.{Painted};
-ghost use Rattle.yuv_error.specs.Numbers.{errorNumbers, numbersOf};
+ghost use Rattle.yuv_error.specs.Numbers.{numbersOf};
 ghost use Rattle.yuv_error.specs.Rules.{firstOf, sizeRules};
 ghost use Rattle.sharp_planes.specs.Image.{sourceImage};
 ghost use Rattle.sharp_rgba_to_yuv.specs.Frame.{frameRules, taken};
-ghost use Rattle.frame_request.specs.Request.{settingsOf, frameOf, sourceStride, lumaSize, chromaSize, headerRules, areaRules, openingRules, outputAt, outputSize, RequestPost};
-ghost use Rattle.frame_request.specs.Packed.{Packed, responseOf};
+ghost use Rattle.frame_request.specs.Request.{settingsOf, frameOf, sourceStride, lumaSize, chromaSize, hasUnknown, headerRules, areaRules, openingRules, outputAt, outputSize, RequestPost};
+ghost use Rattle.frame_request.specs.Packed.{Packed, PlanesPost, responseOf};
 
 // The bytes of w, h and the five codes.
 const HEADER: usize = 9;
@@ -39,27 +37,6 @@ fn respond(answer: YuvAnswer, bytes: usize) -> Response
     }
 }
 
-// Document 01's number of a refusal.
-pub fn refusal_number(e: YuvError) -> u64
-    ensures { λ r. ⌜ r ≡ errorNumbers e .number ⌝ }
-{
-    match e {
-        YuvError::MalformedRequest => 1,
-        YuvError::ZeroBaseSize => 2,
-        YuvError::SizeTooLarge => 3,
-        YuvError::MatrixNotAccepted => 4,
-        YuvError::BandRowsMismatch => 5,
-        YuvError::DestinationSizeMismatch(_) => 6,
-        YuvError::MinimumStrideSizeMismatch(_) => 7,
-        YuvError::LumaPlaneMinimumSizeMismatch(_) => 8,
-        YuvError::LumaPlaneSizeMismatch(_) => 9,
-        YuvError::UPlaneMinimumSizeMismatch(_) => 10,
-        YuvError::VPlaneMinimumSizeMismatch(_) => 11,
-        YuvError::WholeRowsMismatch(_) => 12,
-        YuvError::CarriedRowSizeMismatch(_) => 13,
-    }
-}
-
 // A u16 of two bytes.
 fn word(low: u8, high: u8) -> u32
     ensures { λ r. ⌜ r ≡ low + 256 * high ⌝ }
@@ -72,11 +49,11 @@ fn settings_of(input: &[u8]) -> YuvSettings
     ensures { λ r. ⌜ r ≡ settingsOf (now (input .entry)) ⌝ }
 {
     YuvSettings {
-        channels: codes::channels_of(input[4]),
-        sampling: codes::sampling_of(input[5]),
-        range: codes::range_of(input[6]),
-        matrix: codes::matrix_of(input[7]),
-        transfer: codes::transfer_of(input[8]),
+        channels: setting_codes::channels_of(input[4] as u32),
+        sampling: setting_codes::sampling_of(input[5] as u32),
+        range: setting_codes::range_of(input[6] as u32),
+        matrix: setting_codes::matrix_of(input[7] as u32),
+        transfer: setting_codes::transfer_of(input[8] as u32),
     }
 }
 
@@ -98,13 +75,21 @@ fn frame_of(input: &[u8]) -> FrameDescription
     }
 }
 
+// Whether one of the codes has no meaning.
+fn has_unknown(input: &[u8]) -> bool
+    requires { ⌜ 9 ≤ length (now input) ⌝ }
+    ensures { λ r. ⌜ r ≡ hasUnknown (now (input .entry)) ⌝ }
+{
+    (input[4] >= 4) | (input[5] >= 2) | (input[6] >= 2) | (input[7] >= 6) | (input[8] >= 4)
+}
+
 fn check_header(input: &[u8]) -> YuvAnswer
     ensures { λ a. ⌜ numbersOf a ≡ firstOf (headerRules (now (input .entry))) ⌝ }
 {
     if input.len() < HEADER {
         return YuvAnswer::Refused(YuvError::MalformedRequest);
     }
-    if codes::has_unknown(input[4], input[5], input[6], input[7], input[8]) {
+    if has_unknown(input) {
         return YuvAnswer::Refused(YuvError::MalformedRequest);
     }
     YuvAnswer::Finished
@@ -169,12 +154,13 @@ fn plane_sizes(frame: FrameDescription) -> PlaneSizes
     }
 }
 
-// Puts `part` into the output, from byte `at` on.
-fn put(part: &[u8], output: &mut [u8], at: usize)
-    requires { ⌜ at + length (now part) ≤ length (now output) ⌝ }
-    ensures { λ _. ⌜ now (output .exit) ≡ take at (now (output .entry)) ++ (now (part .entry) ++ drop (length (now (part .entry))) (drop at (now (output .entry)))) ⌝ }
+// Puts the first `size` bytes of a plane into the output, from byte `at` on.
+fn put(plane: &[u8], size: usize, output: &mut [u8], at: usize)
+    requires { ⌜ size ≤ length (now plane) ⌝ }
+    requires { ⌜ at + size ≤ length (now output) ⌝ }
+    ensures { λ _. ⌜ now (output .exit) ≡ take at (now (output .entry)) ++ (take size (now (plane .entry)) ++ drop size (drop at (now (output .entry)))) ⌝ }
 {
-    bytes::copy(part, &mut output[at..at + part.len()]);
+    bytes::copy(&plane[..size], &mut output[at..at + size]);
 }
 
 // A chroma plane of the largest frame.
@@ -182,6 +168,31 @@ fn plane() -> [u8; 16384]
     ensures { λ r. ⌜ 16384 ≡ length r ⌝ }
 {
     [0; 16384]
+}
+
+// The frame call, with its planes in the first bytes of three buffers.
+fn convert_planes(
+    frame: FrameDescription,
+    source: &[u8],
+    stride: u32,
+    sizes: PlaneSizes,
+    y: &mut [u8],
+    u: &mut [u8],
+    v: &mut [u8],
+) -> YuvAnswer
+    requires { ⌜ (sizes .luma ≤ length (now y)) × (sizes .chroma ≤ length (now u)) × (sizes .chroma ≤ length (now v)) ⌝ }
+    ensures { λ a. ⌜ PlanesPost frame stride (now (source .entry)) sizes (now (y .entry)) (now (u .entry)) (now (v .entry)) a (now (y .exit)) (now (u .exit)) (now (v .exit)) ⌝ }
+{
+    let luma = sizes.luma;
+    let chroma = sizes.chroma;
+    sharp_rgba_to_yuv::rgbx_to_sharp_yuv(
+        frame,
+        source,
+        stride,
+        &mut y[..luma],
+        &mut u[..chroma],
+        &mut v[..chroma],
+    )
 }
 
 // The frame call, with Y at the start of the output and U and V after it.
@@ -197,26 +208,17 @@ fn convert_into(
     ensures { λ a. ⌜ numbersOf a ≡ firstOf (frameRules frame stride (length (now (source .entry))) (lumaSize frame) (chromaSize frame) (chromaSize frame)) ⌝ }
     ensures { λ a. ⌜ Painted (taken a (outputSize frame)) (outputAt frame (sourceImage (frame .settings) (frame .width) stride (now (source .entry)))) (now (output .entry)) (now (output .exit)) ⌝ }
 {
-    let luma = sizes.luma;
-    let chroma = sizes.chroma;
     let mut u = plane();
     let mut v = plane();
-    let answer = sharp_rgba_to_yuv::rgbx_to_sharp_yuv(
-        frame,
-        source,
-        stride,
-        &mut output[0..luma],
-        &mut u[0..chroma],
-        &mut v[0..chroma],
-    );
+    let answer = convert_planes(frame, source, stride, sizes, output, &mut u, &mut v);
     match answer {
         YuvAnswer::Refused(_) => {
             return answer;
         }
         YuvAnswer::Finished => {}
     }
-    put(&u[0..chroma], output, luma);
-    put(&v[0..chroma], output, luma + chroma);
+    put(&u, sizes.chroma, output, sizes.luma);
+    put(&v, sizes.chroma, output, sizes.luma + sizes.chroma);
     answer
 }
 

@@ -3,11 +3,7 @@ use Prim.Native.Nat.{ℕ, _+_}
 use mathlib.Core.List.{List}
 use lib.ListN.{getD}
 use Rattle.yuv_error.specs.Numbers.{Numbers, numbers}
-use Rattle.replay.specs.declared.AnswerNumbers.{AnswerNumbers}
 use Rattle.replay.specs.Number.{number64}
-
-abbrev pub numbersAs : AnswerNumbers → Numbers
-numbersAs a = numbers (a .number) (a .expected) (a .received)
 
 -- number, expected and received that stand at a place of the list
 abbrev pub answerAt : List ℕ → ℕ → Numbers

@@ -2,9 +2,7 @@
 // form of a list: numbers with their low byte first, settings as codes, buffers as blocks that are repeated.
 use sharp_gamma::SharpYuvGammaTransfer;
 use sharp_row::YuvSettings;
-use yuv_error::MismatchedSize;
 use yuv_error::YuvAnswer;
-use yuv_error::YuvError;
 use yuv_support::YuvChromaSubsampling;
 use yuv_support::YuvRange;
 use yuv_support::YuvSourceChannels;
@@ -14,11 +12,11 @@ ghost use mathlib.Core.Bool.{true};
 ghost use Prim.Native.Nat.{_+_, _*_, _<_, _≤_};
 ghost use lib.ListN.{length};
 ghost use lib.Ieee.{ofBits, binary32};
-ghost use Rattle.yuv_error.specs.Numbers.{numbers, sized, errorNumbers, numbersOf};
+ghost use Rattle.yuv_error.specs.Numbers.{numbersOf};
 ghost use Rattle.replay.specs.Number.{number32, number64};
 ghost use Rattle.replay.specs.Block.{byteOf, Repeats, Agrees, Held, blockOf, afterBlock, BlockAt};
 ghost use Rattle.replay.specs.Settings.{channelsOf, samplingOf, rangeOf, matrixOf, transferOf, settingsAt, knownAt};
-ghost use Rattle.replay.specs.Answer.{numbersAs, answerAt};
+ghost use Rattle.replay.specs.Answer.{answerAt};
 
 fn pair(low: u8, high: u8) -> u32
     ensures { λ r. ⌜ (r ≡ low + 256 * high) × (r < 65536) ⌝ }
@@ -268,73 +266,18 @@ pub fn are_known(list: &[u8], at: usize) -> bool
     list[at + 4] < 4
 }
 
-// Document 01's number, expected and received of an answer; finished work is number 0.
-struct AnswerNumbers {
-    number: u8,
-    expected: usize,
-    received: usize,
-}
-
-fn without_sizes(number: u8) -> AnswerNumbers
-    ensures { λ r. ⌜ numbersAs r ≡ numbers number 0 0 ⌝ }
-{
-    AnswerNumbers {
-        number,
-        expected: 0,
-        received: 0,
-    }
-}
-
-fn with_sizes(number: u8, size: MismatchedSize) -> AnswerNumbers
-    ensures { λ r. ⌜ numbersAs r ≡ sized number size ⌝ }
-{
-    AnswerNumbers {
-        number,
-        expected: size.expected,
-        received: size.received,
-    }
-}
-
-fn error_numbers(error: YuvError) -> AnswerNumbers
-    ensures { λ r. ⌜ numbersAs r ≡ errorNumbers error ⌝ }
-{
-    match error {
-        YuvError::MalformedRequest => without_sizes(1),
-        YuvError::ZeroBaseSize => without_sizes(2),
-        YuvError::SizeTooLarge => without_sizes(3),
-        YuvError::MatrixNotAccepted => without_sizes(4),
-        YuvError::BandRowsMismatch => without_sizes(5),
-        YuvError::DestinationSizeMismatch(size) => with_sizes(6, size),
-        YuvError::MinimumStrideSizeMismatch(size) => with_sizes(7, size),
-        YuvError::LumaPlaneMinimumSizeMismatch(size) => with_sizes(8, size),
-        YuvError::LumaPlaneSizeMismatch(size) => with_sizes(9, size),
-        YuvError::UPlaneMinimumSizeMismatch(size) => with_sizes(10, size),
-        YuvError::VPlaneMinimumSizeMismatch(size) => with_sizes(11, size),
-        YuvError::WholeRowsMismatch(size) => with_sizes(12, size),
-        YuvError::CarriedRowSizeMismatch(size) => with_sizes(13, size),
-    }
-}
-
-fn answer_numbers(answer: YuvAnswer) -> AnswerNumbers
-    ensures { λ r. ⌜ numbersAs r ≡ numbersOf answer ⌝ }
-{
-    match answer {
-        YuvAnswer::Finished => without_sizes(0),
-        YuvAnswer::Refused(error) => error_numbers(error),
-    }
-}
-
 // Whether an answer is the one that stands at a place of the list: its number, then expected and received.
 pub fn same_answer(list: &[u8], at: usize, answer: YuvAnswer) -> bool
     requires { ⌜ at + 17 ≤ length (now list) ⌝ }
     ensures { λ r. ⌜ (r ≡ true → numbersOf answer ≡ answerAt (now (list .entry)) at) × (numbersOf answer ≡ answerAt (now (list .entry)) at → r ≡ true) ⌝ }
 {
-    let numbers = answer_numbers(answer);
-    if numbers.number != list[at] {
+    let numbers = error_numbers::answer_numbers(answer);
+    let size = numbers.size;
+    if numbers.number != list[at] as u32 {
         return false;
     }
-    if numbers.expected != usize_at(list, at + 1) {
+    if size.expected != usize_at(list, at + 1) {
         return false;
     }
-    numbers.received == usize_at(list, at + 9)
+    size.received == usize_at(list, at + 9)
 }

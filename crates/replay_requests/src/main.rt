@@ -67,7 +67,8 @@ fn replay(request: &[u8]) {
         Response::Planes(bytes) => print_planes(&output[0..bytes]),
         Response::Refused(e) => {
             io::write_all(STDOUT_FILENO, b"refused ");
-            io::print_decimal(STDOUT_FILENO, frame_request::refusal_number(e));
+            let numbers = error_numbers::error_numbers(e);
+            io::print_decimal(STDOUT_FILENO, numbers.number as u64);
         }
     }
 }

@@ -19,7 +19,7 @@ use Rattle.yuv_error.proofs.Numbers.{is-finished}
 use Rattle.yuv_error.proofs.Lowest.{first-is-lowest}
 use Rattle.yuv_error.proofs.First.{append-finished}
 use Rattle.yuv_error.proofs.Accepted.{neither, none-holds}
-use Rattle.sharp_planes.specs.Band.{Sized, Given, Whole}
+use Rattle.sharp_planes.specs.Known.{Sized, Given, Whole}
 use Rattle.sharp_rgba_to_yuv.specs.Frame.{openingRules, lentRules, taken}
 use Rattle.sharp_rgba_to_yuv.proofs.Accepted.{opened, lent}
 use Rattle.sharp_bands.specs.declared.FrameState.{FrameState}

@@ -8,7 +8,7 @@ use Rattle.yuv_support.specs.Channels.{channelsCount}
 use Rattle.yuv_error.proofs.First.{finished-number}
 use Rattle.sharp_row.specs.Row.{pixelsOf}
 use Rattle.sharp_planes.specs.declared.FrameDescription.{FrameDescription}
-use Rattle.sharp_planes.specs.Band.{Sized}
+use Rattle.sharp_planes.specs.Known.{Sized}
 use Rattle.sharp_planes.proofs.Planes.{rows-equal}
 use Rattle.sharp_planes.proofs.Finished.{finished-rise, finished-none}
 use Rattle.sharp_rgba_to_yuv.specs.Frame.{openingRules}

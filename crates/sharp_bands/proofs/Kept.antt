@@ -16,7 +16,8 @@ use Rattle.sharp_row.proofs.Painted.{painted-at}
 use Rattle.sharp_row.proofs.SamePixels.{SameColours}
 use Rattle.sharp_planes.specs.declared.FrameDescription.{FrameDescription}
 use Rattle.sharp_planes.specs.Image.{Image, finishedOf}
-use Rattle.sharp_planes.specs.Band.{ownRows, bandImage, Sharpened, Given, firstRow}
+use Rattle.sharp_planes.specs.Band.{ownRows, bandImage, Sharpened}
+use Rattle.sharp_planes.specs.Known.{Given, firstRow}
 use Rattle.sharp_planes.proofs.Planes.{below?}
 use Rattle.sharp_planes.proofs.Finished.{finished-all, finished-some}
 use Rattle.sharp_planes.proofs.Rows.{band-own-rows, band-carried}

@@ -15,7 +15,8 @@ use Rattle.yuv_error.specs.declared.YuvAnswer.the-variants.{Finished, Refused}
 use Rattle.yuv_error.specs.declared.YuvError.the-variants.{ZeroBaseSize}
 use Rattle.sharp_planes.specs.declared.FrameDescription.{FrameDescription}
 use Rattle.sharp_planes.specs.Image.{rowBytes, sourceImage}
-use Rattle.sharp_planes.specs.Band.{ownRows, bandImage, Sized, Given, Whole}
+use Rattle.sharp_planes.specs.Band.{ownRows, bandImage}
+use Rattle.sharp_planes.specs.Known.{Sized, Given, Whole}
 use Rattle.sharp_planes.proofs.Numbers.{row-end}
 use Rattle.sharp_planes.proofs.Planes.{row-of}
 use Rattle.sharp_rgba_to_yuv.proofs.Accepted.{Lent, Accepted}

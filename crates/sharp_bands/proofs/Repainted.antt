@@ -13,7 +13,8 @@ use Rattle.sharp_row.specs.Painted.{Painted}
 use Rattle.sharp_planes.specs.declared.FrameDescription.{FrameDescription}
 use Rattle.sharp_planes.specs.Image.{Image, lumaAt, cbAt, crAt, finishedOf}
 use Rattle.sharp_planes.specs.Plane.{written, PlaneIs}
-use Rattle.sharp_planes.specs.Band.{Room, Whole, Sharpened}
+use Rattle.sharp_planes.specs.Band.{Sharpened}
+use Rattle.sharp_planes.specs.Known.{Room, Whole}
 use Rattle.sharp_planes.proofs.Numbers.{row-end}
 use Rattle.sharp_planes.proofs.Planes.{below?, inside?}
 use Rattle.sharp_planes.proofs.Finished.{finished-most}

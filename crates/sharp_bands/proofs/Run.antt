@@ -7,7 +7,7 @@ use mathlib.Core.List.{List, [], _∷_}
 use Rattle.sharp_row.specs.Row.{Pixels}
 use Rattle.sharp_planes.specs.declared.FrameDescription.{FrameDescription}
 use Rattle.sharp_planes.specs.Image.{Image}
-use Rattle.sharp_planes.specs.Band.{Whole}
+use Rattle.sharp_planes.specs.Known.{Whole}
 use Rattle.sharp_bands.specs.declared.FrameState.{FrameState}
 use Rattle.sharp_bands.specs.Band.{stateOf, BandPost}
 use Rattle.sharp_bands.specs.Calls.{BandCall, Met, AllMet, isAccepted, Tally, noRows, counted, tallyOf, Accepted, none, call, lastCall, firstCall, Chained}

@@ -7,7 +7,8 @@ use Rattle.sharp_row.specs.Row.{pixelsOf}
 use Rattle.sharp_planes.specs.declared.FrameDescription.{FrameDescription}
 use Rattle.sharp_planes.specs.Image.{Image, sourceImage}
 use Rattle.sharp_planes.specs.Plane.{PlaneIs}
-use Rattle.sharp_planes.specs.Band.{Sharpened, Whole}
+use Rattle.sharp_planes.specs.Band.{Sharpened}
+use Rattle.sharp_planes.specs.Known.{Whole}
 use Rattle.sharp_rgba_to_yuv.specs.Frame.{FramePost}
 use Rattle.sharp_rgba_to_yuv.specs.Same.{withStrides}
 use Rattle.sharp_rgba_to_yuv.proofs.Accepted.{accepted}

@@ -11,7 +11,8 @@ use Rattle.yuv_support.specs.Channels.{channelsCount}
 use Rattle.sharp_row.specs.Row.{pixelsOf}
 use Rattle.sharp_planes.specs.declared.FrameDescription.{FrameDescription}
 use Rattle.sharp_planes.specs.Image.{Image, rowBytes, sourceImage}
-use Rattle.sharp_planes.specs.Band.{ownRows, Given}
+use Rattle.sharp_planes.specs.Band.{ownRows}
+use Rattle.sharp_planes.specs.Known.{Given}
 use Rattle.sharp_planes.proofs.Numbers.{row-end}
 use Rattle.sharp_planes.proofs.Planes.{below?}
 use Rattle.sharp_bands.specs.Calls.{BandCall, Tally, noRows, tabulate, counted}

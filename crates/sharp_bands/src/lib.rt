@@ -11,7 +11,8 @@ ghost use Rattle.yuv_error.specs.Numbers.{numbersOf};
 ghost use Rattle.yuv_error.specs.Rules.{firstOf};
 ghost use Rattle.sharp_row.specs.Painted.{Painted};
 ghost use Rattle.sharp_row.specs.Row.{pixelsOf};
-ghost use Rattle.sharp_planes.specs.Band.{ownRows, Sized, Given, RowLent};
+ghost use Rattle.sharp_planes.specs.Band.{ownRows};
+ghost use Rattle.sharp_planes.specs.Known.{Sized, Given, RowLent};
 ghost use Rattle.sharp_rgba_to_yuv.specs.Frame.{openingRules};
 ghost use Rattle.sharp_bands.specs.Band.{OpenPost, rowRules, carriedRules, bandRules, isCarried, carriedBytes, BandPost};
 
@@ -199,7 +200,7 @@ impl FrameState {
         let frame = self.frame;
         let done = self.done;
         // the carried row is read before this band's last row takes its place
-        sharp_planes::sharpen_band(
+        sharpen_band::sharpen_band(
             frame,
             done as usize,
             rows as usize,

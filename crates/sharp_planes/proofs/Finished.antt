@@ -3,14 +3,13 @@
 use Prim.Native.Nat.{ℕ, _+_, _*_, _-_, _/_, _≤_, _<_, min}
 use mathlib.Core.Path.{_≡_, refl, sym, ap, _∙_}
 use mathlib.Core.Bool.{Bool, cond}
-use native.Mathlib.Nat.{le-refl}
 use native.Mathlib.Omega.{arith}
 use borrow.Author.Tests.{eq-eqb, ne-eqb}
 use Rattle.yuv_support.specs.declared.YuvChromaSubsampling.{YuvChromaSubsampling}
 use Rattle.yuv_support.specs.declared.YuvChromaSubsampling.the-variants.{Yuv420, Yuv422}
 use Rattle.yuv_support.specs.Sampling.{chromaHeight}
 use Rattle.sharp_planes.specs.Image.{finishedOf}
-use Rattle.sharp_planes.specs.Band.{firstRow, belowRow, Between}
+use Rattle.sharp_planes.specs.Known.{Between}
 use Rattle.sharp_planes.proofs.Planes.{below?}
 
 pub finished-all : (h n : ℕ) → n ≡ h → finishedOf Yuv420 h n ≡ (h + 1) / 2
@@ -20,7 +19,7 @@ pub finished-some : (h n : ℕ) → (n ≡ h → ⊥) → finishedOf Yuv420 h n 
 finished-some h n e = ap (λ (b : Bool). cond b ((h + 1) / 2) (n / 2)) (ne-eqb n h e)
 
 -- by whether all rows are done
-finished? : {P : Type 0} (h n : ℕ) → n ≤ h → (n ≡ h → finishedOf Yuv420 h n ≡ (h + 1) / 2 → P) → (n < h → finishedOf Yuv420 h n ≡ n / 2 → P) → P
+pub finished? : {P : Type 0} (h n : ℕ) → n ≤ h → (n ≡ h → finishedOf Yuv420 h n ≡ (h + 1) / 2 → P) → (n < h → finishedOf Yuv420 h n ≡ n / 2 → P) → P
 finished? h n l f g = below? n h (λ m. g m (finished-some h n (λ e. omega arith))) (λ m. let e : n ≡ h = omega arith in f e (finished-all h n e))
 
 pub finished-rise : (s : YuvChromaSubsampling) (h m n : ℕ) → m ≤ n → n ≤ h → finishedOf s h m ≤ finishedOf s h n

@@ -13,7 +13,7 @@ use Rattle.yuv_support.specs.declared.YuvChromaSubsampling.{YuvChromaSubsamplin
 use Rattle.yuv_support.specs.declared.YuvChromaSubsampling.the-variants.{Yuv420, Yuv422}
 use Rattle.yuv_support.specs.Channels.{channelsCount}
 use Rattle.yuv_support.specs.Sampling.{chromaHeight}
-use Rattle.sharp_planes.specs.Band.{Room, firstRow}
+use Rattle.sharp_planes.specs.Known.{Room, firstRow}
 
 -- row i of n rows, c bytes apart, ends within them
 pub row-end : (i n c : ℕ) → i < n → i * c + c ≤ n * c
@@ -44,3 +44,7 @@ room-up-to {rows} {fewer} {stride} room l e = record { row = room .row; size = o
 pub chroma-rows : (s : YuvChromaSubsampling) (h : ℕ) → 1 ≤ h → (1 ≤ chromaHeight s h) × (chromaHeight s h ≤ h)
 chroma-rows Yuv420 h l = (omega arith, omega arith)
 chroma-rows Yuv422 h l = (l, le-refl h)
+
+pub first-rise : (s : YuvChromaSubsampling) (m n : ℕ) → m ≤ n → firstRow s m ≤ firstRow s n
+first-rise Yuv420 m n h = omega arith
+first-rise Yuv422 m n h = h

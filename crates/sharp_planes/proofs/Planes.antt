@@ -120,7 +120,7 @@ row-written i stride n k at f e part place nk ks room row =
 -- ---- runs of rows
 
 -- byte p of a plane that holds `old` there, by whether it is written
-abbrev byteOf : (stride : ℕ) → (ℕ → ℕ → ℕ) → ℕ → Bool → ℕ → ℕ
+abbrev pub byteOf : (stride : ℕ) → (ℕ → ℕ → ℕ) → ℕ → Bool → ℕ → ℕ
 byteOf stride f p w old = cond w (f (p / stride) (p % stride)) old
 
 pub plane-none : (from to stride n : ℕ) (f : ℕ → ℕ → ℕ) (d : List ℕ) → to ≤ from → PlaneIs from to stride n f d d
@@ -137,6 +137,9 @@ plane-same from to stride n f d e l h =
 
 pub plane-to : {from to to′ stride n : ℕ} {f : ℕ → ℕ → ℕ} {d e : List ℕ} → to ≡ to′ → PlaneIs from to stride n f d e → PlaneIs from to′ stride n f d e
 plane-to {from} {to} {to′} {stride} {n} {f} {d} {e} = subst (λ (r : ℕ). PlaneIs from r stride n f d e)
+
+pub plane-between : {from from′ to to′ stride n : ℕ} {f : ℕ → ℕ → ℕ} {d e : List ℕ} → from ≡ from′ → to ≡ to′ → PlaneIs from to stride n f d e → PlaneIs from′ to′ stride n f d e
+plane-between {from} {from′} {to} {to′} {stride} {n} {f} {d} {e} a b h = subst (λ (r : ℕ). PlaneIs r to′ stride n f d e) a (plane-to b h)
 
 -- two images that agree where the plane is written
 pub plane-like : (from to stride n : ℕ) (f g : ℕ → ℕ → ℕ) (d e : List ℕ) → ((r x : ℕ) → from ≤ r → r < to → x < n → f r x ≡ g r x)

@@ -14,7 +14,8 @@ use Rattle.sharp_row.specs.Row.{ofColour, cbRow, crRow}
 use Rattle.sharp_row.proofs.SamePixels.{SameColours, colour-same, luma-same, input420-same, input422-same}
 use Rattle.sharp_planes.specs.declared.FrameDescription.{FrameDescription}
 use Rattle.sharp_planes.specs.Image.{Image, chromaInput, cbAt, crAt, finishedOf}
-use Rattle.sharp_planes.specs.Band.{firstRow, belowRow, Sharpened}
+use Rattle.sharp_planes.specs.Band.{Sharpened}
+use Rattle.sharp_planes.specs.Known.{firstRow, belowRow}
 use Rattle.sharp_planes.proofs.Planes.{below?, plane-like, plane-then}
 use Rattle.sharp_planes.proofs.Finished.{finished-rise, between}
 

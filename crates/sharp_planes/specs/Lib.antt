@@ -2,3 +2,4 @@
 pub mod Image
 pub mod Plane
 pub mod Band
+pub mod Known

@@ -1,18 +1,18 @@
-// The rows of a band into the three planes: the row loops of the Rust's rgbx_to_sharp_yuv.
+// Rows into planes, one by one: the row loops of the Rust's rgbx_to_sharp_yuv.
 use forward_transform::CbCrForwardTransformI32;
 use sharp_row::YuvSettings;
 use yuv_support::YuvChromaSubsampling;
 ghost use mathlib.Core.Path.{_≡_};
-ghost use Prim.Native.Nat.{ℕ, _+_, _*_, _-_, _/_, _≤_, _<_, min};
+ghost use Prim.Native.Nat.{_+_, _*_, _≤_, _<_, min};
 ghost use lib.ListN.{length};
 ghost use Rattle.yuv_support.specs.Sampling.{chromaWidth, chromaHeight};
 ghost use Rattle.sharp_row.specs.Prepared.{Weighed, Tables};
 ghost use Rattle.yuv_support.specs.Channels.{channelsCount};
-ghost use Rattle.sharp_row.specs.Painted.{Painted};
-ghost use Rattle.sharp_row.specs.Row.{pixelsOf, lumaRow, input420, input422, cbRow, crRow};
+ghost use Rattle.sharp_row.specs.Row.{pixelsOf, input420, cbRow, crRow};
 ghost use Rattle.sharp_planes.specs.Image.{lumaAt, cbAt, crAt, finishedOf};
 ghost use Rattle.sharp_planes.specs.Plane.{PlaneIs};
-ghost use Rattle.sharp_planes.specs.Band.{ownRows, bandImage, Sharpened, Sized, Given, Whole, Fed, Room, RowLent, firstRow, belowRow, inputRow, Between};
+ghost use Rattle.sharp_planes.specs.Band.{ownRows, bandImage};
+ghost use Rattle.sharp_planes.specs.Known.{Fed, Room, RowLent, firstRow, belowRow, Between};
 
 // A frame's size, settings and plane strides: what an opening fixes and a frame call is given.
 pub struct FrameDescription {
@@ -24,11 +24,12 @@ pub struct FrameDescription {
     pub v_stride: u32,
 }
 
-// Luma rows `done` up to `done + rows`.
-fn luma_rows(
+// Luma rows `done + skip` up to `done + rows`.
+pub fn luma_rows(
     source: &[u8],
     stride: usize,
     done: usize,
+    skip: usize,
     rows: usize,
     y: &mut [u8],
     y_stride: usize,
@@ -37,15 +38,15 @@ fn luma_rows(
     t: CbCrForwardTransformI32,
 )
     requires { ⌜ Weighed settings t ⌝ }
-    requires { ⌜ (1 ≤ width) × (width ≤ 16384) × (width ≤ «y_stride») × (width * channelsCount (settings .channels) ≤ stride) ⌝ }
+    requires { ⌜ (1 ≤ width) × (width ≤ 16384) × (width ≤ «y_stride») × (width * channelsCount (settings .channels) ≤ stride) × (skip ≤ rows) ⌝ }
     requires { ⌜ (stride * rows ≤ length (now source)) × ((done + rows) * «y_stride» ≤ length (now y)) ⌝ }
-    ensures { λ _. ⌜ PlaneIs done (done + rows) «y_stride» width (lumaAt settings (ownRows settings width done stride (now (source .entry)))) (now (y .entry)) (now (y .exit)) ⌝ }
+    ensures { λ _. ⌜ PlaneIs (done + skip) (done + rows) «y_stride» width (lumaAt settings (ownRows settings width done stride (now (source .entry)))) (now (y .entry)) (now (y .exit)) ⌝ }
 {
     let channels = settings.channels;
     let size = width * channels.get_channels_count();
-    let mut row = 0;
-    let mut from = 0;
-    let mut to = done * y_stride;
+    let mut row = skip;
+    let mut from = skip * stride;
+    let mut to = (done + skip) * y_stride;
     while row < rows {
         sharp_row::luma_row(
             &source[from..from + size],
@@ -61,63 +62,15 @@ fn luma_rows(
 }
 
 // A band of rows of a frame: `rows` rows after the first `done`, `stride` bytes apart in their source.
-struct Band {
-    width: usize,
-    height: usize,
-    done: usize,
-    rows: usize,
-    stride: usize,
+pub struct Band {
+    pub width: usize,
+    pub height: usize,
+    pub done: usize,
+    pub rows: usize,
+    pub stride: usize,
 }
 
-// One chroma row of both planes, from the rows it is made of.
-fn chroma_row(
-    this: &[u8],
-    count: usize,
-    below: &[u8],
-    u: &mut [u8],
-    v: &mut [u8],
-    width: usize,
-    settings: YuvSettings,
-    t: CbCrForwardTransformI32,
-    linear: &[u16; 256],
-    gamma: &[u8; 65536],
-)
-    requires { ⌜ Weighed settings t ⌝ }
-    requires { ⌜ Tables settings (now linear) (now gamma) ⌝ }
-    requires { ⌜ RowLent width count (now this) ⌝ }
-    requires { ⌜ RowLent width (channelsCount (settings .channels)) (now below) ⌝ }
-    requires { ⌜ (chromaWidth width ≤ length (now u)) × (chromaWidth width ≤ length (now v)) ⌝ }
-    ensures { λ _. ⌜ Painted (chromaWidth width) (cbRow settings (inputRow settings (settings .sampling) width (pixelsOf count (now (this .entry))) (pixelsOf (channelsCount (settings .channels)) (now (below .entry))))) (now (u .entry)) (now (u .exit)) ⌝ }
-    ensures { λ _. ⌜ Painted (chromaWidth width) (crRow settings (inputRow settings (settings .sampling) width (pixelsOf count (now (this .entry))) (pixelsOf (channelsCount (settings .channels)) (now (below .entry))))) (now (v .entry)) (now (v .exit)) ⌝ }
-{
-    let sampling = settings.sampling;
-    match sampling {
-        YuvChromaSubsampling::Yuv420 => sharp_row::chroma_row420(
-            this,
-            count,
-            below,
-            u,
-            v,
-            width,
-            settings,
-            t,
-            linear,
-            gamma,
-        ),
-        YuvChromaSubsampling::Yuv422 => sharp_row::chroma_row422(
-            below,
-            u,
-            v,
-            width,
-            settings,
-            t,
-            linear,
-            gamma,
-        ),
-    }
-}
-
-// Chroma row k of both planes.
+// Chroma row k of both planes, of 4:2:0, from the two rows it is made of.
 fn chroma_row_into(
     k: usize,
     this: &[u8],
@@ -139,13 +92,13 @@ fn chroma_row_into(
     requires { ⌜ RowLent width (channelsCount (settings .channels)) (now below) ⌝ }
     requires { ⌜ Room (k + 1) «u_stride» (chromaWidth width) (now u) ⌝ }
     requires { ⌜ Room (k + 1) «v_stride» (chromaWidth width) (now v) ⌝ }
-    ensures { λ _. ⌜ PlaneIs k (k + 1) «u_stride» (chromaWidth width) (λ k. cbRow settings (inputRow settings (settings .sampling) width (pixelsOf count (now (this .entry))) (pixelsOf (channelsCount (settings .channels)) (now (below .entry))))) (now (u .entry)) (now (u .exit)) ⌝ }
-    ensures { λ _. ⌜ PlaneIs k (k + 1) «v_stride» (chromaWidth width) (λ k. crRow settings (inputRow settings (settings .sampling) width (pixelsOf count (now (this .entry))) (pixelsOf (channelsCount (settings .channels)) (now (below .entry))))) (now (v .entry)) (now (v .exit)) ⌝ }
+    ensures { λ _. ⌜ PlaneIs k (k + 1) «u_stride» (chromaWidth width) (λ k. cbRow settings (input420 settings width (pixelsOf count (now (this .entry))) (pixelsOf (channelsCount (settings .channels)) (now (below .entry))))) (now (u .entry)) (now (u .exit)) ⌝ }
+    ensures { λ _. ⌜ PlaneIs k (k + 1) «v_stride» (chromaWidth width) (λ k. crRow settings (input420 settings width (pixelsOf count (now (this .entry))) (pixelsOf (channelsCount (settings .channels)) (now (below .entry))))) (now (v .entry)) (now (v .exit)) ⌝ }
 {
     let chroma = yuv_support::chroma_width(width);
     let u_at = k * u_stride;
     let v_at = k * v_stride;
-    chroma_row(
+    sharp_row::chroma_row420(
         this,
         count,
         below,
@@ -160,7 +113,7 @@ fn chroma_row_into(
 }
 
 // The row that chroma row k starts from.
-fn first_row(sampling: YuvChromaSubsampling, k: usize) -> usize
+pub fn first_row(sampling: YuvChromaSubsampling, k: usize) -> usize
     requires { ⌜ k ≤ 16384 ⌝ }
     ensures { λ r. ⌜ r ≡ firstRow sampling k ⌝ }
 {
@@ -187,7 +140,7 @@ fn least(a: usize, b: usize) -> usize
     if a < b { a } else { b }
 }
 
-// Chroma row k of both planes, from the rows of a band.
+// Chroma row k of both planes, of 4:2:0, from the rows of a band.
 fn chroma_row_at(
     k: usize,
     band: Band,
@@ -208,6 +161,7 @@ fn chroma_row_at(
     requires { ⌜ Between (settings .sampling) (band .height) (band .done) (band .done + band .rows) k ⌝ }
     requires { ⌜ Room (k + 1) «u_stride» (chromaWidth (band .width)) (now u) ⌝ }
     requires { ⌜ Room (k + 1) «v_stride» (chromaWidth (band .width)) (now v) ⌝ }
+    requires { ⌜ settings .sampling ≡ YuvChromaSubsampling.Yuv420 ⌝ }
     ensures { λ _. ⌜ PlaneIs k (k + 1) «u_stride» (chromaWidth (band .width)) (cbAt settings (band .width) (band .height) (bandImage settings (band .width) (band .done) (band .stride) (now (source .entry)) (now (carried .entry)))) (now (u .entry)) (now (u .exit)) ⌝ }
     ensures { λ _. ⌜ PlaneIs k (k + 1) «v_stride» (chromaWidth (band .width)) (crAt settings (band .width) (band .height) (bandImage settings (band .width) (band .done) (band .stride) (now (source .entry)) (now (carried .entry)))) (now (v .entry)) (now (v .exit)) ⌝ }
 {
@@ -257,7 +211,7 @@ fn chroma_row_at(
 }
 
 // The chroma rows that are finished once n rows are done.
-fn finished_rows(sampling: YuvChromaSubsampling, height: usize, n: usize) -> usize
+pub fn finished_rows(sampling: YuvChromaSubsampling, height: usize, n: usize) -> usize
     ensures { λ r. ⌜ r ≡ finishedOf sampling height n ⌝ }
 {
     match sampling {
@@ -276,8 +230,10 @@ fn finished_rows420(height: usize, n: usize) -> usize
     }
 }
 
-// The chroma rows that a band finishes.
-fn chroma_rows(
+// Chroma rows `from` up to `to`, of those that a band finishes. In 4:2:2 there are none: those are made by lookup.
+pub fn chroma_rows(
+    from: usize,
+    to: usize,
     band: Band,
     source: &[u8],
     carried: &[u8],
@@ -294,17 +250,15 @@ fn chroma_rows(
     requires { ⌜ Tables settings (now linear) (now gamma) ⌝ }
     requires { ⌜ Fed settings band (now source) (now carried) ⌝ }
     requires { ⌜ 1 ≤ band .rows ⌝ }
+    requires { ⌜ (finishedOf (settings .sampling) (band .height) (band .done) ≤ from) × (from ≤ to) × (to ≤ finishedOf (settings .sampling) (band .height) (band .done + band .rows)) ⌝ }
     requires { ⌜ Room (chromaHeight (settings .sampling) (band .height)) «u_stride» (chromaWidth (band .width)) (now u) ⌝ }
     requires { ⌜ Room (chromaHeight (settings .sampling) (band .height)) «v_stride» (chromaWidth (band .width)) (now v) ⌝ }
-    ensures { λ _. ⌜ PlaneIs (finishedOf (settings .sampling) (band .height) (band .done)) (finishedOf (settings .sampling) (band .height) (band .done + band .rows)) «u_stride» (chromaWidth (band .width)) (cbAt settings (band .width) (band .height) (bandImage settings (band .width) (band .done) (band .stride) (now (source .entry)) (now (carried .entry)))) (now (u .entry)) (now (u .exit)) ⌝ }
-    ensures { λ _. ⌜ PlaneIs (finishedOf (settings .sampling) (band .height) (band .done)) (finishedOf (settings .sampling) (band .height) (band .done + band .rows)) «v_stride» (chromaWidth (band .width)) (crAt settings (band .width) (band .height) (bandImage settings (band .width) (band .done) (band .stride) (now (source .entry)) (now (carried .entry)))) (now (v .entry)) (now (v .exit)) ⌝ }
+    requires { ⌜ (from < to → settings .sampling ≡ YuvChromaSubsampling.Yuv420) ⌝ }
+    ensures { λ _. ⌜ PlaneIs from to «u_stride» (chromaWidth (band .width)) (cbAt settings (band .width) (band .height) (bandImage settings (band .width) (band .done) (band .stride) (now (source .entry)) (now (carried .entry)))) (now (u .entry)) (now (u .exit)) ⌝ }
+    ensures { λ _. ⌜ PlaneIs from to «v_stride» (chromaWidth (band .width)) (crAt settings (band .width) (band .height) (bandImage settings (band .width) (band .done) (band .stride) (now (source .entry)) (now (carried .entry)))) (now (v .entry)) (now (v .exit)) ⌝ }
 {
-    let sampling = settings.sampling;
-    let height = band.height;
-    let done = band.done;
-    let last = finished_rows(sampling, height, done + band.rows);
-    let mut k = finished_rows(sampling, height, done);
-    while k < last {
+    let mut k = from;
+    while k < to {
         chroma_row_at(
             k,
             band,
@@ -321,62 +275,4 @@ fn chroma_rows(
         );
         k += 1;
     }
-}
-
-// Rows `done` up to `done + rows` of a frame, from a band of its source: every row that they finish is written, and no other byte.
-// The carried row stands for the row before the band; it is read in 4:2:0 where `done` is odd.
-pub fn sharpen_band(
-    frame: FrameDescription,
-    done: usize,
-    rows: usize,
-    source: &[u8],
-    stride: usize,
-    carried: &[u8],
-    y: &mut [u8],
-    u: &mut [u8],
-    v: &mut [u8],
-)
-    requires { ⌜ Sized frame ⌝ }
-    requires { ⌜ Given frame done rows stride (now source) (now carried) ⌝ }
-    requires { ⌜ Whole frame (now y) (now u) (now v) ⌝ }
-    ensures { λ _. ⌜ Sharpened frame done (done + rows) (bandImage (frame .settings) (frame .width) done stride (now (source .entry)) (now (carried .entry))) (now (y .entry)) (now (u .entry)) (now (v .entry)) (now (y .exit)) (now (u .exit)) (now (v .exit)) ⌝ }
-{
-    let settings = frame.settings;
-    let range = settings.range;
-    let matrix = settings.matrix;
-    let transfer = settings.transfer;
-    let t = built_coefficients::search_forward_transform(range, matrix);
-    let linear = sharp_gamma::linear_map_table(transfer);
-    let gamma = sharp_gamma::gamma_map_table(transfer);
-    let band = Band {
-        width: frame.width as usize,
-        height: frame.height as usize,
-        done,
-        rows,
-        stride,
-    };
-    luma_rows(
-        source,
-        stride,
-        done,
-        rows,
-        y,
-        frame.y_stride as usize,
-        frame.width as usize,
-        settings,
-        t,
-    );
-    chroma_rows(
-        band,
-        source,
-        carried,
-        u,
-        frame.u_stride as usize,
-        v,
-        frame.v_stride as usize,
-        settings,
-        t,
-        &linear,
-        &gamma,
-    );
 }

@@ -6,7 +6,7 @@ ghost use mathlib.Core.Path.{_≡_};
 ghost use Prim.Native.Nat.{_≤_};
 ghost use Rattle.yuv_error.specs.Numbers.{numbersOf};
 ghost use Rattle.yuv_error.specs.Rules.{firstOf};
-ghost use Rattle.sharp_planes.specs.Band.{Sized};
+ghost use Rattle.sharp_planes.specs.Known.{Sized};
 ghost use Rattle.sharp_rgba_to_yuv.specs.Frame.{lentRules, frameRules, FramePost};
 
 // Refusals 6 to 12, for a source of `rows` rows.
@@ -100,7 +100,7 @@ pub fn rgbx_to_sharp_yuv(
         YuvAnswer::Finished => {}
     }
     // no row is above the first, so what stands for the carried row is never read
-    sharp_planes::sharpen_band(
+    sharpen_band::sharpen_band(
         frame,
         0,
         frame.height as usize,

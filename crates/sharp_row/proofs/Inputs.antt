@@ -65,7 +65,7 @@ blue-small Rgba = lit≤ tt
 blue-small Bgra = lit≤ tt
 blue-small Bgr = lit≤ tt
 
-count-large : (channels : YuvSourceChannels) → 3 ≤ channelsCount channels
+pub count-large : (channels : YuvSourceChannels) → 3 ≤ channelsCount channels
 count-large Rgb = lit≤ tt
 count-large Rgba = lit≤ tt
 count-large Bgra = lit≤ tt

@@ -68,11 +68,6 @@ painted-join n k {f} {g} {d} {e} {part} inside agree size p q =
     old : (j : ℕ) → getD (putMid n k e part) (n + (k + j)) 0 ≡ getD d (n + (k + j)) 0
     old j = part-after n k e part inside size j ∙ painted-other p (n + (k + j)) (omega arith)
 
--- painted again, over all that was painted
-pub painted-again : {m n : ℕ} {f g : ℕ → ℕ} {d e e′ : List ℕ} → m ≤ n → Painted m f d e → Painted n g e e′ → Painted n g d e′
-painted-again h p q =
-    painted (q .size ∙ p .size) (painted-at q) (λ k l. painted-other q k l ∙ painted-other p k (omega arith))
-
 -- the same bytes, by another name
 pub painted-like : {n : ℕ} {f g : ℕ → ℕ} {d e : List ℕ} → ((k : ℕ) → k < n → f k ≡ g k) → Painted n f d e → Painted n g d e
 painted-like s p = painted (p .size) (λ k h. painted-at p k h ∙ s k h) (painted-other p)

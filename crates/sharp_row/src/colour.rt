@@ -4,7 +4,7 @@ ghost use Prim.Native.Nat.{ℕ, _+_, _*_, _/_, _≤_, _<_};
 ghost use lib.ListN.{getD};
 ghost use Rattle.sharp_row.specs.declared.YuvSettings.{YuvSettings};
 ghost use Rattle.sharp_row.specs.Prepared.{Tables};
-ghost use Rattle.sharp_row.specs.Row.{pixelsOf, corrected, linear as linearOf, input420, input422};
+ghost use Rattle.sharp_row.specs.Row.{pixelsOf, corrected, linear as linearOf, input420};
 ghost use Rattle.sharp_row.specs.Colour.{orderOf, Has, Inside};
 use yuv_support::YuvSourceChannels;
 
@@ -156,32 +156,4 @@ pub fn last420(
     let a = at(this, this_count, order, x);
     let b = at(below, below_count, order, x);
     mixed(a, b, linear, gamma)
-}
-
-// Chroma input j of a 4:2:2 row: pixels 2j and 2j + 1.
-pub fn pair422(
-    this: &[u8],
-    count: usize,
-    order: Order,
-    j: usize,
-    linear: &[u16; 256],
-    gamma: &[u8; 65536],
-) -> Colour
-    requires { ⌜ Inside count order (2 * j) (now this) ⌝ }
-    requires { ⌜ Inside count order (2 * j + 1) (now this) ⌝ }
-    ensures { λ c. ⌜ ((s : YuvSettings) (w : ℕ) → Tables s (now (linear .entry)) (now (gamma .entry)) → 2 * j + 1 < w
-        → Has (input422 s w (pixelsOf count (now (this .entry))) j) order c) ⌝ }
-{
-    let x = 2 * j;
-    let a = at(this, count, order, x);
-    let b = at(this, count, order, x + 1);
-    mixed(a, b, linear, gamma)
-}
-
-// Chroma input j of a 4:2:2 row whose last pixel is 2j: that pixel, through no table.
-pub fn last422(this: &[u8], count: usize, order: Order, j: usize) -> Colour
-    requires { ⌜ Inside count order (2 * j) (now this) ⌝ }
-    ensures { λ c. ⌜ ((s : YuvSettings) (w : ℕ) → w ≤ 2 * j + 1 → Has (input422 s w (pixelsOf count (now (this .entry))) j) order c) ⌝ }
-{
-    at(this, count, order, 2 * j)
 }

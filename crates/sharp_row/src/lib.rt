@@ -10,7 +10,7 @@ ghost use Rattle.yuv_support.specs.Sampling.{chromaWidth};
 ghost use Rattle.sharp_row.specs.Painted.{Painted};
 ghost use Rattle.sharp_row.specs.Pixel.{cbOf, crOf};
 ghost use Rattle.sharp_row.specs.Prepared.{Weighed, Tables};
-ghost use Rattle.sharp_row.specs.Row.{pixelsOf, lumaRow, cbRow, crRow, input420, input422};
+ghost use Rattle.sharp_row.specs.Row.{pixelsOf, lumaRow, cbRow, crRow, input420};
 use colour::Colour;
 use forward_transform::CbCrForwardTransformI32;
 use sharp_gamma::SharpYuvGammaTransfer;
@@ -108,43 +108,6 @@ pub fn chroma_row420(
     }
     if width % 2 == 1 {
         let c = colour::last420(this, this_count, below, count, order, j, linear, gamma);
-        put_chroma(u, v, j, c, settings, t);
-    }
-}
-
-// 4:2:2 chroma of the first `width` pixels of a source row.
-// Writes the first `width / 2`, rounded up, bytes of `u` and of `v`, and no other byte.
-pub fn chroma_row422(
-    this: &[u8],
-    u: &mut [u8],
-    v: &mut [u8],
-    width: usize,
-    settings: YuvSettings,
-    t: CbCrForwardTransformI32,
-    linear: &[u16; 256],
-    gamma: &[u8; 65536],
-)
-    requires { ⌜ Weighed settings t ⌝ }
-    requires { ⌜ Tables settings (now linear) (now gamma) ⌝ }
-    requires { ⌜ width * channelsCount (settings .channels) ≤ length (now this) ⌝ }
-    requires { ⌜ (chromaWidth width ≤ length (now u)) × (chromaWidth width ≤ length (now v)) ⌝ }
-    ensures { λ _. ⌜ Painted (chromaWidth width) (cbRow settings (input422 settings width (pixelsOf (channelsCount (settings .channels)) (now (this .entry)))))
-        (now (u .entry)) (now (u .exit)) ⌝ }
-    ensures { λ _. ⌜ Painted (chromaWidth width) (crRow settings (input422 settings width (pixelsOf (channelsCount (settings .channels)) (now (this .entry)))))
-        (now (v .entry)) (now (v .exit)) ⌝ }
-{
-    let channels = settings.channels;
-    let count = channels.get_channels_count();
-    let order = colour::order_of(channels);
-    let pairs = width / 2;
-    let mut j = 0;
-    while j < pairs {
-        let c = colour::pair422(this, count, order, j, linear, gamma);
-        put_chroma(u, v, j, c, settings, t);
-        j += 1;
-    }
-    if width % 2 == 1 {
-        let c = colour::last422(this, count, order, j);
         put_chroma(u, v, j, c, settings, t);
     }
 }

@@ -56,8 +56,11 @@ slice-aggregate-write-all-2 c = search needs
 write-all-requires-2 : tie.Need-write-all-requires-2
 write-all-requires-2 c κs = search needs
 
-refusal-number-requires : tie.Need-refusal-number-requires
-refusal-number-requires c κs = search needs
+error-numbers-requires : tie.Need-error-numbers-requires
+error-numbers-requires c κs = search needs
+
+cast-print-decimal : tie.Need-cast-print-decimal
+cast-print-decimal c = search needs
 
 print-decimal-requires : tie.Need-print-decimal-requires
 print-decimal-requires c κs = search needs
@@ -92,7 +95,8 @@ main-spec =
     enum-known-response-2
     slice-aggregate-write-all-2
     write-all-requires-2
-    refusal-number-requires
+    error-numbers-requires
+    cast-print-decimal
     print-decimal-requires
     slice-aggregate-write-all-3
     write-all-requires-3

@@ -1,6 +1,5 @@
 -- `check_size` meets its contract: each `return` by the tests that led there.
 -- Assumes nothing.
-use Prim.Native.Nat.{ℕ, _*_, _≤_}
 use mathlib.Core.Path.{_≡_, refl}
 use mathlib.Core.Bool.{Bool, true, false, cond, _||_}
 use native.Mathlib.Nat.{mul-le-mul}

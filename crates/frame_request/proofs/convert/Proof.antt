@@ -6,7 +6,6 @@ use mathlib.Core.List.{List}
 use native.Mathlib.Omega.{arith}
 use lib.ListN.{length, take, drop, length-drop}
 use lib.Seq.{take-all}
-use Rattle.sharp_planes.specs.declared.FrameDescription.{FrameDescription}
 use Rattle.frame_request.specs.Request.{frameOf, sourceStride, lumaSize, chromaSize}
 use Rattle.frame_request.specs.Packed.{Packed}
 use Rattle.frame_request.proofs.Checked.{Checked, checked, packed}

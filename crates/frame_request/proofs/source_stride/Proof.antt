@@ -1,6 +1,6 @@
 -- `source_stride` meets its contract: three or four bytes a pixel.
 -- Assumes nothing.
-use Prim.Native.Nat.{ℕ, _*_, _≤_}
+use Prim.Native.Nat.{ℕ, _*_}
 use mathlib.Core.Path.{ap}
 use native.Mathlib.Omega.{arith}
 use Rattle.sharp_planes.proofs.Numbers.{three-or-four, size-small}

@@ -36,8 +36,11 @@ slice-aggregate-write-all c = search needs
 write-all-requires : tie.Need-write-all-requires
 write-all-requires c κs = search needs
 
-refusal-number-requires : tie.Need-refusal-number-requires
-refusal-number-requires c κs = search needs
+error-numbers-requires : tie.Need-error-numbers-requires
+error-numbers-requires c κs = search needs
+
+cast-print-decimal : tie.Need-cast-print-decimal
+cast-print-decimal c = search needs
 
 print-decimal-requires : tie.Need-print-decimal-requires
 print-decimal-requires c κs = search needs
@@ -62,7 +65,8 @@ replay-spec =
     enum-known-response-2
     slice-aggregate-write-all
     write-all-requires
-    refusal-number-requires
+    error-numbers-requires
+    cast-print-decimal
     print-decimal-requires
     returns
     returns-2)

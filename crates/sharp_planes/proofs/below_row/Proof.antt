@@ -2,7 +2,7 @@
 -- Assumes nothing.
 use mathlib.Core.Path.{sym, ap, _∙_}
 use Rattle.yuv_support.specs.declared.YuvChromaSubsampling.{YuvChromaSubsampling}
-use Rattle.sharp_planes.specs.Band.{belowRow}
+use Rattle.sharp_planes.specs.Known.{belowRow}
 use borrow.Author.Needs.{needs}
 use Rattle.sharp_planes.proofs.below_row.Statement.{statement}
 use Rattle.sharp_planes.proofs.below_row.Tie as tie

@@ -8,10 +8,11 @@ use borrow.Author.Needs.{needs}
 use lib.Dec.{lit≤}
 use lib.ListN.{length, take, drop}
 use Rattle.yuv_support.specs.Channels.{channelsCount}
-use Rattle.sharp_row.specs.Row.{Pixels, pixelsOf, cbRow, crRow}
+use Rattle.sharp_row.specs.Row.{Pixels, pixelsOf, cbRow, crRow, input420}
 use Rattle.sharp_planes.specs.Image.{Image, chromaInput, cbAt, crAt}
 use Rattle.sharp_planes.specs.Plane.{PlaneIs}
-use Rattle.sharp_planes.specs.Band.{bandImage, Fed, RowLent, firstRow, belowRow, inputRow, Between}
+use Rattle.sharp_planes.specs.Band.{bandImage}
+use Rattle.sharp_planes.specs.Known.{Fed, RowLent, firstRow, belowRow, Between}
 use Rattle.sharp_planes.proofs.Numbers.{three-or-four, size-small, first-small}
 use Rattle.sharp_planes.proofs.Rows.{own-row, band-own-rows, band-carried, row-room, row-lent, chroma-like}
 use Rattle.sharp_planes.proofs.chroma_row_at.Statement.{statement}
@@ -75,11 +76,11 @@ below w = sym (ap (λ (n : ℕ). pixelsOf n (part w (place w (w .below-row .resu
 -- both planes, where the first row's pixels are `this`
 planes : (w : tie.After-below-row) (this : Pixels) → this ≡ image w (firstRow (Start w .args .settings .sampling) (Start w .args .k))
     → (g : (ℕ → ℕ → ℕ) → ℕ → ℕ) (stride n : ℕ) (plane plane′ : List ℕ) → let a = Start w .args in
-    PlaneIs (a .k) (a .k + 1) stride n (λ k. g (inputRow (a .settings) (a .settings .sampling) (a .band .width) this (pixelsOf (channelsCount (a .settings .channels)) (part w (place w (w .below-row .result)))))) plane plane′
+    PlaneIs (a .k) (a .k + 1) stride n (λ k. g (input420 (a .settings) (a .band .width) this (pixelsOf (channelsCount (a .settings .channels)) (part w (place w (w .below-row .result)))))) plane plane′
     → PlaneIs (a .k) (a .k + 1) stride n (λ k. g (chromaInput (a .settings) (a .settings .sampling) (a .band .width) (a .band .height) (image w) k)) plane plane′
 planes w this e g stride n plane plane′ =
     let a = Start w .args in
-    chroma-like g (a .settings) (a .k) stride n (a .band .width) (a .band .height) (image w) this _ plane plane′ e (below w)
+    chroma-like g (a .settings) (a .k) stride n (a .band .width) (a .band .height) (image w) this _ plane plane′ (Start w .pre .1 .1 .1 .1 .1 .1) e (below w)
 
 get-channels-count-requires : tie.Need-get-channels-count-requires
 get-channels-count-requires c κs = search needs
@@ -124,7 +125,7 @@ chroma-row-into-requires c κs =
     let w = c .before .before .before .before in
     let p = Start w .pre in
     let f = fed w in
-    (p .0, (p .1 .0, (record { least = lit≤ tt; size = omega (arith, f) }, (source-lent w (below-least w) (below-most w), (p .1 .1 .1 .1 .0, p .1 .1 .1 .1 .1)))))
+    (p .0, (p .1 .0, (record { least = lit≤ tt; size = omega (arith, f) }, (source-lent w (below-least w) (below-most w), (p .1 .1 .1 .1 .0, p .1 .1 .1 .1 .1 .0)))))
 
 mul-this : tie.Need-mul-this
 mul-this c = let w = c .before in omega (arith, row-room (fed w) (w .before .first-row .result) _ _ refl (long w) (c .if1 .left) (first-most w))
@@ -158,7 +159,7 @@ chroma-row-into-requires-2 c κs =
     let e = c .before .before .before .before in
     let w = e .before in
     let p = Start w .pre in
-    (p .0, (p .1 .0, (lent w _ (e .if1 .left) (first-most w), (source-lent w (below-least w) (below-most w), (p .1 .1 .1 .1 .0, p .1 .1 .1 .1 .1)))))
+    (p .0, (p .1 .0, (lent w _ (e .if1 .left) (first-most w), (source-lent w (below-least w) (below-most w), (p .1 .1 .1 .1 .0, p .1 .1 .1 .1 .1 .0)))))
 
 same-length : tie.Need-same-length
 same-length c = search needs

@@ -2,7 +2,7 @@
 -- Assumes nothing.
 use mathlib.Core.Path.{sym, ap}
 use Rattle.yuv_support.specs.declared.YuvChromaSubsampling.{YuvChromaSubsampling}
-use Rattle.sharp_planes.specs.Band.{firstRow}
+use Rattle.sharp_planes.specs.Known.{firstRow}
 use borrow.Author.Needs.{needs}
 use Rattle.sharp_planes.proofs.first_row.Statement.{statement}
 use Rattle.sharp_planes.proofs.first_row.Tie as tie

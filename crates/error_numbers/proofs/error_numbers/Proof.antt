@@ -1,0 +1,116 @@
+-- `error_numbers` meets its contract: each arm is the definition's case.
+-- Assumes nothing.
+use mathlib.Core.Path.{sym, ap}
+use Rattle.yuv_error.specs.Numbers.{errorNumbers}
+use borrow.Author.Needs.{needs}
+use Rattle.error_numbers.proofs.error_numbers.Statement.{statement}
+use Rattle.error_numbers.proofs.error_numbers.Tie as tie
+
+enum-told : tie.Need-enum-told
+enum-told c = search needs
+
+enum-told-2 : tie.Need-enum-told-2
+enum-told-2 c = search needs
+
+enum-told-3 : tie.Need-enum-told-3
+enum-told-3 c = search needs
+
+enum-told-4 : tie.Need-enum-told-4
+enum-told-4 c = search needs
+
+enum-told-5 : tie.Need-enum-told-5
+enum-told-5 c = search needs
+
+enum-known-e : tie.Need-enum-known-e
+enum-known-e c = search needs
+
+enum-known-e-2 : tie.Need-enum-known-e-2
+enum-known-e-2 c = search needs
+
+enum-known-e-3 : tie.Need-enum-known-e-3
+enum-known-e-3 c = search needs
+
+enum-known-e-4 : tie.Need-enum-known-e-4
+enum-known-e-4 c = search needs
+
+enum-known-e-5 : tie.Need-enum-known-e-5
+enum-known-e-5 c = search needs
+
+enum-known-e-6 : tie.Need-enum-known-e-6
+enum-known-e-6 c = search needs
+
+enum-known-e-7 : tie.Need-enum-known-e-7
+enum-known-e-7 c = search needs
+
+enum-known-e-8 : tie.Need-enum-known-e-8
+enum-known-e-8 c = search needs
+
+returns : tie.Need-returns
+returns c = sym (ap errorNumbers (c .enum-told .given .1))
+
+returns-2 : tie.Need-returns-2
+returns-2 c = sym (ap errorNumbers (c .enum-told2 .given .1))
+
+returns-3 : tie.Need-returns-3
+returns-3 c = sym (ap errorNumbers (c .enum-told3 .given .1))
+
+returns-4 : tie.Need-returns-4
+returns-4 c = sym (ap errorNumbers (c .enum-told4 .given .1))
+
+returns-5 : tie.Need-returns-5
+returns-5 c = sym (ap errorNumbers (c .enum-told5 .given .1))
+
+returns-6 : tie.Need-returns-6
+returns-6 c = sym (ap errorNumbers (c .before .e .given .1))
+
+returns-7 : tie.Need-returns-7
+returns-7 c = sym (ap errorNumbers (c .before .e2 .given .1))
+
+returns-8 : tie.Need-returns-8
+returns-8 c = sym (ap errorNumbers (c .before .e3 .given .1))
+
+returns-9 : tie.Need-returns-9
+returns-9 c = sym (ap errorNumbers (c .before .e4 .given .1))
+
+returns-10 : tie.Need-returns-10
+returns-10 c = sym (ap errorNumbers (c .before .e5 .given .1))
+
+returns-11 : tie.Need-returns-11
+returns-11 c = sym (ap errorNumbers (c .before .e6 .given .1))
+
+returns-12 : tie.Need-returns-12
+returns-12 c = sym (ap errorNumbers (c .before .e7 .given .1))
+
+returns-13 : tie.Need-returns-13
+returns-13 c = sym (ap errorNumbers (c .before .e8 .given .1))
+
+pub error-numbers-spec : {M : Type 1} → statement M
+error-numbers-spec =
+    tie.close
+    (tie.spec
+    enum-told
+    enum-told-2
+    enum-told-3
+    enum-told-4
+    enum-told-5
+    enum-known-e
+    enum-known-e-2
+    enum-known-e-3
+    enum-known-e-4
+    enum-known-e-5
+    enum-known-e-6
+    enum-known-e-7
+    enum-known-e-8
+    returns
+    returns-2
+    returns-3
+    returns-4
+    returns-5
+    returns-6
+    returns-7
+    returns-8
+    returns-9
+    returns-10
+    returns-11
+    returns-12
+    returns-13)

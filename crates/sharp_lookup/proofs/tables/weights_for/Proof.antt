@@ -1,0 +1,21 @@
+-- `weights_for` meets its contract: each arm is the definition's case.
+-- Assumes nothing.
+use borrow.Author.Needs.{needs}
+use mathlib.Core.Path.{refl}
+use Rattle.sharp_lookup.proofs.tables.weights_for.Statement.{statement}
+use Rattle.sharp_lookup.proofs.tables.weights_for.Tie as tie
+
+enum-told : tie.Need-enum-told
+enum-told c = search needs
+
+enum-told-2 : tie.Need-enum-told-2
+enum-told-2 c = search needs
+
+returns : tie.Need-returns
+returns c = rw (c .enum-told .given .1)
+
+returns-2 : tie.Need-returns-2
+returns-2 c = rw (c .enum-told2 .given .1)
+
+pub weights-for-spec : {M : Type 1} → statement M
+weights-for-spec = tie.close (tie.spec enum-told enum-told-2 returns returns-2)

@@ -1,0 +1,3 @@
+-- Laws of the chroma rows that are made by lookup.
+mod Whole
+mod Rows

@@ -1,0 +1,121 @@
+-- A band's own rows, the image that it sees, and two luma rows in their plane.
+-- Assumes nothing.
+use Prim.Native.Nat.{ℕ, _+_, _*_, _-_, _/_, _%_, _≤_, _<_, min}
+use mathlib.Core.Path.{_≡_, ap, sym, _∙_, subst}
+use mathlib.Core.Bool.{Bool, true, false}
+use mathlib.Core.List.{List}
+use native.Mathlib.Nat.{add-mul, one-mul, div-add-mod'}
+use native.Mathlib.Omega.{arith}
+use borrow.Rule.Slice.PartMut.{putMid, same-len-mid}
+use lib.ListN.{length, getD, take, drop, length-drop}
+use lib.Seq.{length-take-le}
+use Rattle.yuv_support.specs.declared.YuvChromaSubsampling.{YuvChromaSubsampling}
+use Rattle.yuv_support.specs.declared.YuvChromaSubsampling.the-variants.{Yuv420, Yuv422}
+use Rattle.sharp_row.specs.declared.YuvSettings.{YuvSettings}
+use Rattle.sharp_row.specs.Painted.{Painted}
+use Rattle.sharp_row.specs.Row.{Pixels, input420, input422}
+use Rattle.sharp_row.proofs.Parts.{part-before, part-in, part-after, part-was}
+use Rattle.sharp_lookup.specs.TwoRows.{TwoPainted}
+use Rattle.sharp_planes.specs.Image.{Image, chromaInput}
+use Rattle.sharp_planes.specs.Plane.{written, PlaneIs}
+use Rattle.sharp_planes.specs.Band.{ownRows, bandImage}
+use Rattle.sharp_planes.specs.Known.{firstRow, belowRow}
+use Rattle.sharp_planes.proofs.Planes.{Inside, inside?, below?, byteOf, row-of}
+use Rattle.sharp_planes.proofs.Rows.{band-own-rows}
+
+-- the rows of a chroma row that are the band's own
+pub own420 : (s : YuvSettings) (w h k : ℕ) (image : Image) (this below : Pixels) → s .sampling ≡ Yuv420 → 2 * k + 2 ≤ h → this ≡ image (2 * k) → below ≡ image (2 * k + 1)
+    → input420 s w this below ≡ chromaInput s (s .sampling) w h image k
+own420 s w h k image this below m l a b =
+    let last : 2 * k + 1 ≡ min (2 * k + 1) (h - 1) = omega arith in
+    ap (λ (p : Pixels). input420 s w p below) a ∙ ap (λ (p : Pixels). input420 s w (image (2 * k)) p) (b ∙ ap image last)
+    ∙ sym (ap (λ (m : YuvChromaSubsampling). chromaInput s m w h image k) m)
+
+pub own422 : (s : YuvSettings) (w h k : ℕ) (image : Image) (this : Pixels) → s .sampling ≡ Yuv422 → this ≡ image k → input422 s w this ≡ chromaInput s (s .sampling) w h image k
+own422 s w h k image this m a = ap (λ (p : Pixels). input422 s w p) a ∙ sym (ap (λ (m : YuvChromaSubsampling). chromaInput s m w h image k) m)
+
+-- a band's own rows and the image that it sees: chroma rows that are made of the former
+pub sees : (s : YuvSettings) (w h done stride : ℕ) (source carried : List ℕ) (k : ℕ) → done ≤ firstRow (s .sampling) k → done ≤ belowRow (s .sampling) h k
+    → chromaInput s (s .sampling) w h (ownRows s w done stride source) k ≡ chromaInput s (s .sampling) w h (bandImage s w done stride source carried) k
+sees s w h done stride source carried k l n = go (s .sampling) l n
+  where
+    go : (m : YuvChromaSubsampling) → done ≤ firstRow m k → done ≤ belowRow m h k
+        → chromaInput s m w h (ownRows s w done stride source) k ≡ chromaInput s m w h (bandImage s w done stride source carried) k
+    go Yuv420 a b =
+        ap (λ (p : Pixels). input420 s w p (ownRows s w done stride source (min (2 * k + 1) (h - 1)))) (band-own-rows s w done stride source carried (2 * k) a)
+        ∙ ap (λ (p : Pixels). input420 s w (bandImage s w done stride source carried (2 * k)) p) (band-own-rows s w done stride source carried (min (2 * k + 1) (h - 1)) b)
+    go Yuv422 a b = ap (λ (p : Pixels). input422 s w p) (band-own-rows s w done stride source carried k a)
+
+-- painted rows, by equal functions
+pub painted-as : {n : ℕ} {f g : ℕ → ℕ} {d e : List ℕ} → f ≡ g → Painted n f d e → Painted n g d e
+painted-as {n} {d = d} {e = e} h p = subst (λ (f : ℕ → ℕ). Painted n f d e) h p
+
+pub two-as : {upper lower n : ℕ} {f f′ g g′ : ℕ → ℕ} {d e : List ℕ} → f ≡ f′ → g ≡ g′ → TwoPainted upper lower n f g d e → TwoPainted upper lower n f′ g′ d e
+two-as {upper} {lower} {n} {f} {f′} {g} {g′} {d} {e} h k p = subst (λ (g : ℕ → ℕ). TwoPainted upper lower n f′ g d e) k (subst (λ (f : ℕ → ℕ). TwoPainted upper lower n f g d e) h p)
+
+-- two rows that were painted while they were lent in one part, which starts at `at`
+pub two-part : (at k lower n : ℕ) {f g : ℕ → ℕ} {e part : List ℕ} → at + k ≤ length e → lower + n ≤ k → n ≤ lower → TwoPainted 0 lower n f g (take k (drop at e)) part
+    → TwoPainted at (at + lower) n f g e (putMid at k e part)
+two-part at k lower n {f} {g} {e} {part} inside fits apart rows = record { size = same-len-mid at k e part (rows .size); in-upper = in-upper; in-lower = in-lower; other = other }
+  where
+    size : length part ≡ k
+    size = rows .size ∙ length-take-le k (drop at e) (simp length-drop (omega arith))
+
+    in-upper : (j : ℕ) → j < n → getD (putMid at k e part) (at + j) 0 ≡ f j
+    in-upper j h =
+        let here : 0 + j ≡ j = omega arith in
+        part-in at k e part inside size j (omega arith) ∙ subst (λ (p : ℕ). getD part p 0 ≡ f j) here (rows .in-upper j h)
+
+    in-lower : (j : ℕ) → j < n → getD (putMid at k e part) (at + lower + j) 0 ≡ g j
+    in-lower j h =
+        let there : at + (lower + j) ≡ at + lower + j = omega arith in
+        subst (λ (p : ℕ). getD (putMid at k e part) p 0 ≡ g j) there (part-in at k e part inside size (lower + j) (omega arith) ∙ rows .in-lower j h)
+
+    -- byte q of the part, as it was
+    was : (q : ℕ) → q < k → (at ≤ at + q → at + q < at + n → ⊥) → (at + lower ≤ at + q → at + q < at + lower + n → ⊥) → getD (putMid at k e part) (at + q) 0 ≡ getD e (at + q) 0
+    was q h a b =
+        part-in at k e part inside size q h ∙ rows .other q (λ x y. a (omega arith) (omega arith)) (λ x y. b (omega arith) (omega arith))
+        ∙ part-was at k e q h
+
+    other : (p : ℕ) → (at ≤ p → p < at + n → ⊥) → (at + lower ≤ p → p < at + lower + n → ⊥) → getD (putMid at k e part) p 0 ≡ getD e p 0
+    other p a b =
+        below? p at (part-before at k e part inside size p)
+        (λ l. below? p (at + k)
+        (λ m. let there : at + (p - at) ≡ p = omega arith in
+        subst (λ (p : ℕ). getD (putMid at k e part) p 0 ≡ getD e p 0) there (was (p - at) (omega arith) (λ x y. a (omega arith) (omega arith)) (λ x y. b (omega arith) (omega arith))))
+        (λ m. let there : at + (k + (p - (at + k))) ≡ p = omega arith in
+        subst (λ (p : ℕ). getD (putMid at k e part) p 0 ≡ getD e p 0) there (part-after at k e part inside size (p - (at + k)))))
+
+-- two rows that were painted where they stand: the plane with both written
+pub rows-written : (i stride n upper lower : ℕ) (f : ℕ → ℕ → ℕ) (e e′ : List ℕ) → upper ≡ i * stride → lower ≡ upper + stride → n ≤ stride
+    → TwoPainted upper lower n (f i) (f (i + 1)) e e′ → PlaneIs i (i + 2) stride n f e e′
+rows-written i stride n upper lower f e e′ first second wide rows = record { size = rows .size; byte = λ p. inside? i (i + 2) stride n p (new p) (old p) }
+  where
+    third : lower ≡ (i + 1) * stride
+    third = omega (arith, add-mul i 1 stride, one-mul stride)
+
+    -- byte p of row r, where the row starts at `at`
+    byte : (r at p : ℕ) → at ≡ r * stride → p / stride ≡ r → getD e′ (at + p % stride) 0 ≡ f r (p % stride) → getD e′ p 0 ≡ f (p / stride) (p % stride)
+    byte r at p place is h =
+        let there : at + p % stride ≡ p = ap (λ (x : ℕ). x + p % stride) (place ∙ ap (λ (x : ℕ). x * stride) (sym is)) ∙ div-add-mod' p stride in
+        subst (λ (x : ℕ). getD e′ x 0 ≡ f r (p % stride)) there h ∙ ap (λ (x : ℕ). f x (p % stride)) (sym is)
+
+    new : (p : ℕ) → Inside i (i + 2) stride n p → written i (i + 2) stride n p ≡ true → getD e′ p 0 ≡ byteOf stride f p (written i (i + 2) stride n p) (getD e p 0)
+    new p h w =
+        below? (p / stride) (i + 1)
+        (λ l. byte i upper p first (omega arith) (rows .in-upper (p % stride) (h .column)))
+        (λ l. byte (i + 1) lower p third (omega arith) (rows .in-lower (p % stride) (h .column)))
+        ∙ sym (ap (λ (b : Bool). byteOf stride f p b (getD e p 0)) w)
+
+    -- a byte among the first n of row r is inside
+    in-row : (r at p : ℕ) → at ≡ r * stride → i ≤ r → r < i + 2 → at ≤ p → p < at + n → Inside i (i + 2) stride n p
+    in-row r at p place least most a b =
+        let q = p - at in
+        let there : at + q ≡ p = omega arith in
+        let w = row-of r stride q p (omega arith) (ap (λ (x : ℕ). x + q) (sym place) ∙ there) in
+        record { row-least = omega arith; row-most = omega arith; column = omega arith }
+
+    old : (p : ℕ) → (Inside i (i + 2) stride n p → ⊥) → written i (i + 2) stride n p ≡ false → getD e′ p 0 ≡ byteOf stride f p (written i (i + 2) stride n p) (getD e p 0)
+    old p out w =
+        rows .other p (λ a b. out (in-row i upper p first (omega arith) (omega arith) a b)) (λ a b. out (in-row (i + 1) lower p third (omega arith) (omega arith) a b))
+        ∙ sym (ap (λ (b : Bool). byteOf stride f p b (getD e p 0)) w)
