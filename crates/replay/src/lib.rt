@@ -1,21 +1,17 @@
 // Stored lists of calls: reading one, and holding what a call answered and left to what stands in it. vectors/README.md has the
 // form of a list: numbers with their low byte first, settings as codes, buffers as blocks that are repeated.
-use sharp_gamma::SharpYuvGammaTransfer;
 use sharp_row::YuvSettings;
 use yuv_error::YuvAnswer;
-use yuv_support::YuvChromaSubsampling;
-use yuv_support::YuvRange;
-use yuv_support::YuvSourceChannels;
 use yuv_support::YuvStandardMatrix;
 ghost use mathlib.Core.Path.{_≡_};
 ghost use mathlib.Core.Bool.{true};
 ghost use Prim.Native.Nat.{_+_, _*_, _<_, _≤_};
-ghost use lib.ListN.{length};
+ghost use lib.ListN.{length, getD};
 ghost use lib.Ieee.{ofBits, binary32};
 ghost use Rattle.yuv_error.specs.Numbers.{numbersOf};
 ghost use Rattle.replay.specs.Number.{number32, number64};
 ghost use Rattle.replay.specs.Block.{byteOf, Repeats, Agrees, Held, blockOf, afterBlock, BlockAt};
-ghost use Rattle.replay.specs.Settings.{channelsOf, samplingOf, rangeOf, matrixOf, transferOf, settingsAt, knownAt};
+ghost use Rattle.replay.specs.Settings.{matrixOf, settingsAt, knownAt};
 ghost use Rattle.replay.specs.Answer.{answerAt};
 
 fn pair(low: u8, high: u8) -> u32
@@ -157,80 +153,26 @@ pub fn compare(list: &[u8], at: usize, buffer: &[u8]) -> Compared
     }
 }
 
-fn channels_of(code: u8) -> YuvSourceChannels
-    ensures { λ r. ⌜ r ≡ channelsOf code ⌝ }
+// The code that stands at a place of the list.
+fn code_at(list: &[u8], at: usize) -> u32
+    requires { ⌜ at < length (now list) ⌝ }
+    ensures { λ r. ⌜ r ≡ getD (now (list .entry)) at 0 ⌝ }
 {
-    if code == 0 {
-        return YuvSourceChannels::Rgb;
-    }
-    if code == 1 {
-        return YuvSourceChannels::Rgba;
-    }
-    if code == 2 {
-        return YuvSourceChannels::Bgra;
-    }
-    YuvSourceChannels::Bgr
+    list[at] as u32
 }
 
-fn sampling_of(code: u8) -> YuvChromaSubsampling
-    ensures { λ r. ⌜ r ≡ samplingOf code ⌝ }
-{
-    if code == 0 {
-        return YuvChromaSubsampling::Yuv420;
-    }
-    YuvChromaSubsampling::Yuv422
-}
-
-fn range_of(code: u8) -> YuvRange
-    ensures { λ r. ⌜ r ≡ rangeOf code ⌝ }
-{
-    if code == 0 {
-        return YuvRange::Limited;
-    }
-    YuvRange::Full
-}
-
-fn matrix_of(code: u8, kr: u32, kb: u32) -> YuvStandardMatrix
+fn matrix_of(code: u32, kr: u32, kb: u32) -> YuvStandardMatrix
     ensures { λ r. ⌜ r ≡ matrixOf code kr kb ⌝ }
 {
-    if code == 0 {
-        return YuvStandardMatrix::Bt601;
+    if code == 6 {
+        YuvStandardMatrix::Custom(f32_of(kr), f32_of(kb))
+    } else {
+        setting_codes::matrix_of(code)
     }
-    if code == 1 {
-        return YuvStandardMatrix::Bt709;
-    }
-    if code == 2 {
-        return YuvStandardMatrix::Bt2020;
-    }
-    if code == 3 {
-        return YuvStandardMatrix::Smpte240;
-    }
-    if code == 4 {
-        return YuvStandardMatrix::Bt470_6;
-    }
-    if code == 5 {
-        return YuvStandardMatrix::Fcc;
-    }
-    YuvStandardMatrix::Custom(f32_of(kr), f32_of(kb))
-}
-
-fn transfer_of(code: u8) -> SharpYuvGammaTransfer
-    ensures { λ r. ⌜ r ≡ transferOf code ⌝ }
-{
-    if code == 0 {
-        return SharpYuvGammaTransfer::Srgb;
-    }
-    if code == 1 {
-        return SharpYuvGammaTransfer::Rec709;
-    }
-    if code == 2 {
-        return SharpYuvGammaTransfer::Gamma2p2;
-    }
-    SharpYuvGammaTransfer::Gamma2p8
 }
 
 // The settings that stand at a place of the list: five codes, then the bits of kr and kb. A code without a meaning is taken for
-// the last that has one; `are_known` tells.
+// the first that has one; `are_known` tells.
 pub fn settings_at(list: &[u8], at: usize) -> YuvSettings
     requires { ⌜ at + 13 ≤ length (now list) ⌝ }
     ensures { λ r. ⌜ r ≡ settingsAt (now (list .entry)) at ⌝ }
@@ -238,11 +180,11 @@ pub fn settings_at(list: &[u8], at: usize) -> YuvSettings
     let kr = u32_at(list, at + 5);
     let kb = u32_at(list, at + 9);
     YuvSettings {
-        channels: channels_of(list[at]),
-        sampling: sampling_of(list[at + 1]),
-        range: range_of(list[at + 2]),
-        matrix: matrix_of(list[at + 3], kr, kb),
-        transfer: transfer_of(list[at + 4]),
+        channels: setting_codes::channels_of(code_at(list, at)),
+        sampling: setting_codes::sampling_of(code_at(list, at + 1)),
+        range: setting_codes::range_of(code_at(list, at + 2)),
+        matrix: matrix_of(code_at(list, at + 3), kr, kb),
+        transfer: setting_codes::transfer_of(code_at(list, at + 4)),
     }
 }
 

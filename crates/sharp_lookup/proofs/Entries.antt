@@ -8,7 +8,7 @@ use Prim.Native.Nat.{ℕ, zero, suc, _+_, _*_, _-_, _/_, _%_, _≤_, _<_, min}
 use native.Mathlib.Nat.{mul-le-mul, mul-le-mul-right, mul-le-mul-left, add-mul, one-mul, mul-one}
 use native.Mathlib.Omega.{arith}
 use borrow.Author.Tests.{le-ltb}
-use lib.IntN.{ℤ, pos, natAbs}
+use lib.IntN.{ℤ, natAbs}
 use lib.ListN.{length, getD, set, length-set}
 use lib.Seq.{getD-set-same, getD-set-other}
 use Rattle.yuv_support.specs.declared.YuvChromaSubsampling.{YuvChromaSubsampling}
@@ -20,20 +20,20 @@ use Rattle.yuv_support.specs.declared.YuvRange.{YuvRange}
 use Rattle.yuv_support.specs.declared.YuvRange.the-variants.{Limited, Full}
 use Rattle.yuv_support.specs.Range.{yuvRange}
 use Rattle.forward_transform.specs.declared.CbCrForwardTransformI32.{CbCrForwardTransformI32}
-use Rattle.forward_transform.specs.Shape.{Shape, lumaMost, chromaTop}
+use Rattle.forward_transform.specs.Shape.{Shape, chromaTop}
 use Rattle.forward_transform.proofs.Signed.{size-neg}
 use Rattle.forward_transform.proofs.Sums.{Floored, luma-sum, cb-sum, cr-sum, chromaBias, lumaBias}
 use Rattle.sharp_gamma.specs.Entry.{TableOf, gammaEntry}
 use Rattle.sharp_gamma.proofs.Bounds.{linear-entry-le}
 use Rattle.sharp_row.specs.declared.YuvSettings.{YuvSettings}
-use Rattle.sharp_row.specs.Pixel.{floorDiv, weigh, atMost, heldBetween, weightsOf, biasY, capY, capUv, lumaOf, cbOf, crOf}
+use Rattle.sharp_row.specs.Pixel.{floorDiv, weigh, atMost, heldBetween, weightsOf, biasY, lumaOf, cbOf, crOf}
 use Rattle.sharp_row.specs.Row.{Pixels, linear, corrected, ofColour, input420, input422}
 use Rattle.sharp_row.proofs.Inputs.{input420-pair, input420-last, input422-pair, count-large}
 use Rattle.sharp_row.proofs.Painted.{by-place}
 use Rattle.sharp_row.proofs.Signed.{kept, read-small}
 use Rattle.sharp_row.proofs.Weights.{luma-small}
 use Rattle.sharp_lookup.specs.declared.pixels.Entries.{Entries}
-use Rattle.sharp_lookup.specs.Lookup.{halves, inLuma, inCb, inCr, lumaPart, cbPart, crPart, startOf, blueFirst, channelAt, lumaCell, chromaCell, Cells, LookedUp, Added, Neighbour, Corrector, weightsFor, Lookups, Mixable, MixedOf}
+use Rattle.sharp_lookup.specs.Lookup.{halves, inLuma, inCb, inCr, lumaPart, cbPart, crPart, startOf, blueFirst, channelAt, lumaCell, chromaCell, Cells, LookedUp, Added, Neighbour, Corrector, weightsFor, Lookups, Mixable}
 
 -- ---- tables
 

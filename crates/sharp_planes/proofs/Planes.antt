@@ -2,12 +2,12 @@
 -- Assumes nothing.
 use Prim.Native.Nat.{ℕ, _+_, _*_, _-_, _/_, _%_, _≤_, _<_}
 use mathlib.Core.Path.{_≡_, refl, sym, _∙_, ap, subst}
-use mathlib.Core.Bool.{Bool, true, false, cond, _&&_}
+use mathlib.Core.Bool.{Bool, true, false, cond}
 use mathlib.Core.List.{List, _++_}
-use native.Mathlib.Nat.{mul-add-mod-self-right, mod-eq-of-lt, div-eq-of-lt-le, div-add-mod', mod-lt, add-mul, one-mul, mul-le-mul-right}
+use native.Mathlib.Nat.{mul-add-mod-self-right, mod-eq-of-lt, div-eq-of-lt-le, div-add-mod', add-mul, one-mul}
 use native.Mathlib.Omega.{arith}
 use native.Mathlib.Decide.{decLt}
-use borrow.Author.Tests.{ltb-true, ltb-false, lt-ltb, le-ltb, leb-true, leb-false, le-leb, lt-leb}
+use borrow.Author.Tests.{ltb-true, ltb-false, lt-ltb, le-ltb, leb-true, leb-false}
 use borrow.Rule.Slice.PartMut.{putMid, same-len-mid}
 use lib.Dec.{ltb, leb}
 use lib.ListN.{length, getD, take, drop, length-take, length-drop, List·getD-append}

@@ -2,12 +2,12 @@
 -- A swap paints a pair more, and an odd last pixel the last.
 -- Assumes nothing.
 use mathlib.Core.Path.{_≡_, refl}
-use Prim.Native.Nat.{ℕ, _+_, _*_, _-_, _≤_, _<_}
+use Prim.Native.Nat.{_*_, _-_, _≤_}
 use native.Mathlib.Omega.{arith}
 use Rattle.yuv_support.specs.Channels.{channelsCount}
 use Rattle.yuv_support.specs.Sampling.{chromaWidth}
 use Rattle.sharp_row.specs.Painted.{Painted}
-use Rattle.sharp_row.specs.Row.{Pixels, pixelsOf, lumaRow, input422}
+use Rattle.sharp_row.specs.Row.{pixelsOf, lumaRow, input422}
 use Rattle.sharp_row.proofs.Painted.{painted-none}
 use Rattle.sharp_row.proofs.Coloured.{Chroma, chroma-none, chroma-all}
 use Rattle.sharp_lookup.proofs.Entries.{first-neighbour, corrector}

@@ -2,11 +2,11 @@
 -- A swap paints a block more, and an odd last pixel the last.
 -- Assumes nothing.
 use mathlib.Core.Path.{_≡_, refl}
-use Prim.Native.Nat.{ℕ, _+_, _*_, _-_, _≤_, _<_}
+use Prim.Native.Nat.{_+_, _*_, _-_, _≤_}
 use native.Mathlib.Omega.{arith}
 use Rattle.yuv_support.specs.Channels.{channelsCount}
 use Rattle.yuv_support.specs.Sampling.{chromaWidth}
-use Rattle.sharp_row.specs.Row.{Pixels, pixelsOf, lumaRow, input420}
+use Rattle.sharp_row.specs.Row.{pixelsOf, lumaRow, input420}
 use Rattle.sharp_row.proofs.Coloured.{Chroma, chroma-none, chroma-all}
 use Rattle.sharp_lookup.specs.TwoRows.{TwoPainted}
 use Rattle.sharp_lookup.proofs.TwoRows.{two-none, two-to, chroma-next}

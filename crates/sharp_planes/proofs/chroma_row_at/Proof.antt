@@ -6,7 +6,7 @@ use mathlib.Core.List.{List}
 use native.Mathlib.Omega.{arith}
 use borrow.Author.Needs.{needs}
 use lib.Dec.{lit≤}
-use lib.ListN.{length, take, drop}
+use lib.ListN.{take, drop}
 use Rattle.yuv_support.specs.Channels.{channelsCount}
 use Rattle.sharp_row.specs.Row.{Pixels, pixelsOf, cbRow, crRow, input420}
 use Rattle.sharp_planes.specs.Image.{Image, chromaInput, cbAt, crAt}

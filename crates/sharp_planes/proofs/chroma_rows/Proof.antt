@@ -1,22 +1,20 @@
 -- `chroma_rows` meets its contract: after each turn the chroma rows up to k are written, and each is made of rows that the band sees.
 -- Assumes nothing.
-use Prim.Native.Nat.{ℕ, _+_, _*_, _-_, _≤_, _<_}
-use mathlib.Core.Path.{_≡_, refl, sym, ap, _∙_, subst}
+use Prim.Native.Nat.{ℕ, _+_, _-_, _≤_}
+use mathlib.Core.Path.{_≡_}
 use mathlib.Core.List.{List}
-use native.Mathlib.Nat.{mul-le-mul-right}
 use native.Mathlib.Omega.{arith}
 use borrow.Author.Needs.{needs}
-use lib.ListN.{length}
 use Rattle.yuv_support.specs.Sampling.{chromaWidth, chromaHeight}
 use Rattle.sharp_row.specs.declared.YuvSettings.{YuvSettings}
 use Rattle.sharp_planes.specs.declared.Band.{Band}
-use Rattle.sharp_planes.specs.Image.{Image, finishedOf, cbAt, crAt}
+use Rattle.sharp_planes.specs.Image.{Image, cbAt, crAt}
 use Rattle.sharp_planes.specs.Plane.{PlaneIs}
 use Rattle.sharp_planes.specs.Band.{bandImage}
 use Rattle.sharp_planes.specs.Known.{Between}
 use Rattle.sharp_planes.proofs.Planes.{plane-none, plane-then, plane-to}
 use Rattle.sharp_planes.proofs.Numbers.{room-up-to}
-use Rattle.sharp_planes.proofs.Finished.{finished-rise, finished-most, between}
+use Rattle.sharp_planes.proofs.Finished.{finished-most, between}
 use Rattle.sharp_planes.proofs.chroma_rows.Statement.{statement}
 use Rattle.sharp_planes.proofs.chroma_rows.Tie as tie
 

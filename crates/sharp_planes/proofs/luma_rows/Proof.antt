@@ -1,15 +1,15 @@
 -- `luma_rows` meets its contract: after each turn the planes' rows up to `done + row` are written.
 -- Assumes nothing.
-use Prim.Native.Nat.{ℕ, _≤_, _<_, _*_, _-_, _+_}
+use Prim.Native.Nat.{ℕ, _≤_, _*_, _-_, _+_}
 use mathlib.Core.Path.{_≡_, ap, _∙_, subst}
 use borrow.Author.Needs.{needs}
 use native.Mathlib.Omega.{arith}
-use lib.ListN.{length, getD, take, drop, length-take, length-drop}
+use lib.ListN.{length, take, drop, length-take, length-drop}
 use Rattle.yuv_support.specs.Channels.{channelsCount}
-use Rattle.sharp_row.specs.Row.{Pixels, pixelsOf, lumaRow}
+use Rattle.sharp_row.specs.Row.{Pixels, lumaRow}
 use Rattle.sharp_row.specs.Painted.{Painted}
 use Rattle.sharp_planes.specs.Plane.{PlaneIs}
-use Rattle.sharp_planes.specs.Image.{lumaAt, sourceImage, rowBytes}
+use Rattle.sharp_planes.specs.Image.{lumaAt}
 use Rattle.sharp_planes.specs.Band.{ownRows}
 use native.Mathlib.Nat.{mul-comm, mul-le-mul-left, mul-le-mul-right}
 use Rattle.sharp_planes.proofs.Numbers.{row-end, next-row}

@@ -1,7 +1,7 @@
 -- `row422_at` meets its contract: the part of the source is the band's own row, and each plane's part comes back painted.
 -- Assumes nothing.
 use Prim.Native.Nat.{ℕ, _+_, _*_, _-_, _≤_, _<_}
-use mathlib.Core.Path.{_≡_, refl, sym, ap, _∙_}
+use mathlib.Core.Path.{_≡_, refl, ap}
 use native.Mathlib.Omega.{arith}
 use lib.ListN.{length, length-take, length-drop}
 use Rattle.yuv_support.specs.Channels.{channelsCount}

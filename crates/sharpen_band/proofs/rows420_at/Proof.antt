@@ -1,7 +1,7 @@
 -- `rows420_at` meets its contract: both parts of the source are the band's own rows, both luma rows are painted where they stand, and the chroma
 -- rows come back painted.
 -- Assumes nothing.
-use Prim.Native.Nat.{ℕ, _+_, _*_, _-_, _≤_, _<_}
+use Prim.Native.Nat.{ℕ, _+_, _*_, _-_, _≤_}
 use mathlib.Core.Path.{_≡_, refl, sym, ap, _∙_}
 use native.Mathlib.Omega.{arith}
 use lib.ListN.{length, length-take, length-drop}

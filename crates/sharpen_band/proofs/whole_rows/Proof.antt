@@ -1,6 +1,6 @@
 -- `whole_rows` meets its contract: after each turn the chroma rows up to k and the luma rows that share them are written.
 -- Assumes nothing.
-use Prim.Native.Nat.{ℕ, _+_, _*_, _-_, _≤_, _<_}
+use Prim.Native.Nat.{ℕ, _+_, _-_, _≤_}
 use mathlib.Core.Path.{_≡_, ap}
 use mathlib.Core.List.{List}
 use native.Mathlib.Omega.{arith}

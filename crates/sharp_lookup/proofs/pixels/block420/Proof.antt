@@ -1,10 +1,9 @@
 -- `block420` meets its contract: the entries of its pixels, added, are in the gamma table what the definition's input is, whether there is a
 -- pixel to the right or not.
 -- Assumes nothing.
-use mathlib.Core.Path.{_≡_}
-use Prim.Native.Nat.{ℕ, _+_, _*_, _-_, _≤_, _<_, min}
+use Prim.Native.Nat.{_+_, _-_}
 use native.Mathlib.Omega.{arith}
-use lib.ListN.{length, length-set}
+use lib.ListN.{length-set}
 use Rattle.yuv_support.specs.Channels.{channelsCount}
 use Rattle.sharp_row.specs.Row.{Pixels, pixelsOf, cbRow, crRow, input420}
 use Rattle.sharp_lookup.proofs.Entries.{first420, second420, third420, first-neighbour, second-neighbour, third-neighbour, corrector, Mixed3, mixed420}

@@ -1,6 +1,6 @@
 -- `chroma_of` meets its contract: the entries of three bytes come to cr and cb.
 -- Assumes nothing.
-use mathlib.Core.Path.{_≡_, refl, _∙_}
+use mathlib.Core.Path.{refl, _∙_}
 use Prim.Native.Nat.{ℕ, zero, suc}
 use Rattle.sharp_row.specs.Pixel.{cbOf, crOf}
 use Rattle.sharp_row.specs.Row.{ofColour}

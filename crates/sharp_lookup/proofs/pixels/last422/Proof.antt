@@ -1,12 +1,12 @@
 -- `last422` meets its contract: the definition takes an odd last pixel's own bytes.
 -- Assumes nothing.
-use mathlib.Core.Path.{_≡_, sym, ap, _∙_}
-use Prim.Native.Nat.{ℕ, _+_, _*_, _≤_, _<_}
+use mathlib.Core.Path.{_≡_, _∙_}
+use Prim.Native.Nat.{ℕ, _+_, _*_}
 use native.Mathlib.Omega.{arith}
-use lib.ListN.{length, length-set}
+use lib.ListN.{length-set}
 use Rattle.yuv_support.specs.Channels.{channelsCount}
 use Rattle.sharp_row.specs.Pixel.{cbOf, crOf}
-use Rattle.sharp_row.specs.Row.{Pixels, pixelsOf, ofColour, cbRow, crRow, input422}
+use Rattle.sharp_row.specs.Row.{pixelsOf, cbRow, crRow, input422}
 use Rattle.sharp_row.proofs.Inputs.{input422-last}
 use Rattle.sharp_lookup.proofs.Entries.{in-row, of-like}
 use Rattle.sharp_lookup.proofs.TwoRows.{painted-next, painted-to}

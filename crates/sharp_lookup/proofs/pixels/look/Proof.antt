@@ -1,7 +1,6 @@
 -- `look` meets its contract: the entries of a place stand together.
 -- Assumes nothing.
-use mathlib.Core.Path.{_≡_, ap, _∙_}
-use Prim.Native.Nat.{ℕ}
+use mathlib.Core.Path.{ap, _∙_}
 use native.Mathlib.Omega.{arith}
 use Rattle.sharp_lookup.proofs.Entries.{first-at, second-at, third-at}
 use borrow.Author.Needs.{needs}

@@ -1,9 +1,9 @@
 -- `pair422` meets its contract: the entries of its pixels, added, are in the gamma table what the definition's input is.
 -- Assumes nothing.
 use mathlib.Core.Path.{_≡_}
-use Prim.Native.Nat.{ℕ, _+_, _*_, _≤_, _<_}
+use Prim.Native.Nat.{_+_, _*_}
 use native.Mathlib.Omega.{arith}
-use lib.ListN.{length, length-set}
+use lib.ListN.{length-set}
 use Rattle.yuv_support.specs.Channels.{channelsCount}
 use Rattle.sharp_row.specs.Row.{Pixels, pixelsOf, cbRow, crRow, input422}
 use Rattle.sharp_lookup.proofs.Entries.{first422, second422, first-neighbour, second-neighbour, corrector, Mixed3, mixed422}

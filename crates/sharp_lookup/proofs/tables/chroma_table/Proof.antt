@@ -1,11 +1,10 @@
 -- `chroma_table` meets its contract. The invariant: each channel's first x entries are filled.
 -- Assumes nothing.
 use mathlib.Core.Path.{_≡_, refl, ap, _∙_}
-use Prim.Native.Nat.{ℕ, _+_, _*_, _-_, _≤_, _<_}
+use Prim.Native.Nat.{_+_, _-_, _≤_, _<_}
 use native.Mathlib.Omega.{arith}
 use borrow.Author.Needs.{needs}
 use lib.IntN.{natAbs}
-use lib.ListN.{length-replicate}
 use Rattle.forward_transform.specs.declared.CbCrForwardTransformI32.{CbCrForwardTransformI32}
 use Rattle.sharp_row.specs.Pixel.{weightsOf}
 use Rattle.sharp_row.specs.Colour.{Small}

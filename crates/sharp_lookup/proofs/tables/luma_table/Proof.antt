@@ -1,11 +1,11 @@
 -- `luma_table` meets its contract. The invariant: each channel's first x entries are filled.
 -- Assumes nothing.
-use mathlib.Core.Path.{_≡_, ap, _∙_}
-use Prim.Native.Nat.{ℕ, _+_, _*_, _-_, _≤_, _<_}
+use mathlib.Core.Path.{_≡_, ap}
+use Prim.Native.Nat.{_+_, _*_, _-_, _≤_, _<_}
 use native.Mathlib.Omega.{arith}
 use borrow.Author.Needs.{needs}
 use lib.IntN.{natAbs}
-use lib.ListN.{getD, length-replicate}
+use lib.ListN.{getD}
 use Rattle.yuv_support.specs.declared.YuvChromaRange.{YuvChromaRange}
 use Rattle.forward_transform.specs.declared.CbCrForwardTransformI32.{CbCrForwardTransformI32}
 use Rattle.sharp_row.specs.Pixel.{weightsOf}

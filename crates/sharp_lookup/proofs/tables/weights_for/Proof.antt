@@ -1,7 +1,6 @@
 -- `weights_for` meets its contract: each arm is the definition's case.
 -- Assumes nothing.
 use borrow.Author.Needs.{needs}
-use mathlib.Core.Path.{refl}
 use Rattle.sharp_lookup.proofs.tables.weights_for.Statement.{statement}
 use Rattle.sharp_lookup.proofs.tables.weights_for.Tie as tie
 
