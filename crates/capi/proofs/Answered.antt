@@ -6,7 +6,7 @@ use mathlib.Core.Bool.{Bool, true, false}
 use mathlib.Core.List.{List}
 use Rattle.yuv_error.specs.declared.YuvAnswer.{YuvAnswer}
 use Rattle.yuv_error.specs.Numbers.{numbers, numbersOf}
-use Rattle.sharp_planes.specs.declared.FrameDescription.{FrameDescription}
+use Rattle.definitions.specs.declared.FrameDescription.{FrameDescription}
 use Rattle.sharp_bands.specs.declared.FrameAnswer.{FrameAnswer}
 use Rattle.sharp_bands.specs.Band.{stateOf}
 use Rattle.sharp_bands.specs.Calls.{either}

@@ -8,7 +8,7 @@ use Rattle.yuv_error.specs.declared.YuvError.the-variants.{MalformedRequest}
 use Rattle.yuv_error.specs.declared.YuvAnswer.{YuvAnswer}
 use Rattle.yuv_error.specs.declared.YuvAnswer.the-variants.{Refused}
 use Rattle.yuv_error.specs.Numbers.{numbers, numbersOf}
-use Rattle.sharp_planes.specs.declared.FrameDescription.{FrameDescription}
+use Rattle.definitions.specs.declared.FrameDescription.{FrameDescription}
 use Rattle.sharp_rgba_to_yuv.specs.Frame.{FramePost}
 use Rattle.sharp_bands.specs.declared.FrameState.{FrameState}
 use Rattle.sharp_bands.specs.declared.FrameAnswer.{FrameAnswer}

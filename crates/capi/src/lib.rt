@@ -1,8 +1,8 @@
 // The functions that C links: plain numbers and lent bytes, no enum and no struct. include/segvartin.h declares them.
+use definitions::FrameDescription;
+use definitions::YuvSettings;
 use sharp_bands::FrameAnswer;
 use sharp_bands::FrameState;
-use sharp_planes::FrameDescription;
-use sharp_row::YuvSettings;
 use yuv_error::YuvAnswer;
 use yuv_error::YuvError;
 use yuv_support::YuvStandardMatrix;

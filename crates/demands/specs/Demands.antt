@@ -19,8 +19,8 @@ use Rattle.sharp_gamma.specs.declared.SharpYuvGammaTransfer.{SharpYuvGammaTrans
 use Rattle.sharp_gamma.specs.Fraction.{_over_}
 use Rattle.sharp_gamma.specs.Curve.{curveOf, underCurve, underInverse}
 use Rattle.sharp_gamma.specs.Entry.{linearEntry, gammaEntry}
-use Rattle.sharp_planes.specs.declared.FrameDescription.{FrameDescription}
-use Rattle.sharp_planes.specs.Image.{sourceImage, lumaAt, cbAt, crAt}
+use Rattle.definitions.specs.declared.FrameDescription.{FrameDescription}
+use Rattle.definitions.specs.Image.{sourceImage, lumaAt, cbAt, crAt}
 use Rattle.sharp_rgba_to_yuv.specs.Frame.{openingRules, frameRules, FramePost}
 use Rattle.sharp_bands.specs.declared.FrameAnswer.{FrameAnswer}
 use Rattle.sharp_bands.specs.Band.{OpenPost, bandRules}

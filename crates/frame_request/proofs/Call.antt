@@ -13,11 +13,11 @@ use Rattle.yuv_error.specs.declared.YuvAnswer.{YuvAnswer}
 use Rattle.yuv_error.specs.declared.YuvAnswer.the-variants.{Finished, Refused}
 use Rattle.yuv_error.specs.Numbers.{numbersOf}
 use Rattle.yuv_error.specs.Rules.{firstOf}
-use Rattle.sharp_row.specs.Painted.{Painted}
+use Rattle.definitions.specs.Painted.{Painted}
 use Rattle.sharp_row.proofs.Painted.{painted-none}
-use Rattle.sharp_planes.specs.declared.FrameDescription.{FrameDescription}
-use Rattle.sharp_planes.specs.Image.{Image, sourceImage}
-use Rattle.sharp_planes.specs.Band.{Sharpened}
+use Rattle.definitions.specs.declared.FrameDescription.{FrameDescription}
+use Rattle.definitions.specs.Image.{Image, sourceImage}
+use Rattle.definitions.specs.Bands.{Sharpened}
 use Rattle.sharp_planes.proofs.Planes.{plane-same}
 use Rattle.sharp_rgba_to_yuv.specs.Frame.{frameRules, taken, FramePost}
 use Rattle.frame_request.specs.declared.PlaneSizes.{PlaneSizes}

@@ -11,12 +11,12 @@ use borrow.Rule.Slice.PartMut.{putMid}
 use lib.ListN.{length, getD, take, drop, length-take, length-drop, List·getD-eq-default}
 use Rattle.yuv_support.specs.declared.YuvChromaSubsampling.{YuvChromaSubsampling}
 use Rattle.yuv_support.specs.Sampling.{chromaWidth, chromaHeight}
-use Rattle.sharp_row.specs.Painted.{Painted}
+use Rattle.definitions.specs.Painted.{Painted}
 use Rattle.sharp_row.proofs.Painted.{painted, painted-at, painted-none, painted-join}
-use Rattle.sharp_planes.specs.declared.FrameDescription.{FrameDescription}
-use Rattle.sharp_planes.specs.Image.{Image, lumaAt, cbAt, crAt, finishedOf}
-use Rattle.sharp_planes.specs.Plane.{PlaneIs}
-use Rattle.sharp_planes.specs.Band.{Sharpened}
+use Rattle.definitions.specs.declared.FrameDescription.{FrameDescription}
+use Rattle.definitions.specs.Image.{Image, lumaAt, cbAt, crAt, finishedOf}
+use Rattle.definitions.specs.Plane.{PlaneIs}
+use Rattle.definitions.specs.Bands.{Sharpened}
 use Rattle.sharp_planes.proofs.Planes.{written-in, plane-other}
 use Rattle.sharp_planes.proofs.Finished.{finished-none, finished-last}
 use Rattle.frame_request.specs.declared.PlaneSizes.{PlaneSizes}

@@ -10,10 +10,10 @@ use Rattle.yuv_error.specs.declared.YuvAnswer.the-variants.{Finished, Refused}
 use Rattle.yuv_error.specs.Numbers.{Numbers, numbersOf}
 use Rattle.yuv_error.specs.Rules.{firstOf}
 use Rattle.yuv_error.proofs.First.{after-refused, append-finished}
-use Rattle.sharp_row.specs.Painted.{Painted}
+use Rattle.definitions.specs.Painted.{Painted}
 use Rattle.sharp_row.proofs.Painted.{painted-none}
-use Rattle.sharp_planes.specs.declared.FrameDescription.{FrameDescription}
-use Rattle.sharp_planes.specs.Image.{sourceImage}
+use Rattle.definitions.specs.declared.FrameDescription.{FrameDescription}
+use Rattle.definitions.specs.Image.{sourceImage}
 use Rattle.sharp_rgba_to_yuv.specs.Frame.{frameRules, taken}
 use Rattle.frame_request.specs.declared.Response.{Response}
 use Rattle.frame_request.specs.declared.Response.the-variants.{Planes, Refused as Refuses}

@@ -16,7 +16,7 @@ use Rattle.yuv_error.specs.Numbers.{Numbers}
 use Rattle.yuv_error.specs.Rules.{firstOf, matrixRules}
 use Rattle.yuv_error.proofs.First.{append-finished}
 use Rattle.yuv_error.proofs.Accepted.{accepted-buffers}
-use Rattle.sharp_planes.specs.declared.FrameDescription.{FrameDescription}
+use Rattle.definitions.specs.declared.FrameDescription.{FrameDescription}
 use Rattle.sharp_planes.proofs.Planes.{below?}
 use Rattle.sharp_planes.proofs.Numbers.{three-or-four}
 use Rattle.sharp_rgba_to_yuv.specs.Frame.{sourceOf, yOf, uOf, vOf, lentRules}

@@ -7,7 +7,7 @@ use lib.ListN.{take, drop}
 use Rattle.yuv_support.specs.Sampling.{chromaWidth}
 use Rattle.yuv_error.specs.declared.YuvAnswer.{YuvAnswer}
 use Rattle.yuv_error.specs.declared.YuvAnswer.the-variants.{Finished, Refused}
-use Rattle.sharp_planes.specs.declared.FrameDescription.{FrameDescription}
+use Rattle.definitions.specs.declared.FrameDescription.{FrameDescription}
 use Rattle.sharp_rgba_to_yuv.specs.Frame.{FramePost}
 use Rattle.frame_request.specs.declared.PlaneSizes.{PlaneSizes}
 use Rattle.frame_request.specs.declared.Response.{Response}

@@ -1,16 +1,16 @@
 // A request of the program `frame`, from its bytes to those that answer it.
-use sharp_planes::FrameDescription;
-use sharp_row::YuvSettings;
+use definitions::FrameDescription;
+use definitions::YuvSettings;
 use yuv_error::YuvAnswer;
 use yuv_error::YuvError;
 ghost use mathlib.Core.Path.{_≡_};
 ghost use mathlib.Core.List.{_++_};
 ghost use Prim.Native.Nat.{_+_, _*_, _≤_, _<_};
 ghost use lib.ListN.{length, take, drop};
-ghost use Rattle.sharp_row.specs.Painted.{Painted};
+ghost use Rattle.definitions.specs.Painted.{Painted};
 ghost use Rattle.yuv_error.specs.Numbers.{numbersOf};
 ghost use Rattle.yuv_error.specs.Rules.{firstOf, sizeRules};
-ghost use Rattle.sharp_planes.specs.Image.{sourceImage};
+ghost use Rattle.definitions.specs.Image.{sourceImage};
 ghost use Rattle.sharp_rgba_to_yuv.specs.Frame.{frameRules, taken};
 ghost use Rattle.frame_request.specs.Request.{settingsOf, frameOf, sourceStride, lumaSize, chromaSize, hasUnknown, headerRules, areaRules, openingRules, outputAt, outputSize, RequestPost};
 ghost use Rattle.frame_request.specs.Packed.{Packed, PlanesPost, responseOf};

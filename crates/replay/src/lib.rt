@@ -1,6 +1,6 @@
 // Stored lists of calls: reading one, and holding what a call answered and left to what stands in it. vectors/README.md has the
 // form of a list: numbers with their low byte first, settings as codes, buffers as blocks that are repeated.
-use sharp_row::YuvSettings;
+use definitions::YuvSettings;
 use yuv_error::YuvAnswer;
 use yuv_support::YuvStandardMatrix;
 ghost use mathlib.Core.Path.{_≡_};

@@ -1,13 +1,13 @@
 // Replays the band sequences of a stored list, its standard input: after each opening and band call it holds the answer, the state and
 // every byte of the planes and of the carried row to what stands in the list. vectors/README.md has the list's form and how it is made.
+use definitions::FrameDescription;
+use definitions::YuvSettings;
 use libc::STDIN_FILENO;
 use libc::STDOUT_FILENO;
 use replay::Compared;
 use sharp_bands::FrameAnswer;
 use sharp_bands::FrameState;
 use sharp_gamma::SharpYuvGammaTransfer;
-use sharp_planes::FrameDescription;
-use sharp_row::YuvSettings;
 use yuv_support::YuvChromaSubsampling;
 use yuv_support::YuvRange;
 use yuv_support::YuvSourceChannels;

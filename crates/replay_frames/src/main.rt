@@ -1,9 +1,9 @@
 // Replays the frame calls of a stored list, its standard input, and says how many answered and left what stands in the list.
 // vectors/README.md has the list's form and how it is made.
+use definitions::FrameDescription;
 use libc::STDIN_FILENO;
 use libc::STDOUT_FILENO;
 use replay::Compared;
-use sharp_planes::FrameDescription;
 use yuv_error::YuvAnswer;
 ghost use mathlib.Core.Path.{_≡_};
 ghost use mathlib.Core.Bool.{_&&_};

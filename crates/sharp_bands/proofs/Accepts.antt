@@ -13,7 +13,7 @@ use Rattle.yuv_error.specs.Numbers.{numbers}
 use Rattle.yuv_error.specs.Rules.{Rule, firstOf}
 use Rattle.yuv_error.proofs.First.{numbered, after-finished}
 use Rattle.yuv_error.proofs.Accepts.{accepts-frame, accepts-buffers}
-use Rattle.sharp_planes.specs.declared.FrameDescription.{FrameDescription}
+use Rattle.definitions.specs.declared.FrameDescription.{FrameDescription}
 use Rattle.sharp_planes.specs.Known.{Sized}
 use Rattle.sharp_planes.proofs.Numbers.{chroma-rows}
 use Rattle.sharp_rgba_to_yuv.specs.Frame.{openingRules, lentRules, frameRules}

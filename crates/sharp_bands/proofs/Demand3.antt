@@ -6,8 +6,8 @@ use native.Mathlib.Nat.{le-refl}
 use lib.ListN.{getD}
 use Rattle.yuv_support.specs.Channels.{channelsCount}
 use Rattle.yuv_error.proofs.First.{finished-number}
-use Rattle.sharp_row.specs.Row.{pixelsOf}
-use Rattle.sharp_planes.specs.declared.FrameDescription.{FrameDescription}
+use Rattle.definitions.specs.Row.{pixelsOf}
+use Rattle.definitions.specs.declared.FrameDescription.{FrameDescription}
 use Rattle.sharp_planes.specs.Known.{Sized}
 use Rattle.sharp_planes.proofs.Planes.{rows-equal}
 use Rattle.sharp_planes.proofs.Finished.{finished-rise, finished-none}

@@ -10,13 +10,13 @@ use native.Mathlib.Omega.{arith}
 use borrow.Author.Tests.{eq-eqb, ne-eqb}
 use Rattle.yuv_support.specs.declared.YuvChromaSubsampling.{YuvChromaSubsampling}
 use Rattle.yuv_support.specs.declared.YuvChromaSubsampling.the-variants.{Yuv420, Yuv422}
-use Rattle.sharp_row.specs.Painted.{Painted}
-use Rattle.sharp_row.specs.Row.{Pixels, pixelsOf}
+use Rattle.definitions.specs.Painted.{Painted}
+use Rattle.definitions.specs.Row.{Pixels, pixelsOf}
 use Rattle.sharp_row.proofs.Painted.{painted-at}
 use Rattle.sharp_row.proofs.SamePixels.{SameColours}
-use Rattle.sharp_planes.specs.declared.FrameDescription.{FrameDescription}
-use Rattle.sharp_planes.specs.Image.{Image, finishedOf}
-use Rattle.sharp_planes.specs.Band.{ownRows, bandImage, Sharpened}
+use Rattle.definitions.specs.declared.FrameDescription.{FrameDescription}
+use Rattle.definitions.specs.Image.{Image, finishedOf}
+use Rattle.definitions.specs.Bands.{ownRows, bandImage, Sharpened}
 use Rattle.sharp_planes.specs.Known.{Given, firstRow}
 use Rattle.sharp_planes.proofs.Planes.{below?}
 use Rattle.sharp_planes.proofs.Finished.{finished-all, finished-some}

@@ -13,9 +13,9 @@ use Rattle.yuv_support.specs.Channels.{channelsCount}
 use Rattle.yuv_support.specs.Sampling.{chromaWidth, chromaHeight}
 use Rattle.yuv_error.specs.declared.YuvAnswer.the-variants.{Finished, Refused}
 use Rattle.yuv_error.specs.declared.YuvError.the-variants.{ZeroBaseSize}
-use Rattle.sharp_planes.specs.declared.FrameDescription.{FrameDescription}
-use Rattle.sharp_planes.specs.Image.{rowBytes, sourceImage}
-use Rattle.sharp_planes.specs.Band.{ownRows, bandImage}
+use Rattle.definitions.specs.declared.FrameDescription.{FrameDescription}
+use Rattle.definitions.specs.Image.{rowBytes, sourceImage}
+use Rattle.definitions.specs.Bands.{ownRows, bandImage}
 use Rattle.sharp_planes.specs.Known.{Sized, Given, Whole}
 use Rattle.sharp_planes.proofs.Numbers.{row-end}
 use Rattle.sharp_planes.proofs.Planes.{row-of}

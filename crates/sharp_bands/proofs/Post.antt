@@ -11,10 +11,10 @@ use Rattle.yuv_error.specs.declared.YuvAnswer.{YuvAnswer}
 use Rattle.yuv_error.specs.declared.YuvAnswer.the-variants.{Finished, Refused}
 use Rattle.yuv_error.specs.Numbers.{numbersOf}
 use Rattle.yuv_error.specs.Rules.{firstOf}
-use Rattle.sharp_row.specs.Painted.{Painted}
+use Rattle.definitions.specs.Painted.{Painted}
 use Rattle.sharp_row.proofs.Painted.{painted-none, painted-same}
-use Rattle.sharp_planes.specs.Image.{finishedOf}
-use Rattle.sharp_planes.specs.Band.{ownRows, bandImage, Sharpened}
+use Rattle.definitions.specs.Image.{finishedOf}
+use Rattle.definitions.specs.Bands.{ownRows, bandImage, Sharpened}
 use Rattle.sharp_planes.proofs.Planes.{plane-same}
 use Rattle.sharp_planes.proofs.Sharpened.{sharpened-none}
 use Rattle.sharp_rgba_to_yuv.specs.Frame.{taken}

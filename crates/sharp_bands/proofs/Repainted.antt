@@ -9,11 +9,11 @@ use native.Mathlib.Omega.{arith}
 use borrow.Author.Tests.{ltb-true}
 use lib.Dec.{ltb}
 use lib.ListN.{length, getD, List·getD-eq-default}
-use Rattle.sharp_row.specs.Painted.{Painted}
-use Rattle.sharp_planes.specs.declared.FrameDescription.{FrameDescription}
-use Rattle.sharp_planes.specs.Image.{Image, lumaAt, cbAt, crAt, finishedOf}
-use Rattle.sharp_planes.specs.Plane.{written, PlaneIs}
-use Rattle.sharp_planes.specs.Band.{Sharpened}
+use Rattle.definitions.specs.Painted.{Painted}
+use Rattle.definitions.specs.declared.FrameDescription.{FrameDescription}
+use Rattle.definitions.specs.Image.{Image, lumaAt, cbAt, crAt, finishedOf}
+use Rattle.definitions.specs.Plane.{written, PlaneIs}
+use Rattle.definitions.specs.Bands.{Sharpened}
 use Rattle.sharp_planes.specs.Known.{Room, Whole}
 use Rattle.sharp_planes.proofs.Numbers.{row-end}
 use Rattle.sharp_planes.proofs.Planes.{below?, inside?}

@@ -12,12 +12,12 @@ use Rattle.yuv_error.specs.declared.YuvAnswer.the-variants.{Finished, Refused}
 use Rattle.yuv_error.specs.Rules.{firstOf}
 use Rattle.yuv_error.proofs.Numbers.{same-answer}
 use Rattle.yuv_error.proofs.First.{finished-number}
-use Rattle.sharp_row.specs.Painted.{Painted}
-use Rattle.sharp_row.specs.Row.{Pixels}
+use Rattle.definitions.specs.Painted.{Painted}
+use Rattle.definitions.specs.Row.{Pixels}
 use Rattle.sharp_row.proofs.Painted.{painted-like}
 use Rattle.sharp_row.proofs.SamePixels.{SameColours}
-use Rattle.sharp_planes.specs.declared.FrameDescription.{FrameDescription}
-use Rattle.sharp_planes.specs.Band.{ownRows, bandImage}
+use Rattle.definitions.specs.declared.FrameDescription.{FrameDescription}
+use Rattle.definitions.specs.Bands.{ownRows, bandImage}
 use Rattle.sharp_planes.proofs.Planes.{plane-unique}
 use Rattle.sharp_planes.proofs.Rows.{band-own-rows, band-carried}
 use Rattle.sharp_planes.proofs.SamePixels.{SameSeen, sharpened-like}

@@ -3,11 +3,11 @@
 use Prim.Native.Nat.{ℕ}
 use mathlib.Core.Path.{_≡_, ap, subst, _∙_}
 use mathlib.Core.List.{List}
-use Rattle.sharp_row.specs.Row.{pixelsOf}
-use Rattle.sharp_planes.specs.declared.FrameDescription.{FrameDescription}
-use Rattle.sharp_planes.specs.Image.{Image, sourceImage}
-use Rattle.sharp_planes.specs.Plane.{PlaneIs}
-use Rattle.sharp_planes.specs.Band.{Sharpened}
+use Rattle.definitions.specs.Row.{pixelsOf}
+use Rattle.definitions.specs.declared.FrameDescription.{FrameDescription}
+use Rattle.definitions.specs.Image.{Image, sourceImage}
+use Rattle.definitions.specs.Plane.{PlaneIs}
+use Rattle.definitions.specs.Bands.{Sharpened}
 use Rattle.sharp_planes.specs.Known.{Whole}
 use Rattle.sharp_rgba_to_yuv.specs.Frame.{FramePost}
 use Rattle.sharp_rgba_to_yuv.specs.Same.{withStrides}

@@ -8,10 +8,10 @@ use native.Mathlib.Omega.{arith}
 use lib.ListN.{length, getD, length-append, length-take, length-drop, List·getD-append}
 use lib.Seq.{getD-append-add, getD-at}
 use Rattle.yuv_support.specs.Channels.{channelsCount}
-use Rattle.sharp_row.specs.Row.{pixelsOf}
-use Rattle.sharp_planes.specs.declared.FrameDescription.{FrameDescription}
-use Rattle.sharp_planes.specs.Image.{Image, rowBytes, sourceImage}
-use Rattle.sharp_planes.specs.Band.{ownRows}
+use Rattle.definitions.specs.Row.{pixelsOf}
+use Rattle.definitions.specs.declared.FrameDescription.{FrameDescription}
+use Rattle.definitions.specs.Image.{Image, rowBytes, sourceImage}
+use Rattle.definitions.specs.Bands.{ownRows}
 use Rattle.sharp_planes.specs.Known.{Given}
 use Rattle.sharp_planes.proofs.Numbers.{row-end}
 use Rattle.sharp_planes.proofs.Planes.{below?}

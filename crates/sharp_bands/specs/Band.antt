@@ -10,9 +10,9 @@ use Rattle.yuv_support.specs.declared.YuvChromaSubsampling.{YuvChromaSubsamplin
 use Rattle.yuv_support.specs.declared.YuvChromaSubsampling.the-variants.{Yuv420, Yuv422}
 use Rattle.yuv_error.specs.Numbers.{numbersOf}
 use Rattle.yuv_error.specs.Rules.{Rule, rule, firstOf}
-use Rattle.sharp_row.specs.Painted.{Painted}
-use Rattle.sharp_planes.specs.declared.FrameDescription.{FrameDescription}
-use Rattle.sharp_planes.specs.Band.{ownRows, bandImage, Sharpened}
+use Rattle.definitions.specs.Painted.{Painted}
+use Rattle.definitions.specs.declared.FrameDescription.{FrameDescription}
+use Rattle.definitions.specs.Bands.{ownRows, bandImage, Sharpened}
 use Rattle.sharp_rgba_to_yuv.specs.Frame.{openingRules, lentRules, taken}
 use Rattle.sharp_bands.specs.declared.FrameState.{FrameState}
 use Rattle.sharp_bands.specs.declared.FrameAnswer.{FrameAnswer}

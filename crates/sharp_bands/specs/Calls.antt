@@ -11,9 +11,9 @@ use Rattle.yuv_support.specs.Sampling.{chromaWidth}
 use Rattle.yuv_error.specs.declared.YuvAnswer.{YuvAnswer}
 use Rattle.yuv_error.specs.declared.YuvAnswer.the-variants.{Finished}
 use Rattle.yuv_error.specs.Rules.{firstOf}
-use Rattle.sharp_planes.specs.declared.FrameDescription.{FrameDescription}
-use Rattle.sharp_planes.specs.Image.{rowBytes, finishedOf}
-use Rattle.sharp_planes.specs.Plane.{written, RowsEqual}
+use Rattle.definitions.specs.declared.FrameDescription.{FrameDescription}
+use Rattle.definitions.specs.Image.{rowBytes, finishedOf}
+use Rattle.definitions.specs.Plane.{written, RowsEqual}
 use Rattle.sharp_rgba_to_yuv.specs.Frame.{FramePost}
 use Rattle.sharp_bands.specs.declared.FrameState.{FrameState}
 use Rattle.sharp_bands.specs.declared.FrameAnswer.{FrameAnswer}

@@ -1,5 +1,5 @@
 // Band calls: a frame converted in bands of rows, between which its state goes in by value and comes back.
-use sharp_planes::FrameDescription;
+use definitions::FrameDescription;
 use yuv_error::MismatchedSize;
 use yuv_error::YuvAnswer;
 use yuv_error::YuvError;
@@ -9,9 +9,9 @@ ghost use Prim.Native.Nat.{_+_, _*_, _-_, _/_, _%_, _≤_};
 ghost use lib.ListN.{length};
 ghost use Rattle.yuv_error.specs.Numbers.{numbersOf};
 ghost use Rattle.yuv_error.specs.Rules.{firstOf};
-ghost use Rattle.sharp_row.specs.Painted.{Painted};
-ghost use Rattle.sharp_row.specs.Row.{pixelsOf};
-ghost use Rattle.sharp_planes.specs.Band.{ownRows};
+ghost use Rattle.definitions.specs.Painted.{Painted};
+ghost use Rattle.definitions.specs.Row.{pixelsOf};
+ghost use Rattle.definitions.specs.Bands.{ownRows};
 ghost use Rattle.sharp_planes.specs.Known.{Sized, Given, RowLent};
 ghost use Rattle.sharp_rgba_to_yuv.specs.Frame.{openingRules};
 ghost use Rattle.sharp_bands.specs.Band.{OpenPost, rowRules, carriedRules, bandRules, isCarried, carriedBytes, BandPost};

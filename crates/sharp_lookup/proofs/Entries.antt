@@ -25,9 +25,9 @@ use Rattle.forward_transform.proofs.Signed.{size-neg}
 use Rattle.forward_transform.proofs.Sums.{Floored, luma-sum, cb-sum, cr-sum, chromaBias, lumaBias}
 use Rattle.sharp_gamma.specs.Entry.{TableOf, gammaEntry}
 use Rattle.sharp_gamma.proofs.Bounds.{linear-entry-le}
-use Rattle.sharp_row.specs.declared.YuvSettings.{YuvSettings}
-use Rattle.sharp_row.specs.Pixel.{floorDiv, weigh, atMost, heldBetween, weightsOf, biasY, lumaOf, cbOf, crOf}
-use Rattle.sharp_row.specs.Row.{Pixels, linear, corrected, ofColour, input420, input422}
+use Rattle.definitions.specs.declared.YuvSettings.{YuvSettings}
+use Rattle.definitions.specs.Pixel.{floorDiv, weigh, atMost, heldBetween, weightsOf, biasY, lumaOf, cbOf, crOf}
+use Rattle.definitions.specs.Row.{Pixels, linear, corrected, ofColour, input420, input422}
 use Rattle.sharp_row.proofs.Inputs.{input420-pair, input420-last, input422-pair, count-large}
 use Rattle.sharp_row.proofs.Painted.{by-place}
 use Rattle.sharp_row.proofs.Signed.{kept, read-small}

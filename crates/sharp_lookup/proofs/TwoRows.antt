@@ -6,9 +6,9 @@ use Prim.Native.Nat.{ℕ, _+_, _*_, _-_, _≤_, _<_, min}
 use native.Mathlib.Omega.{arith}
 use lib.ListN.{length, getD, set, length-set}
 use lib.Seq.{getD-set-same, getD-set-other, set-comm, set-getD}
-use Rattle.sharp_row.specs.Painted.{Painted}
-use Rattle.sharp_row.specs.declared.YuvSettings.{YuvSettings}
-use Rattle.sharp_row.specs.Row.{cbRow, crRow}
+use Rattle.definitions.specs.Painted.{Painted}
+use Rattle.definitions.specs.declared.YuvSettings.{YuvSettings}
+use Rattle.definitions.specs.Row.{cbRow, crRow}
 use Rattle.sharp_row.proofs.Painted.{by-place, painted-more}
 use Rattle.sharp_row.proofs.Coloured.{Chroma}
 use Rattle.sharp_lookup.specs.TwoRows.{TwoPainted}

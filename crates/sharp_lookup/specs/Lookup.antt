@@ -13,9 +13,9 @@ use Rattle.yuv_support.specs.declared.YuvSourceChannels.{YuvSourceChannels}
 use Rattle.yuv_support.specs.declared.YuvSourceChannels.the-variants.{Rgb, Rgba, Bgra, Bgr}
 use Rattle.forward_transform.specs.Shape.{Shape}
 use Rattle.sharp_gamma.specs.Entry.{gammaEntry, TableOf}
-use Rattle.sharp_row.specs.declared.YuvSettings.{YuvSettings}
-use Rattle.sharp_row.specs.Pixel.{weightsOf, biasY, cbOf, crOf}
-use Rattle.sharp_row.specs.Row.{linear, ofColour}
+use Rattle.definitions.specs.declared.YuvSettings.{YuvSettings}
+use Rattle.definitions.specs.Pixel.{weightsOf, biasY, cbOf, crOf}
+use Rattle.definitions.specs.Row.{linear, ofColour}
 use Rattle.sharp_lookup.specs.declared.tables.Weights.{Weights}
 use Rattle.sharp_lookup.specs.declared.pixels.Bytes.{Bytes}
 use Rattle.sharp_lookup.specs.declared.pixels.Entries.{Entries}

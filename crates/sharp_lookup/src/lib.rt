@@ -14,11 +14,11 @@ ghost use Prim.Native.Nat.{_+_, _*_, _≤_};
 ghost use lib.ListN.{length};
 ghost use Rattle.yuv_support.specs.Channels.{channelsCount};
 ghost use Rattle.yuv_support.specs.Sampling.{chromaWidth};
-ghost use Rattle.sharp_row.specs.Painted.{Painted};
-ghost use Rattle.sharp_row.specs.Row.{pixelsOf, lumaRow, cbRow, crRow, input420, input422};
+ghost use Rattle.definitions.specs.Painted.{Painted};
+ghost use Rattle.definitions.specs.Row.{pixelsOf, lumaRow, cbRow, crRow, input420, input422};
 ghost use Rattle.sharp_lookup.specs.TwoRows.{TwoPainted};
 ghost use Rattle.sharp_lookup.specs.Lookup.{Lookups};
-use sharp_row::YuvSettings;
+use definitions::YuvSettings;
 use yuv_support::YuvChromaSubsampling;
 
 // Luma of the first `width` pixels of two source rows, and their 4:2:0 chroma: each byte is read once, but for an odd last pixel's. `y` begins with the first luma row, and the second begins at `lower`.

@@ -4,12 +4,12 @@ ghost use Prim.Native.Nat.{ℕ, _+_, _*_, _-_, _/_, _%_, _≤_, _<_, min};
 ghost use lib.ListN.{getD, length, set};
 ghost use Rattle.yuv_support.specs.Channels.{channelsCount};
 ghost use mathlib.Core.List.{List};
-ghost use Rattle.sharp_row.specs.Painted.{Painted};
-ghost use Rattle.sharp_row.specs.Row.{pixelsOf, lumaRow, cbRow, crRow, input420, input422};
+ghost use Rattle.definitions.specs.Painted.{Painted};
+ghost use Rattle.definitions.specs.Row.{pixelsOf, lumaRow, cbRow, crRow, input420, input422};
 ghost use Rattle.sharp_lookup.specs.Lookup.{Cells, LookedUp, BytesOf, Neighbour, Added, Corrector, Lookups, Mixable, MixedOf, ChromaOf};
 ghost use Rattle.sharp_lookup.specs.TwoRows.{TwoPainted};
 use crate::tables;
-use sharp_row::YuvSettings;
+use definitions::YuvSettings;
 use yuv_support::YuvChromaSubsampling;
 
 // The first three bytes of a pixel: its colour, in the order of its channels.

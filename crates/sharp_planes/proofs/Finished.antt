@@ -8,7 +8,7 @@ use borrow.Author.Tests.{eq-eqb, ne-eqb}
 use Rattle.yuv_support.specs.declared.YuvChromaSubsampling.{YuvChromaSubsampling}
 use Rattle.yuv_support.specs.declared.YuvChromaSubsampling.the-variants.{Yuv420, Yuv422}
 use Rattle.yuv_support.specs.Sampling.{chromaHeight}
-use Rattle.sharp_planes.specs.Image.{finishedOf}
+use Rattle.definitions.specs.Image.{finishedOf}
 use Rattle.sharp_planes.specs.Known.{Between}
 use Rattle.sharp_planes.proofs.Planes.{below?}
 

@@ -12,8 +12,8 @@ use borrow.Rule.Slice.PartMut.{putMid, same-len-mid}
 use lib.Dec.{ltb, leb}
 use lib.ListN.{length, getD, take, drop, length-take, length-drop, List·getD-append}
 use lib.Seq.{getD-append-add, getD-take, getD-drop, length-take-le, ext-getD}
-use Rattle.sharp_row.specs.Painted.{Painted}
-use Rattle.sharp_planes.specs.Plane.{written, PlaneIs, RowsEqual}
+use Rattle.definitions.specs.Painted.{Painted}
+use Rattle.definitions.specs.Plane.{written, PlaneIs, RowsEqual}
 
 pub below? : {P : Type 0} (a b : ℕ) → (a < b → P) → (b ≤ a → P) → P
 below? a b f g = elim (decLt a b) [ yes h ↦ f h | no h ↦ g (omega arith) ]

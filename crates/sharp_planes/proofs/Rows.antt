@@ -11,14 +11,14 @@ use lib.ListN.{length, take, drop, length-take, length-drop}
 use Rattle.yuv_support.specs.declared.YuvChromaSubsampling.{YuvChromaSubsampling}
 use Rattle.yuv_support.specs.declared.YuvChromaSubsampling.the-variants.{Yuv420}
 use Rattle.yuv_support.specs.Channels.{channelsCount}
-use Rattle.sharp_row.specs.declared.YuvSettings.{YuvSettings}
+use Rattle.definitions.specs.declared.YuvSettings.{YuvSettings}
 use borrow.Rule.Slice.PartMut.{putMid}
-use Rattle.sharp_row.specs.Painted.{Painted}
-use Rattle.sharp_row.specs.Row.{Pixels, pixelsOf, input420}
+use Rattle.definitions.specs.Painted.{Painted}
+use Rattle.definitions.specs.Row.{Pixels, pixelsOf, input420}
 use Rattle.sharp_planes.specs.declared.Band.{Band}
-use Rattle.sharp_planes.specs.Image.{Image, sourceImage, rowBytes, chromaInput}
-use Rattle.sharp_planes.specs.Plane.{PlaneIs}
-use Rattle.sharp_planes.specs.Band.{ownRows, bandImage}
+use Rattle.definitions.specs.Image.{Image, sourceImage, rowBytes, chromaInput}
+use Rattle.definitions.specs.Plane.{PlaneIs}
+use Rattle.definitions.specs.Bands.{ownRows, bandImage}
 use Rattle.sharp_planes.specs.Known.{Own, Fed, Room, RowLent, firstRow, belowRow}
 use Rattle.sharp_planes.proofs.Numbers.{row-end, next-row, three-or-four}
 use Rattle.sharp_planes.proofs.Planes.{plane-like, row-written}

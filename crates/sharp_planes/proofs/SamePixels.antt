@@ -8,13 +8,13 @@ use native.Mathlib.Omega.{arith}
 use Rattle.yuv_support.specs.declared.YuvChromaSubsampling.{YuvChromaSubsampling}
 use Rattle.yuv_support.specs.declared.YuvChromaSubsampling.the-variants.{Yuv420, Yuv422}
 use Rattle.yuv_support.specs.Sampling.{chromaWidth}
-use Rattle.sharp_row.specs.declared.YuvSettings.{YuvSettings}
-use Rattle.sharp_row.specs.Pixel.{cbOf, crOf}
-use Rattle.sharp_row.specs.Row.{ofColour, cbRow, crRow}
+use Rattle.definitions.specs.declared.YuvSettings.{YuvSettings}
+use Rattle.definitions.specs.Pixel.{cbOf, crOf}
+use Rattle.definitions.specs.Row.{ofColour, cbRow, crRow}
 use Rattle.sharp_row.proofs.SamePixels.{SameColours, colour-same, luma-same, input420-same, input422-same}
-use Rattle.sharp_planes.specs.declared.FrameDescription.{FrameDescription}
-use Rattle.sharp_planes.specs.Image.{Image, chromaInput, cbAt, crAt, finishedOf}
-use Rattle.sharp_planes.specs.Band.{Sharpened}
+use Rattle.definitions.specs.declared.FrameDescription.{FrameDescription}
+use Rattle.definitions.specs.Image.{Image, chromaInput, cbAt, crAt, finishedOf}
+use Rattle.definitions.specs.Bands.{Sharpened}
 use Rattle.sharp_planes.specs.Known.{firstRow, belowRow}
 use Rattle.sharp_planes.proofs.Planes.{below?, plane-like, plane-then}
 use Rattle.sharp_planes.proofs.Finished.{finished-rise, between}

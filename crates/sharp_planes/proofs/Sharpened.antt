@@ -5,10 +5,10 @@ use mathlib.Core.Path.{_≡_, sym, ap, fun-ext, _∙_}
 use mathlib.Core.List.{List}
 use native.Mathlib.Nat.{le-refl}
 use native.Mathlib.Omega.{arith}
-use Rattle.sharp_row.specs.declared.YuvSettings.{YuvSettings}
-use Rattle.sharp_planes.specs.declared.FrameDescription.{FrameDescription}
-use Rattle.sharp_planes.specs.Image.{Image, sourceImage}
-use Rattle.sharp_planes.specs.Band.{ownRows, bandImage, Sharpened}
+use Rattle.definitions.specs.declared.YuvSettings.{YuvSettings}
+use Rattle.definitions.specs.declared.FrameDescription.{FrameDescription}
+use Rattle.definitions.specs.Image.{Image, sourceImage}
+use Rattle.definitions.specs.Bands.{ownRows, bandImage, Sharpened}
 use Rattle.sharp_planes.proofs.Planes.{plane-none}
 use Rattle.sharp_planes.proofs.Rows.{band-own-rows}
 

@@ -10,8 +10,8 @@ use Rattle.yuv_support.specs.declared.YuvChromaSubsampling.the-variants.{Yuv420
 use Rattle.yuv_support.specs.Channels.{channelsCount}
 use Rattle.yuv_support.specs.Sampling.{chromaWidth, chromaHeight}
 use Rattle.yuv_support.specs.Matrix.{accepted}
-use Rattle.sharp_row.specs.declared.YuvSettings.{YuvSettings}
-use Rattle.sharp_planes.specs.declared.FrameDescription.{FrameDescription}
+use Rattle.definitions.specs.declared.YuvSettings.{YuvSettings}
+use Rattle.definitions.specs.declared.FrameDescription.{FrameDescription}
 use Rattle.sharp_planes.specs.declared.Band.{Band}
 
 -- a frame's size and matrix

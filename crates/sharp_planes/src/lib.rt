@@ -1,6 +1,6 @@
 // Rows into planes, one by one: the row loops of the Rust's rgbx_to_sharp_yuv.
+use definitions::YuvSettings;
 use forward_transform::CbCrForwardTransformI32;
-use sharp_row::YuvSettings;
 use yuv_support::YuvChromaSubsampling;
 ghost use mathlib.Core.Path.{_≡_};
 ghost use Prim.Native.Nat.{_+_, _*_, _≤_, _<_, min};
@@ -8,21 +8,11 @@ ghost use lib.ListN.{length};
 ghost use Rattle.yuv_support.specs.Sampling.{chromaWidth, chromaHeight};
 ghost use Rattle.sharp_row.specs.Prepared.{Weighed, Tables};
 ghost use Rattle.yuv_support.specs.Channels.{channelsCount};
-ghost use Rattle.sharp_row.specs.Row.{pixelsOf, input420, cbRow, crRow};
-ghost use Rattle.sharp_planes.specs.Image.{lumaAt, cbAt, crAt, finishedOf};
-ghost use Rattle.sharp_planes.specs.Plane.{PlaneIs};
-ghost use Rattle.sharp_planes.specs.Band.{ownRows, bandImage};
+ghost use Rattle.definitions.specs.Row.{pixelsOf, input420, cbRow, crRow};
+ghost use Rattle.definitions.specs.Image.{lumaAt, cbAt, crAt, finishedOf};
+ghost use Rattle.definitions.specs.Plane.{PlaneIs};
+ghost use Rattle.definitions.specs.Bands.{ownRows, bandImage};
 ghost use Rattle.sharp_planes.specs.Known.{Fed, Room, RowLent, firstRow, belowRow, Between};
-
-// A frame's size, settings and plane strides: what an opening fixes and a frame call is given.
-pub struct FrameDescription {
-    pub width: u32,
-    pub height: u32,
-    pub settings: YuvSettings,
-    pub y_stride: u32,
-    pub u_stride: u32,
-    pub v_stride: u32,
-}
 
 // Luma rows `done + skip` up to `done + rows`.
 pub fn luma_rows(

@@ -14,7 +14,7 @@ use Rattle.yuv_error.specs.Numbers.{numbersOf}
 use Rattle.yuv_error.specs.Rules.{firstOf}
 use Rattle.yuv_error.proofs.First.{append-finished, finished-number}
 use Rattle.yuv_error.proofs.Accepted.{accepted-frame, accepted-buffers}
-use Rattle.sharp_planes.specs.declared.FrameDescription.{FrameDescription}
+use Rattle.definitions.specs.declared.FrameDescription.{FrameDescription}
 use Rattle.sharp_planes.specs.Known.{Sized, Given, Whole}
 use Rattle.sharp_planes.proofs.Numbers.{three-or-four}
 use Rattle.sharp_rgba_to_yuv.specs.Frame.{sourceOf, yOf, uOf, vOf, openingRules, lentRules, frameRules}

@@ -11,11 +11,11 @@ use Rattle.yuv_support.specs.Channels.{rOffset, gOffset, bOffset}
 use Rattle.yuv_support.specs.Sampling.{chromaWidth, chromaHeight}
 use Rattle.sharp_gamma.specs.Entry.{gammaEntry}
 use Rattle.sharp_gamma.proofs.Worked.{ends}
-use Rattle.sharp_row.specs.declared.YuvSettings.{YuvSettings}
-use Rattle.sharp_row.specs.Pixel.{lumaOf, cbOf, crOf}
-use Rattle.sharp_row.specs.Row.{Pixels, linear, corrected, ofColour, lumaRow, input420, input422, cbRow, crRow}
+use Rattle.definitions.specs.declared.YuvSettings.{YuvSettings}
+use Rattle.definitions.specs.Pixel.{lumaOf, cbOf, crOf}
+use Rattle.definitions.specs.Row.{Pixels, linear, corrected, ofColour, lumaRow, input420, input422, cbRow, crRow}
 use Rattle.sharp_row.proofs.Inputs.{input420-pair, input420-last, input422-pair, input422-last}
-use Rattle.sharp_planes.specs.Image.{Image, lumaAt, chromaInput, cbAt, crAt}
+use Rattle.definitions.specs.Image.{Image, lumaAt, chromaInput, cbAt, crAt}
 use Rattle.sharp_planes.proofs.Planes.{below?}
 
 abbrev pub End : ℕ → Type 0

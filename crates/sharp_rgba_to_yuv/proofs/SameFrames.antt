@@ -12,9 +12,9 @@ use Rattle.yuv_error.specs.declared.YuvAnswer.the-variants.{Finished, Refused}
 use Rattle.yuv_error.specs.Numbers.{Numbers}
 use Rattle.yuv_error.specs.Rules.{firstOf}
 use Rattle.yuv_error.proofs.Numbers.{same-answer}
-use Rattle.sharp_planes.specs.declared.FrameDescription.{FrameDescription}
-use Rattle.sharp_planes.specs.Image.{sourceImage}
-use Rattle.sharp_planes.specs.Band.{Sharpened}
+use Rattle.definitions.specs.declared.FrameDescription.{FrameDescription}
+use Rattle.definitions.specs.Image.{sourceImage}
+use Rattle.definitions.specs.Bands.{Sharpened}
 use Rattle.sharp_planes.proofs.Planes.{plane-unique, plane-to, rows-equal}
 use Rattle.sharp_planes.proofs.Finished.{finished-none, finished-last}
 use Rattle.sharp_planes.proofs.SamePixels.{SameSeen, sharpened-like}

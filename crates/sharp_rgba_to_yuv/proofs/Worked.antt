@@ -14,11 +14,11 @@ use Rattle.built_coefficients.specs.Built.{set, minus, forwardTransform}
 use Rattle.built_coefficients.proofs.Worked.{fcc-full}
 use Rattle.sharp_gamma.specs.declared.SharpYuvGammaTransfer.{SharpYuvGammaTransfer}
 use Rattle.sharp_gamma.proofs.Worked as curves
-use Rattle.sharp_row.specs.declared.YuvSettings.{YuvSettings}
-use Rattle.sharp_row.specs.Pixel.{weigh, lumaOf, cbOf, crOf}
-use Rattle.sharp_row.specs.Row.{Pixels}
+use Rattle.definitions.specs.declared.YuvSettings.{YuvSettings}
+use Rattle.definitions.specs.Pixel.{weigh, lumaOf, cbOf, crOf}
+use Rattle.definitions.specs.Row.{Pixels}
 use Rattle.sharp_row.proofs.Worked as rows
-use Rattle.sharp_planes.specs.Image.{Image}
+use Rattle.definitions.specs.Image.{Image}
 use Rattle.sharp_rgba_to_yuv.proofs.Flat.{OneColour, FlatFrame, flat-frame}
 
 -- Bt601 in a range, and whatever else

@@ -11,9 +11,9 @@ use Rattle.yuv_error.specs.declared.YuvAnswer.the-variants.{Finished, Refused}
 use Rattle.yuv_error.specs.declared.LentBuffer.{LentBuffer}
 use Rattle.yuv_error.specs.Numbers.{numbersOf}
 use Rattle.yuv_error.specs.Rules.{Rule, firstOf, sizeRules, matrixRules, bufferRules}
-use Rattle.sharp_planes.specs.declared.FrameDescription.{FrameDescription}
-use Rattle.sharp_planes.specs.Image.{sourceImage}
-use Rattle.sharp_planes.specs.Band.{Sharpened}
+use Rattle.definitions.specs.declared.FrameDescription.{FrameDescription}
+use Rattle.definitions.specs.Image.{sourceImage}
+use Rattle.definitions.specs.Bands.{Sharpened}
 
 -- "c is 3 bytes a pixel (Rgb, Bgr) or 4. cw is w/2 rounded up; ch is h for 4:2:2 and h/2 rounded up for 4:2:0."
 -- The buffers of a call: `rows` source rows of w × c bytes, h luma rows of w, ch chroma rows of cw.

@@ -7,9 +7,9 @@ use lib.ListN.{length}
 use Rattle.yuv_support.specs.Sampling.{chromaWidth, chromaHeight}
 use Rattle.yuv_error.specs.declared.YuvAnswer.{YuvAnswer}
 use Rattle.yuv_error.specs.declared.YuvAnswer.the-variants.{Finished}
-use Rattle.sharp_planes.specs.declared.FrameDescription.{FrameDescription}
-use Rattle.sharp_planes.specs.Image.{sourceImage}
-use Rattle.sharp_planes.specs.Plane.{RowsEqual}
+use Rattle.definitions.specs.declared.FrameDescription.{FrameDescription}
+use Rattle.definitions.specs.Image.{sourceImage}
+use Rattle.definitions.specs.Plane.{RowsEqual}
 use Rattle.sharp_rgba_to_yuv.specs.Frame.{FramePost}
 
 -- two sources agree on the colour bytes, the first three of each pixel, of the frame's w × h pixels

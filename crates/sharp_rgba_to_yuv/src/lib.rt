@@ -1,5 +1,5 @@
 // The frame call: the Rust's rgbx_to_sharp_yuv, over lent slices beside a plain description.
-use sharp_planes::FrameDescription;
+use definitions::FrameDescription;
 use yuv_error::LentBuffer;
 use yuv_error::YuvAnswer;
 ghost use mathlib.Core.Path.{_≡_};

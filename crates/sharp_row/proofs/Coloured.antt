@@ -6,12 +6,12 @@ use mathlib.Core.List.{List}
 use Prim.Native.Nat.{ℕ, _+_, _≤_, _<_}
 use native.Mathlib.Omega.{arith}
 use lib.ListN.{length, set}
-use Rattle.sharp_row.specs.declared.YuvSettings.{YuvSettings}
+use Rattle.definitions.specs.declared.YuvSettings.{YuvSettings}
 use Rattle.sharp_row.specs.declared.colour.Colour.{Colour}
 use Rattle.sharp_row.specs.declared.colour.Order.{Order}
-use Rattle.sharp_row.specs.Painted.{Painted}
-use Rattle.sharp_row.specs.Pixel.{cbOf, crOf}
-use Rattle.sharp_row.specs.Row.{ofColour, cbRow, crRow}
+use Rattle.definitions.specs.Painted.{Painted}
+use Rattle.definitions.specs.Pixel.{cbOf, crOf}
+use Rattle.definitions.specs.Row.{ofColour, cbRow, crRow}
 use Rattle.sharp_row.specs.Colour.{orderOf, Has}
 use Rattle.sharp_row.proofs.Painted.{painted-none, painted-more}
 

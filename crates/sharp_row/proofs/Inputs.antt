@@ -12,11 +12,11 @@ use lib.ListN.{length, getD}
 use Rattle.yuv_support.specs.declared.YuvSourceChannels.{YuvSourceChannels}
 use Rattle.yuv_support.specs.declared.YuvSourceChannels.the-variants.{Rgb, Rgba, Bgra, Bgr}
 use Rattle.yuv_support.specs.Channels.{channelsCount, rOffset, bOffset}
-use Rattle.sharp_row.specs.declared.YuvSettings.{YuvSettings}
+use Rattle.definitions.specs.declared.YuvSettings.{YuvSettings}
 use Rattle.sharp_row.specs.declared.colour.Colour.{Colour}
 use Rattle.sharp_row.specs.declared.colour.Order.{Order}
 use Rattle.sharp_row.specs.Prepared.{Tables}
-use Rattle.sharp_row.specs.Row.{Pixels, corrected, linear, input420, input422}
+use Rattle.definitions.specs.Row.{Pixels, corrected, linear, input420, input422}
 use Rattle.sharp_row.specs.Colour.{orderOf, Has, Inside}
 
 -- ---- table entries, as code reads them

@@ -11,7 +11,7 @@ use borrow.Rule.Slice.PartMut.{putMid, same-len-mid}
 use lib.Dec.{ltb}
 use lib.ListN.{length, getD, set, take, drop, length-set}
 use lib.Seq.{getD-set-same, getD-set-other, ext-getD}
-use Rattle.sharp_row.specs.Painted.{Painted}
+use Rattle.definitions.specs.Painted.{Painted}
 use Rattle.sharp_row.proofs.Parts.{part-before, part-in, part-after}
 
 -- a number is below n or not

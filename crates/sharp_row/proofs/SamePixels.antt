@@ -11,9 +11,9 @@ use Rattle.yuv_support.specs.declared.YuvSourceChannels.{YuvSourceChannels}
 use Rattle.yuv_support.specs.declared.YuvSourceChannels.the-variants.{Rgb, Rgba, Bgra, Bgr}
 use Rattle.yuv_support.specs.Channels.{rOffset, gOffset, bOffset}
 use Rattle.yuv_support.specs.Sampling.{chromaWidth}
-use Rattle.sharp_row.specs.declared.YuvSettings.{YuvSettings}
-use Rattle.sharp_row.specs.Pixel.{lumaOf}
-use Rattle.sharp_row.specs.Row.{Pixels, ofColour, lumaRow, input420, input422}
+use Rattle.definitions.specs.declared.YuvSettings.{YuvSettings}
+use Rattle.definitions.specs.Pixel.{lumaOf}
+use Rattle.definitions.specs.Row.{Pixels, ofColour, lumaRow, input420, input422}
 
 -- the first three bytes of each of w pixels are the same
 abbrev pub SameColours : (w : ℕ) → (a b : Pixels) → Type 0

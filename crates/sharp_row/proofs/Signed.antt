@@ -12,7 +12,7 @@ use mir.Syntax.{w8, w32}
 use mir.Val.{Fits, SFits, toZ, ofZ}
 use mir.Facts.{toZ-ofZ, toZ-pos}
 use Rattle.forward_transform.proofs.Signed.{fits-i32, size-mul, size-add}
-use Rattle.sharp_row.specs.Pixel.{floorDiv}
+use Rattle.definitions.specs.Pixel.{floorDiv}
 
 -- ---- what the machine reads back
 

@@ -16,7 +16,7 @@ use Rattle.yuv_support.specs.Range.{yuvRange}
 use Rattle.forward_transform.specs.declared.CbCrForwardTransformI32.{CbCrForwardTransformI32}
 use Rattle.forward_transform.proofs.Signed.{size-neg}
 use Rattle.forward_transform.specs.Shape.{Shape, lumaMost, chromaTop}
-use Rattle.sharp_row.specs.Pixel.{weigh}
+use Rattle.definitions.specs.Pixel.{weigh}
 use Rattle.sharp_row.specs.Colour.{Small}
 use Rattle.sharp_row.proofs.Signed.{kept, read-small}
 

@@ -4,8 +4,8 @@
 use mathlib.Core.Path.{_≡_, refl, sym, _∙_}
 use Prim.Native.Nat.{ℕ, _+_, _*_, _≤_, _<_}
 use Rattle.sharp_gamma.specs.Entry.{gammaEntry}
-use Rattle.sharp_row.specs.declared.YuvSettings.{YuvSettings}
-use Rattle.sharp_row.specs.Row.{Pixels, linear, interpolated, input420, input422}
+use Rattle.definitions.specs.declared.YuvSettings.{YuvSettings}
+use Rattle.definitions.specs.Row.{Pixels, linear, interpolated, input420, input422}
 use Rattle.sharp_row.proofs.Inputs.{input420-pair, input420-last, input422-pair}
 
 -- the numbers themselves

@@ -6,8 +6,8 @@ use Prim.Native.Nat.{ℕ}
 use Rattle.forward_transform.specs.declared.CbCrForwardTransformI32.{CbCrForwardTransformI32}
 use Rattle.forward_transform.specs.Shape.{Shape}
 use Rattle.sharp_gamma.specs.Entry.{linearEntry, gammaEntry, TableOf}
-use Rattle.sharp_row.specs.declared.YuvSettings.{YuvSettings}
-use Rattle.sharp_row.specs.Pixel.{weightsOf}
+use Rattle.definitions.specs.declared.YuvSettings.{YuvSettings}
+use Rattle.definitions.specs.Pixel.{weightsOf}
 
 pub record Weighed (s : YuvSettings) (t : CbCrForwardTransformI32) : Type 0 where
   pub weights : t ≡ weightsOf s

@@ -2,9 +2,9 @@
 ghost use mathlib.Core.Path.{_≡_};
 ghost use Prim.Native.Nat.{ℕ, _+_, _*_, _/_, _≤_, _<_};
 ghost use lib.ListN.{getD};
-ghost use Rattle.sharp_row.specs.declared.YuvSettings.{YuvSettings};
+ghost use Rattle.definitions.specs.declared.YuvSettings.{YuvSettings};
 ghost use Rattle.sharp_row.specs.Prepared.{Tables};
-ghost use Rattle.sharp_row.specs.Row.{pixelsOf, corrected, linear as linearOf, input420};
+ghost use Rattle.definitions.specs.Row.{pixelsOf, corrected, linear as linearOf, input420};
 ghost use Rattle.sharp_row.specs.Colour.{orderOf, Has, Inside};
 use yuv_support::YuvSourceChannels;
 

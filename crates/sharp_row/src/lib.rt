@@ -7,26 +7,13 @@ ghost use Prim.Native.Nat.{_*_, _≤_, _<_};
 ghost use lib.ListN.{length, set};
 ghost use Rattle.yuv_support.specs.Channels.{channelsCount};
 ghost use Rattle.yuv_support.specs.Sampling.{chromaWidth};
-ghost use Rattle.sharp_row.specs.Painted.{Painted};
-ghost use Rattle.sharp_row.specs.Pixel.{cbOf, crOf};
+ghost use Rattle.definitions.specs.Painted.{Painted};
+ghost use Rattle.definitions.specs.Pixel.{cbOf, crOf};
 ghost use Rattle.sharp_row.specs.Prepared.{Weighed, Tables};
-ghost use Rattle.sharp_row.specs.Row.{pixelsOf, lumaRow, cbRow, crRow, input420};
+ghost use Rattle.definitions.specs.Row.{pixelsOf, lumaRow, cbRow, crRow, input420};
 use colour::Colour;
+use definitions::YuvSettings;
 use forward_transform::CbCrForwardTransformI32;
-use sharp_gamma::SharpYuvGammaTransfer;
-use yuv_support::YuvChromaSubsampling;
-use yuv_support::YuvRange;
-use yuv_support::YuvSourceChannels;
-use yuv_support::YuvStandardMatrix;
-
-// How a frame is converted: travels as one value.
-pub struct YuvSettings {
-    pub channels: YuvSourceChannels,
-    pub sampling: YuvChromaSubsampling,
-    pub range: YuvRange,
-    pub matrix: YuvStandardMatrix,
-    pub transfer: SharpYuvGammaTransfer,
-}
 
 // Luma of the first `width` pixels of a source row.
 // Writes the first `width` bytes of `y`, and no other byte.

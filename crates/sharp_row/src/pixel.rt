@@ -2,11 +2,11 @@
 ghost use mathlib.Core.Path.{_≡_};
 ghost use lib.Dec.{T};
 ghost use lib.Signed.{nonNeg};
-ghost use Rattle.sharp_row.specs.Pixel.{weigh, atMost, heldBetween, biasY, capUv, lumaOf, cbOf, crOf};
+ghost use Rattle.definitions.specs.Pixel.{weigh, atMost, heldBetween, biasY, capUv, lumaOf, cbOf, crOf};
 ghost use Rattle.sharp_row.specs.Prepared.{Weighed};
 ghost use Rattle.sharp_row.specs.Colour.{Small};
-use crate::YuvSettings;
 use crate::colour::Colour;
+use definitions::YuvSettings;
 use forward_transform::CbCrForwardTransformI32;
 use yuv_support::get_yuv_range;
 

@@ -11,14 +11,14 @@ use lib.ListN.{length, getD, take, drop, length-drop}
 use lib.Seq.{length-take-le}
 use Rattle.yuv_support.specs.declared.YuvChromaSubsampling.{YuvChromaSubsampling}
 use Rattle.yuv_support.specs.declared.YuvChromaSubsampling.the-variants.{Yuv420, Yuv422}
-use Rattle.sharp_row.specs.declared.YuvSettings.{YuvSettings}
-use Rattle.sharp_row.specs.Painted.{Painted}
-use Rattle.sharp_row.specs.Row.{Pixels, input420, input422}
+use Rattle.definitions.specs.declared.YuvSettings.{YuvSettings}
+use Rattle.definitions.specs.Painted.{Painted}
+use Rattle.definitions.specs.Row.{Pixels, input420, input422}
 use Rattle.sharp_row.proofs.Parts.{part-before, part-in, part-after, part-was}
 use Rattle.sharp_lookup.specs.TwoRows.{TwoPainted}
-use Rattle.sharp_planes.specs.Image.{Image, chromaInput}
-use Rattle.sharp_planes.specs.Plane.{written, PlaneIs}
-use Rattle.sharp_planes.specs.Band.{ownRows, bandImage}
+use Rattle.definitions.specs.Image.{Image, chromaInput}
+use Rattle.definitions.specs.Plane.{written, PlaneIs}
+use Rattle.definitions.specs.Bands.{ownRows, bandImage}
 use Rattle.sharp_planes.specs.Known.{firstRow, belowRow}
 use Rattle.sharp_planes.proofs.Planes.{Inside, inside?, below?, byteOf, row-of}
 use Rattle.sharp_planes.proofs.Rows.{band-own-rows}

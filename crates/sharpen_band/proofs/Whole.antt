@@ -5,7 +5,7 @@ use mathlib.Core.Path.{_≡_, refl}
 use native.Mathlib.Omega.{arith}
 use Rattle.yuv_support.specs.declared.YuvChromaSubsampling.{YuvChromaSubsampling}
 use Rattle.yuv_support.specs.declared.YuvChromaSubsampling.the-variants.{Yuv420, Yuv422}
-use Rattle.sharp_planes.specs.Image.{finishedOf}
+use Rattle.definitions.specs.Image.{finishedOf}
 use Rattle.sharp_planes.specs.Known.{firstRow, belowRow}
 use Rattle.sharp_planes.proofs.Finished.{finished-some, finished?}
 use Rattle.sharpen_band.specs.Whole.{wholeFrom, wholeTo}

@@ -1,20 +1,20 @@
 // The rows of a band into the three planes. Chroma rows all of whose rows are the band's are made by lookup, together with the luma of those rows
 // (`whole_rows`). In 4:2:0 the ends of a band are made by the plain rows: a chroma row that starts in the carried row, one that has no row below,
 // and luma that shares its chroma row with another band. So bands of one row of 4:2:0 take the plain rows alone.
+use definitions::FrameDescription;
+use definitions::YuvSettings;
 use forward_transform::CbCrForwardTransformI32;
 use sharp_lookup::tables;
 use sharp_planes::Band;
-use sharp_planes::FrameDescription;
-use sharp_row::YuvSettings;
 use yuv_support::YuvChromaSubsampling;
 ghost use mathlib.Core.Path.{_≡_};
 ghost use Prim.Native.Nat.{_+_, _*_, _≤_, _<_};
 ghost use Rattle.yuv_support.specs.Sampling.{chromaWidth, chromaHeight};
 ghost use Rattle.sharp_row.specs.Prepared.{Weighed, Tables};
 ghost use Rattle.sharp_lookup.specs.Lookup.{Lookups};
-ghost use Rattle.sharp_planes.specs.Image.{lumaAt, cbAt, crAt, finishedOf};
-ghost use Rattle.sharp_planes.specs.Plane.{PlaneIs};
-ghost use Rattle.sharp_planes.specs.Band.{ownRows, bandImage, Sharpened};
+ghost use Rattle.definitions.specs.Image.{lumaAt, cbAt, crAt, finishedOf};
+ghost use Rattle.definitions.specs.Plane.{PlaneIs};
+ghost use Rattle.definitions.specs.Bands.{ownRows, bandImage, Sharpened};
 ghost use Rattle.sharp_planes.specs.Known.{Sized, Given, Whole, Own, Fed, Room, firstRow};
 ghost use Rattle.sharpen_band.specs.Whole.{wholeFrom, wholeTo};
 

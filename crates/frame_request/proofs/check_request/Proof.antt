@@ -4,7 +4,7 @@ use mathlib.Core.Path.{refl, sym, ap, _∙_}
 use mathlib.Core.List.{List, _++_}
 use Rattle.yuv_error.specs.Rules.{Rule, firstOf, sizeRules}
 use Rattle.yuv_error.proofs.First.{after-refused, after-finished, finished-number}
-use Rattle.sharp_planes.specs.declared.FrameDescription.{FrameDescription}
+use Rattle.definitions.specs.declared.FrameDescription.{FrameDescription}
 use Rattle.frame_request.specs.Request.{frameOf, headerRules, areaRules}
 use Rattle.frame_request.proofs.Checked.{header-long}
 use borrow.Author.Needs.{needs}

@@ -13,7 +13,7 @@ use Rattle.yuv_support.specs.declared.YuvStandardMatrix.{YuvStandardMatrix}
 use Rattle.sharp_gamma.specs.declared.SharpYuvGammaTransfer.{SharpYuvGammaTransfer}
 use Rattle.sharp_gamma.specs.declared.SharpYuvGammaTransfer.the-variants.{Srgb}
 use Rattle.setting_codes.specs.Codes.{channelsCodes, samplingCodes, rangeCodes, transferCodes}
-use Rattle.sharp_row.specs.declared.YuvSettings.{YuvSettings}
+use Rattle.definitions.specs.declared.YuvSettings.{YuvSettings}
 use Rattle.replay.specs.Number.{number32}
 use Rattle.replay.specs.Settings.{matrixOf}
 use borrow.Author.Needs.{needs}

@@ -6,7 +6,7 @@ use native.Mathlib.Nat.{mul-comm}
 use native.Mathlib.Omega.{arith}
 use borrow.Author.Needs.{needs}
 use lib.ListN.{length, take, drop, length-take, length-drop}
-use Rattle.sharp_row.specs.Row.{Pixels, pixelsOf}
+use Rattle.definitions.specs.Row.{Pixels, pixelsOf}
 use Rattle.sharp_row.proofs.Painted.{painted-none, painted-like}
 use Rattle.sharp_planes.proofs.Numbers.{row-end, three-or-four}
 use Rattle.sharp_planes.proofs.Rows.{own-row}

@@ -5,8 +5,8 @@ use mathlib.Core.Path.{_≡_}
 use mathlib.Core.List.{List}
 use native.Mathlib.Omega.{arith}
 use lib.ListN.{length, getD, set, length-set}
-use Rattle.sharp_row.specs.Painted.{Painted}
-use Rattle.sharp_row.specs.Row.{pixelsOf}
+use Rattle.definitions.specs.Painted.{Painted}
+use Rattle.definitions.specs.Row.{pixelsOf}
 use Rattle.sharp_row.proofs.Painted.{painted-none, painted-more}
 use Rattle.sharp_planes.proofs.Numbers.{row-end, next-row}
 use Rattle.sharp_bands.proofs.carry_row.Statement.{statement}

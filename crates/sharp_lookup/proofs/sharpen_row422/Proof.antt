@@ -6,8 +6,8 @@ use Prim.Native.Nat.{_*_, _-_, _≤_}
 use native.Mathlib.Omega.{arith}
 use Rattle.yuv_support.specs.Channels.{channelsCount}
 use Rattle.yuv_support.specs.Sampling.{chromaWidth}
-use Rattle.sharp_row.specs.Painted.{Painted}
-use Rattle.sharp_row.specs.Row.{pixelsOf, lumaRow, input422}
+use Rattle.definitions.specs.Painted.{Painted}
+use Rattle.definitions.specs.Row.{pixelsOf, lumaRow, input422}
 use Rattle.sharp_row.proofs.Painted.{painted-none}
 use Rattle.sharp_row.proofs.Coloured.{Chroma, chroma-none, chroma-all}
 use Rattle.sharp_lookup.proofs.Entries.{first-neighbour, corrector}

@@ -6,7 +6,7 @@ use Prim.Native.Nat.{_+_, _*_, _-_, _≤_}
 use native.Mathlib.Omega.{arith}
 use Rattle.yuv_support.specs.Channels.{channelsCount}
 use Rattle.yuv_support.specs.Sampling.{chromaWidth}
-use Rattle.sharp_row.specs.Row.{pixelsOf, lumaRow, input420}
+use Rattle.definitions.specs.Row.{pixelsOf, lumaRow, input420}
 use Rattle.sharp_row.proofs.Coloured.{Chroma, chroma-none, chroma-all}
 use Rattle.sharp_lookup.specs.TwoRows.{TwoPainted}
 use Rattle.sharp_lookup.proofs.TwoRows.{two-none, two-to, chroma-next}

@@ -8,10 +8,10 @@ use borrow.Author.Needs.{needs}
 use lib.Dec.{lit≤}
 use lib.ListN.{take, drop}
 use Rattle.yuv_support.specs.Channels.{channelsCount}
-use Rattle.sharp_row.specs.Row.{Pixels, pixelsOf, cbRow, crRow, input420}
-use Rattle.sharp_planes.specs.Image.{Image, chromaInput, cbAt, crAt}
-use Rattle.sharp_planes.specs.Plane.{PlaneIs}
-use Rattle.sharp_planes.specs.Band.{bandImage}
+use Rattle.definitions.specs.Row.{Pixels, pixelsOf, cbRow, crRow, input420}
+use Rattle.definitions.specs.Image.{Image, chromaInput, cbAt, crAt}
+use Rattle.definitions.specs.Plane.{PlaneIs}
+use Rattle.definitions.specs.Bands.{bandImage}
 use Rattle.sharp_planes.specs.Known.{Fed, RowLent, firstRow, belowRow, Between}
 use Rattle.sharp_planes.proofs.Numbers.{three-or-four, size-small, first-small}
 use Rattle.sharp_planes.proofs.Rows.{own-row, band-own-rows, band-carried, row-room, row-lent, chroma-like}

@@ -5,7 +5,7 @@ use mathlib.Core.Path.{refl}
 use native.Mathlib.Omega.{arith}
 use lib.ListN.{length-take, length-drop}
 use Rattle.yuv_support.specs.Sampling.{chromaWidth}
-use Rattle.sharp_row.specs.Row.{cbRow, crRow}
+use Rattle.definitions.specs.Row.{cbRow, crRow}
 use Rattle.sharp_planes.proofs.Rows.{part-written}
 use borrow.Author.Needs.{needs}
 use Rattle.sharp_planes.proofs.chroma_row_into.Statement.{statement}

@@ -6,11 +6,11 @@ use mathlib.Core.List.{List}
 use native.Mathlib.Omega.{arith}
 use borrow.Author.Needs.{needs}
 use Rattle.yuv_support.specs.Sampling.{chromaWidth, chromaHeight}
-use Rattle.sharp_row.specs.declared.YuvSettings.{YuvSettings}
+use Rattle.definitions.specs.declared.YuvSettings.{YuvSettings}
 use Rattle.sharp_planes.specs.declared.Band.{Band}
-use Rattle.sharp_planes.specs.Image.{Image, cbAt, crAt}
-use Rattle.sharp_planes.specs.Plane.{PlaneIs}
-use Rattle.sharp_planes.specs.Band.{bandImage}
+use Rattle.definitions.specs.Image.{Image, cbAt, crAt}
+use Rattle.definitions.specs.Plane.{PlaneIs}
+use Rattle.definitions.specs.Bands.{bandImage}
 use Rattle.sharp_planes.specs.Known.{Between}
 use Rattle.sharp_planes.proofs.Planes.{plane-none, plane-then, plane-to}
 use Rattle.sharp_planes.proofs.Numbers.{room-up-to}

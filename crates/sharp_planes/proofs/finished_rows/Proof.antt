@@ -2,7 +2,7 @@
 -- Assumes nothing.
 use mathlib.Core.Path.{sym, ap, _∙_}
 use Rattle.yuv_support.specs.declared.YuvChromaSubsampling.{YuvChromaSubsampling}
-use Rattle.sharp_planes.specs.Image.{finishedOf}
+use Rattle.definitions.specs.Image.{finishedOf}
 use borrow.Author.Needs.{needs}
 use Rattle.sharp_planes.proofs.finished_rows.Statement.{statement}
 use Rattle.sharp_planes.proofs.finished_rows.Tie as tie

@@ -6,11 +6,11 @@ use borrow.Author.Needs.{needs}
 use native.Mathlib.Omega.{arith}
 use lib.ListN.{length, take, drop, length-take, length-drop}
 use Rattle.yuv_support.specs.Channels.{channelsCount}
-use Rattle.sharp_row.specs.Row.{Pixels, lumaRow}
-use Rattle.sharp_row.specs.Painted.{Painted}
-use Rattle.sharp_planes.specs.Plane.{PlaneIs}
-use Rattle.sharp_planes.specs.Image.{lumaAt}
-use Rattle.sharp_planes.specs.Band.{ownRows}
+use Rattle.definitions.specs.Row.{Pixels, lumaRow}
+use Rattle.definitions.specs.Painted.{Painted}
+use Rattle.definitions.specs.Plane.{PlaneIs}
+use Rattle.definitions.specs.Image.{lumaAt}
+use Rattle.definitions.specs.Bands.{ownRows}
 use native.Mathlib.Nat.{mul-comm, mul-le-mul-left, mul-le-mul-right}
 use Rattle.sharp_planes.proofs.Numbers.{row-end, next-row}
 use Rattle.sharp_planes.proofs.Planes.{plane-none, plane-to, plane-step}

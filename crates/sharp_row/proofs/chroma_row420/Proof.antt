@@ -7,7 +7,7 @@ use native.Mathlib.Omega.{arith}
 use borrow.Author.Needs.{needs}
 use Rattle.yuv_support.specs.Channels.{channelsCount}
 use Rattle.yuv_support.specs.Sampling.{chromaWidth}
-use Rattle.sharp_row.specs.Row.{pixelsOf, input420}
+use Rattle.definitions.specs.Row.{pixelsOf, input420}
 use Rattle.sharp_row.specs.Colour.{Inside}
 use Rattle.sharp_row.proofs.Inputs.{inside, inside-source}
 use Rattle.sharp_row.proofs.Coloured.{Chroma, chroma-none, chroma-more, chroma-all}

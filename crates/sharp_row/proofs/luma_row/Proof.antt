@@ -4,9 +4,9 @@ use mathlib.Core.Path.{_≡_, _∙_}
 use Prim.Native.Nat.{_≤_, _-_}
 use native.Mathlib.Omega.{arith}
 use borrow.Author.Needs.{needs}
-use Rattle.sharp_row.specs.Painted.{Painted}
-use Rattle.sharp_row.specs.Pixel.{lumaOf}
-use Rattle.sharp_row.specs.Row.{pixelsOf, lumaRow}
+use Rattle.definitions.specs.Painted.{Painted}
+use Rattle.definitions.specs.Pixel.{lumaOf}
+use Rattle.definitions.specs.Row.{pixelsOf, lumaRow}
 use Rattle.sharp_row.proofs.Inputs.{inside-source}
 use Rattle.sharp_row.proofs.Painted.{painted-none, painted-more}
 use Rattle.sharp_row.proofs.Coloured.{coloured}

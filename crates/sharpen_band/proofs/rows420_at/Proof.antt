@@ -7,9 +7,9 @@ use native.Mathlib.Omega.{arith}
 use lib.ListN.{length, length-take, length-drop}
 use Rattle.yuv_support.specs.Channels.{channelsCount}
 use Rattle.yuv_support.specs.Sampling.{chromaWidth}
-use Rattle.sharp_row.specs.Row.{lumaRow, cbRow, crRow}
-use Rattle.sharp_planes.specs.Image.{Image, lumaAt, cbAt, crAt}
-use Rattle.sharp_planes.specs.Band.{ownRows}
+use Rattle.definitions.specs.Row.{lumaRow, cbRow, crRow}
+use Rattle.definitions.specs.Image.{Image, lumaAt, cbAt, crAt}
+use Rattle.definitions.specs.Bands.{ownRows}
 use Rattle.sharp_planes.specs.Known.{Own}
 use Rattle.sharp_planes.proofs.Numbers.{three-or-four, size-small, next-row}
 use Rattle.sharp_planes.proofs.Rows.{own-row, own-row-room, own-row-size, part-written}

@@ -9,7 +9,7 @@ use Rattle.yuv_support.specs.Sampling.{chromaHeight}
 use Rattle.forward_transform.specs.declared.CbCrForwardTransformI32.{CbCrForwardTransformI32}
 use Rattle.forward_transform.specs.Shape.{Shape}
 use Rattle.built_coefficients.proofs.Shapes.{forward-shape}
-use Rattle.sharp_row.specs.Pixel.{weightsOf}
+use Rattle.definitions.specs.Pixel.{weightsOf}
 use Rattle.sharp_row.specs.Prepared.{Weighed}
 use Rattle.yuv_support.specs.declared.YuvChromaSubsampling.{YuvChromaSubsampling}
 use Rattle.sharp_lookup.specs.declared.tables.Weights.{Weights}

@@ -6,12 +6,12 @@ use mathlib.Core.List.{List}
 use native.Mathlib.Nat.{le-refl, mul-le-mul-left}
 use native.Mathlib.Omega.{arith}
 use Rattle.yuv_support.specs.Sampling.{chromaHeight}
-use Rattle.sharp_row.specs.declared.YuvSettings.{YuvSettings}
-use Rattle.sharp_row.specs.Row.{Pixels, lumaRow, cbRow, crRow}
+use Rattle.definitions.specs.declared.YuvSettings.{YuvSettings}
+use Rattle.definitions.specs.Row.{Pixels, lumaRow, cbRow, crRow}
 use Rattle.sharp_planes.specs.declared.Band.{Band}
-use Rattle.sharp_planes.specs.Image.{Image, chromaInput, lumaAt, cbAt, crAt, finishedOf}
-use Rattle.sharp_planes.specs.Plane.{PlaneIs}
-use Rattle.sharp_planes.specs.Band.{ownRows, bandImage}
+use Rattle.definitions.specs.Image.{Image, chromaInput, lumaAt, cbAt, crAt, finishedOf}
+use Rattle.definitions.specs.Plane.{PlaneIs}
+use Rattle.definitions.specs.Bands.{ownRows, bandImage}
 use Rattle.sharp_planes.specs.Known.{Fed, firstRow}
 use Rattle.sharp_planes.proofs.Planes.{plane-like, plane-then, plane-between}
 use Rattle.sharp_planes.proofs.Numbers.{first-small, first-rise, room-up-to}

@@ -4,7 +4,7 @@ use mathlib.Core.Path.{_≡_, refl, ap}
 use Prim.Native.Nat.{ℕ, _+_, _*_}
 use native.Mathlib.Omega.{arith}
 use lib.ListN.{getD}
-use Rattle.sharp_row.specs.Row.{pixelsOf}
+use Rattle.definitions.specs.Row.{pixelsOf}
 use borrow.Author.Needs.{needs}
 use Rattle.sharp_lookup.proofs.pixels.at.Statement.{statement}
 use Rattle.sharp_lookup.proofs.pixels.at.Tie as tie

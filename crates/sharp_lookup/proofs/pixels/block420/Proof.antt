@@ -5,7 +5,7 @@ use Prim.Native.Nat.{_+_, _-_}
 use native.Mathlib.Omega.{arith}
 use lib.ListN.{length-set}
 use Rattle.yuv_support.specs.Channels.{channelsCount}
-use Rattle.sharp_row.specs.Row.{Pixels, pixelsOf, cbRow, crRow, input420}
+use Rattle.definitions.specs.Row.{Pixels, pixelsOf, cbRow, crRow, input420}
 use Rattle.sharp_lookup.proofs.Entries.{first420, second420, third420, first-neighbour, second-neighbour, third-neighbour, corrector, Mixed3, mixed420}
 use Rattle.sharp_lookup.proofs.TwoRows.{two-blocks}
 use borrow.Author.Needs.{needs}

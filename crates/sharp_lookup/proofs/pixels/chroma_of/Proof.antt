@@ -2,8 +2,8 @@
 -- Assumes nothing.
 use mathlib.Core.Path.{refl, _∙_}
 use Prim.Native.Nat.{ℕ, zero, suc}
-use Rattle.sharp_row.specs.Pixel.{cbOf, crOf}
-use Rattle.sharp_row.specs.Row.{ofColour}
+use Rattle.definitions.specs.Pixel.{cbOf, crOf}
+use Rattle.definitions.specs.Row.{ofColour}
 use Rattle.sharp_lookup.specs.Lookup.{BytesOf}
 use Rattle.sharp_lookup.proofs.Entries.{High, Low, chroma-looked}
 use borrow.Author.Needs.{needs}

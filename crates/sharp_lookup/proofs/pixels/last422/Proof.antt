@@ -5,8 +5,8 @@ use Prim.Native.Nat.{ℕ, _+_, _*_}
 use native.Mathlib.Omega.{arith}
 use lib.ListN.{length-set}
 use Rattle.yuv_support.specs.Channels.{channelsCount}
-use Rattle.sharp_row.specs.Pixel.{cbOf, crOf}
-use Rattle.sharp_row.specs.Row.{pixelsOf, cbRow, crRow, input422}
+use Rattle.definitions.specs.Pixel.{cbOf, crOf}
+use Rattle.definitions.specs.Row.{pixelsOf, cbRow, crRow, input422}
 use Rattle.sharp_row.proofs.Inputs.{input422-last}
 use Rattle.sharp_lookup.proofs.Entries.{in-row, of-like}
 use Rattle.sharp_lookup.proofs.TwoRows.{painted-next, painted-to}

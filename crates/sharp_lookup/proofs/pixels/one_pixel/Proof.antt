@@ -4,8 +4,8 @@ use mathlib.Core.Path.{_∙_}
 use Prim.Native.Nat.{ℕ}
 use native.Mathlib.Omega.{arith}
 use Rattle.yuv_support.specs.Channels.{channelsCount}
-use Rattle.sharp_row.specs.Pixel.{lumaOf}
-use Rattle.sharp_row.specs.Row.{pixelsOf, ofColour, lumaRow}
+use Rattle.definitions.specs.Pixel.{lumaOf}
+use Rattle.definitions.specs.Row.{pixelsOf, ofColour, lumaRow}
 use Rattle.sharp_lookup.specs.Lookup.{BytesOf}
 use Rattle.sharp_lookup.proofs.Entries.{High, luma-looked, in-row}
 use borrow.Author.Needs.{needs}

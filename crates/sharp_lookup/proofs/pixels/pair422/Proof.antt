@@ -5,7 +5,7 @@ use Prim.Native.Nat.{_+_, _*_}
 use native.Mathlib.Omega.{arith}
 use lib.ListN.{length-set}
 use Rattle.yuv_support.specs.Channels.{channelsCount}
-use Rattle.sharp_row.specs.Row.{Pixels, pixelsOf, cbRow, crRow, input422}
+use Rattle.definitions.specs.Row.{Pixels, pixelsOf, cbRow, crRow, input422}
 use Rattle.sharp_lookup.proofs.Entries.{first422, second422, first-neighbour, second-neighbour, corrector, Mixed3, mixed422}
 use Rattle.sharp_lookup.proofs.TwoRows.{painted-pair, painted-to}
 use borrow.Author.Needs.{needs}

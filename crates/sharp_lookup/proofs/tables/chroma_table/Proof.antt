@@ -6,7 +6,7 @@ use native.Mathlib.Omega.{arith}
 use borrow.Author.Needs.{needs}
 use lib.IntN.{natAbs}
 use Rattle.forward_transform.specs.declared.CbCrForwardTransformI32.{CbCrForwardTransformI32}
-use Rattle.sharp_row.specs.Pixel.{weightsOf}
+use Rattle.definitions.specs.Pixel.{weightsOf}
 use Rattle.sharp_row.specs.Colour.{Small}
 use Rattle.sharp_row.proofs.Weights.{cb-small, cr-small, small-kept}
 use Rattle.sharp_lookup.specs.Lookup.{halves, inCb, inCr, Cells}

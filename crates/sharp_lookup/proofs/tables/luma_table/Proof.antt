@@ -8,7 +8,7 @@ use lib.IntN.{natAbs}
 use lib.ListN.{getD}
 use Rattle.yuv_support.specs.declared.YuvChromaRange.{YuvChromaRange}
 use Rattle.forward_transform.specs.declared.CbCrForwardTransformI32.{CbCrForwardTransformI32}
-use Rattle.sharp_row.specs.Pixel.{weightsOf}
+use Rattle.definitions.specs.Pixel.{weightsOf}
 use Rattle.sharp_row.specs.Colour.{Small}
 use Rattle.sharp_row.proofs.Weights.{luma-small, small-kept}
 use Rattle.sharp_lookup.specs.Lookup.{halves, inLuma, Cells}

@@ -1,7 +1,7 @@
 -- `at` meets its contract: each byte is read where the definition reads it.
 -- Assumes nothing.
 use mathlib.Core.Path.{refl}
-use Rattle.sharp_row.specs.Row.{pixelsOf}
+use Rattle.definitions.specs.Row.{pixelsOf}
 use native.Mathlib.Omega.{arith}
 use Rattle.sharp_row.proofs.colour.at.Statement.{statement}
 use Rattle.sharp_row.proofs.colour.at.Tie as tie

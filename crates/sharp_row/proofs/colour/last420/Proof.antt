@@ -1,6 +1,6 @@
 -- `last420` meets its contract: each channel is the second case of the input.
 -- Assumes nothing.
-use Rattle.sharp_row.specs.Row.{pixelsOf}
+use Rattle.definitions.specs.Row.{pixelsOf}
 use Rattle.sharp_row.proofs.Inputs.{input420-last, has-like}
 use borrow.Author.Needs.{needs}
 use Rattle.sharp_row.proofs.colour.last420.Statement.{statement}

@@ -1,6 +1,6 @@
 -- `pair420` meets its contract: each channel is the first case of the input.
 -- Assumes nothing.
-use Rattle.sharp_row.specs.Row.{pixelsOf}
+use Rattle.definitions.specs.Row.{pixelsOf}
 use Rattle.sharp_row.proofs.Inputs.{input420-pair, has-like}
 use borrow.Author.Needs.{needs}
 use Rattle.sharp_row.proofs.colour.pair420.Statement.{statement}

@@ -1,6 +1,6 @@
 -- `cb` meets its contract: the weights of an accepted matrix are small.
 -- Assumes nothing.
-use Rattle.sharp_row.specs.Pixel.{cbOf}
+use Rattle.definitions.specs.Pixel.{cbOf}
 use Rattle.sharp_row.proofs.Weights.{cb-small, small-kept, weigh-kept}
 use Rattle.sharp_row.proofs.pixel.cb.Statement.{statement}
 use Rattle.sharp_row.proofs.pixel.cb.Tie as tie

@@ -4,7 +4,7 @@ use mathlib.Core.Path.{_∙_, ap}
 use Prim.Native.Nat.{_+_}
 use borrow.Author.Needs.{needs}
 use Rattle.yuv_support.specs.declared.YuvChromaRange.{YuvChromaRange}
-use Rattle.sharp_row.specs.Pixel.{heldBetween, biasY, capUv}
+use Rattle.definitions.specs.Pixel.{heldBetween, biasY, capUv}
 use Rattle.sharp_row.proofs.Signed.{kept, read-i32}
 use Rattle.sharp_row.proofs.Weights.{weigh-kept, cap-uv-fits}
 use Rattle.sharp_row.proofs.pixel.chroma.Statement.{statement}

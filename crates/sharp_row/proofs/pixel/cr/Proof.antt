@@ -1,6 +1,6 @@
 -- `cr` meets its contract: the weights of an accepted matrix are small.
 -- Assumes nothing.
-use Rattle.sharp_row.specs.Pixel.{crOf}
+use Rattle.definitions.specs.Pixel.{crOf}
 use Rattle.sharp_row.proofs.Weights.{cr-small, small-kept, weigh-kept}
 use Rattle.sharp_row.proofs.pixel.cr.Statement.{statement}
 use Rattle.sharp_row.proofs.pixel.cr.Tie as tie

@@ -4,7 +4,7 @@ use mathlib.Core.Path.{_∙_, ap}
 use Prim.Native.Nat.{_+_}
 use borrow.Author.Needs.{needs}
 use Rattle.yuv_support.specs.declared.YuvChromaRange.{YuvChromaRange}
-use Rattle.sharp_row.specs.Pixel.{atMost, capY, lumaOf}
+use Rattle.definitions.specs.Pixel.{atMost, capY, lumaOf}
 use Rattle.sharp_row.proofs.Signed.{kept, read-i32}
 use Rattle.sharp_row.proofs.Weights.{luma-small, luma-not-negative, small-kept, weigh-kept, cap-y-fits}
 use Rattle.sharp_row.proofs.pixel.luma.Statement.{statement}

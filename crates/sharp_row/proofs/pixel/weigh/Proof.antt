@@ -5,7 +5,7 @@ use native.Mathlib.Omega.{arith}
 use borrow.Author.Needs.{needs}
 use lib.Dec.{lit<, lit≤}
 use lib.IntN.{pos}
-use Rattle.sharp_row.specs.Pixel.{weigh}
+use Rattle.definitions.specs.Pixel.{weigh}
 use Rattle.sharp_row.proofs.Signed.{Exact, product, sum, literal, fits, shifted}
 use Rattle.sharp_row.proofs.pixel.weigh.Statement.{statement}
 use Rattle.sharp_row.proofs.pixel.weigh.Tie as tie

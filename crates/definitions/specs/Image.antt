@@ -9,8 +9,8 @@ use Rattle.yuv_support.specs.declared.YuvChromaSubsampling.{YuvChromaSubsamplin
 use Rattle.yuv_support.specs.declared.YuvChromaSubsampling.the-variants.{Yuv420, Yuv422}
 use Rattle.yuv_support.specs.Channels.{channelsCount}
 use Rattle.yuv_support.specs.Sampling.{chromaHeight}
-use Rattle.sharp_row.specs.declared.YuvSettings.{YuvSettings}
-use Rattle.sharp_row.specs.Row.{Pixels, pixelsOf, lumaRow, input420, input422, cbRow, crRow}
+use Rattle.definitions.specs.declared.YuvSettings.{YuvSettings}
+use Rattle.definitions.specs.Row.{Pixels, pixelsOf, lumaRow, input420, input422, cbRow, crRow}
 
 -- rows of pixels
 abbrev pub Image : Type 0

@@ -5,11 +5,11 @@ use mathlib.Core.Bool.{cond}
 use mathlib.Core.List.{List}
 use lib.Dec.{ltb}
 use Rattle.yuv_support.specs.Sampling.{chromaWidth}
-use Rattle.sharp_row.specs.declared.YuvSettings.{YuvSettings}
-use Rattle.sharp_row.specs.Row.{pixelsOf}
-use Rattle.sharp_planes.specs.declared.FrameDescription.{FrameDescription}
-use Rattle.sharp_planes.specs.Image.{Image, sourceImage, lumaAt, cbAt, crAt, finishedOf}
-use Rattle.sharp_planes.specs.Plane.{PlaneIs}
+use Rattle.definitions.specs.declared.YuvSettings.{YuvSettings}
+use Rattle.definitions.specs.Row.{pixelsOf}
+use Rattle.definitions.specs.declared.FrameDescription.{FrameDescription}
+use Rattle.definitions.specs.Image.{Image, sourceImage, lumaAt, cbAt, crAt, finishedOf}
+use Rattle.definitions.specs.Plane.{PlaneIs}
 
 -- the rows of a band itself, which starts after `done` rows of the frame
 unfoldable pub ownRows : YuvSettings → (w done stride : ℕ) → (source : List ℕ) → Image

@@ -7,7 +7,7 @@ use lib.Signed.{ltZ}
 use Rattle.yuv_support.specs.Range.{yuvRange}
 use Rattle.forward_transform.specs.declared.CbCrForwardTransformI32.{CbCrForwardTransformI32}
 use Rattle.built_coefficients.specs.Built.{forwardTransform}
-use Rattle.sharp_row.specs.declared.YuvSettings.{YuvSettings}
+use Rattle.definitions.specs.declared.YuvSettings.{YuvSettings}
 
 -- "The division rounds down below zero too."
 abbrev pub floorDiv : ℤ → ℕ → ℤ

@@ -7,8 +7,8 @@ use lib.Dec.{ltb}
 use lib.ListN.{getD}
 use Rattle.yuv_support.specs.Channels.{rOffset, gOffset, bOffset}
 use Rattle.sharp_gamma.specs.Entry.{linearEntry, gammaEntry}
-use Rattle.sharp_row.specs.declared.YuvSettings.{YuvSettings}
-use Rattle.sharp_row.specs.Pixel.{lumaOf, cbOf, crOf}
+use Rattle.definitions.specs.declared.YuvSettings.{YuvSettings}
+use Rattle.definitions.specs.Pixel.{lumaOf, cbOf, crOf}
 
 -- a row of pixels: column, then byte of the pixel
 abbrev pub Pixels : Type 0
