@@ -1,7 +1,7 @@
 /*
  * Segvartin: strided 8-bit RGB frames to planar YUV 4:2:0 and 4:2:2 ("sharp YUV", chroma interpolated over linear light).
  *
- * Link libcapi.a (x86-64, System V ABI). It has no state, no heap, no threads, no input and no output, and of libc it calls memset alone;
+ * Link libsegvartin.a (x86-64, System V ABI). It has no state, no heap, no threads, no input and no output, and of libc it calls memset alone;
  * calls on separate buffers may run on separate threads. A call takes less than 96 KiB of stack.
  *
  * Every function answers finished work (0) or the number of one refusal, and a refusal writes no byte of a plane or of the carried row.

@@ -1,11 +1,11 @@
 -- `segvartin_open` meets its contract: the numbers that `tell` gives are those of the answer.
 -- Assumes nothing.
 use mathlib.Core.Path.{refl}
-use Rattle.capi.specs.Codes.{codesOf}
-use Rattle.capi.proofs.Answered.{open-called}
+use Rattle.segvartin.specs.Codes.{codesOf}
+use Rattle.segvartin.proofs.Answered.{open-called}
 use borrow.Author.Needs.{needs}
-use Rattle.capi.proofs.segvartin_open.Statement.{statement}
-use Rattle.capi.proofs.segvartin_open.Tie as tie
+use Rattle.segvartin.proofs.segvartin_open.Statement.{statement}
+use Rattle.segvartin.proofs.segvartin_open.Tie as tie
 
 describe-requires : tie.Need-describe-requires
 describe-requires c κs = search needs

@@ -1,8 +1,8 @@
 -- `tell` meets its contract: what it writes and returns are the numbers of the answer.
 -- Assumes nothing.
 use borrow.Author.Needs.{needs}
-use Rattle.capi.proofs.tell.Statement.{statement}
-use Rattle.capi.proofs.tell.Tie as tie
+use Rattle.segvartin.proofs.tell.Statement.{statement}
+use Rattle.segvartin.proofs.tell.Tie as tie
 
 answer-numbers-requires : tie.Need-answer-numbers-requires
 answer-numbers-requires c κs = search needs

@@ -10,9 +10,9 @@ use Rattle.definitions.specs.declared.FrameDescription.{FrameDescription}
 use Rattle.sharp_bands.specs.declared.FrameAnswer.{FrameAnswer}
 use Rattle.sharp_bands.specs.Band.{stateOf}
 use Rattle.sharp_bands.specs.Calls.{either}
-use Rattle.capi.specs.declared.SettingCodes.{SettingCodes}
-use Rattle.capi.specs.Codes.{frameOf}
-use Rattle.capi.specs.Calls.{FrameAnswered, FrameCalled, OpenAnswered, OpenCalled, BandAnswered, BandCalled}
+use Rattle.segvartin.specs.declared.SettingCodes.{SettingCodes}
+use Rattle.segvartin.specs.Codes.{frameOf}
+use Rattle.segvartin.specs.Calls.{FrameAnswered, FrameCalled, OpenAnswered, OpenCalled, BandAnswered, BandCalled}
 
 pub holds : {test : Bool} {first : Type 0} (second : Type 0) → test ≡ true → first → either test first second
 holds {first = first} second e x = subst (λ (b : Bool). either b first second) (sym e) x

@@ -1,10 +1,10 @@
 -- `open_answer` meets its contract: a code without a meaning is refused before the opening, and the opening's promise is kept.
 -- Assumes nothing.
 use mathlib.Core.Path.{refl, sym, _∙_}
-use Rattle.capi.proofs.Answered.{holds, fails}
+use Rattle.segvartin.proofs.Answered.{holds, fails}
 use borrow.Author.Needs.{needs}
-use Rattle.capi.proofs.open_answer.Statement.{statement}
-use Rattle.capi.proofs.open_answer.Tie as tie
+use Rattle.segvartin.proofs.open_answer.Statement.{statement}
+use Rattle.segvartin.proofs.open_answer.Tie as tie
 
 has-unknown-requires : tie.Need-has-unknown-requires
 has-unknown-requires c κs = search needs

@@ -1,10 +1,10 @@
 -- `segvartin_frame` meets its contract: the numbers that `tell` gives are those of the answer.
 -- Assumes nothing.
-use Rattle.capi.specs.Codes.{codesOf}
-use Rattle.capi.proofs.Answered.{frame-called}
+use Rattle.segvartin.specs.Codes.{codesOf}
+use Rattle.segvartin.proofs.Answered.{frame-called}
 use borrow.Author.Needs.{needs}
-use Rattle.capi.proofs.segvartin_frame.Statement.{statement}
-use Rattle.capi.proofs.segvartin_frame.Tie as tie
+use Rattle.segvartin.proofs.segvartin_frame.Statement.{statement}
+use Rattle.segvartin.proofs.segvartin_frame.Tie as tie
 
 describe-requires : tie.Need-describe-requires
 describe-requires c κs = search needs

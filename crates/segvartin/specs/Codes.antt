@@ -15,7 +15,7 @@ use Rattle.sharp_gamma.specs.declared.SharpYuvGammaTransfer.the-variants.{Srgb}
 use Rattle.definitions.specs.declared.YuvSettings.{YuvSettings}
 use Rattle.definitions.specs.declared.FrameDescription.{FrameDescription}
 use Rattle.setting_codes.specs.Codes.{channelsCodes, samplingCodes, rangeCodes, matrixCodes, transferCodes}
-use Rattle.capi.specs.declared.SettingCodes.{SettingCodes}
+use Rattle.segvartin.specs.declared.SettingCodes.{SettingCodes}
 
 abbrev pub codesOf : (channels sampling range matrix transfer : ℕ) → (kr kb : Float) → SettingCodes
 codesOf channels sampling range matrix transfer kr kb =

@@ -14,8 +14,8 @@ use Rattle.sharp_bands.specs.declared.FrameState.{FrameState}
 use Rattle.sharp_bands.specs.declared.FrameAnswer.{FrameAnswer}
 use Rattle.sharp_bands.specs.Band.{stateOf, OpenPost, BandPost}
 use Rattle.sharp_bands.specs.Calls.{either}
-use Rattle.capi.specs.declared.SettingCodes.{SettingCodes}
-use Rattle.capi.specs.Codes.{unknownCode, frameOf}
+use Rattle.segvartin.specs.declared.SettingCodes.{SettingCodes}
+use Rattle.segvartin.specs.Codes.{unknownCode, frameOf}
 
 -- a frame call, with refusal 1 before it
 abbrev pub FrameAnswered : SettingCodes → FrameDescription → (stride : ℕ) → (source y u v : List ℕ) → YuvAnswer → (y′ u′ v′ : List ℕ) → Type 0

@@ -1,8 +1,8 @@
 -- `describe` meets its contract: the settings are what the codes mean.
 -- Assumes nothing.
 use borrow.Author.Needs.{needs}
-use Rattle.capi.proofs.describe.Statement.{statement}
-use Rattle.capi.proofs.describe.Tie as tie
+use Rattle.segvartin.proofs.describe.Statement.{statement}
+use Rattle.segvartin.proofs.describe.Tie as tie
 
 settings-of-requires : tie.Need-settings-of-requires
 settings-of-requires c κs = search needs

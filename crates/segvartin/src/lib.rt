@@ -8,8 +8,8 @@ use yuv_error::YuvError;
 use yuv_support::YuvStandardMatrix;
 ghost use mathlib.Core.Path.{_≡_};
 ghost use Rattle.yuv_error.specs.Numbers.{numbers, numbersOf};
-ghost use Rattle.capi.specs.Codes.{codesOf, matrixOf, settingsOf, unknownCode, frameOf};
-ghost use Rattle.capi.specs.Calls.{FrameAnswered, FrameCalled, OpenAnswered, OpenCalled, BandAnswered, BandCalled};
+ghost use Rattle.segvartin.specs.Codes.{codesOf, matrixOf, settingsOf, unknownCode, frameOf};
+ghost use Rattle.segvartin.specs.Calls.{FrameAnswered, FrameCalled, OpenAnswered, OpenCalled, BandAnswered, BandCalled};
 
 // The code of a matrix of the caller's own kr and kb; those below it are the named ones.
 const CUSTOM: u32 = 6;

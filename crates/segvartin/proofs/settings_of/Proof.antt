@@ -1,9 +1,9 @@
 -- `settings_of` meets its contract: each field is what its code means.
 -- Assumes nothing.
-use Rattle.capi.specs.Codes.{settingsOf}
+use Rattle.segvartin.specs.Codes.{settingsOf}
 use borrow.Author.Needs.{needs}
-use Rattle.capi.proofs.settings_of.Statement.{statement}
-use Rattle.capi.proofs.settings_of.Tie as tie
+use Rattle.segvartin.proofs.settings_of.Statement.{statement}
+use Rattle.segvartin.proofs.settings_of.Tie as tie
 
 channels-of-requires : tie.Need-channels-of-requires
 channels-of-requires c κs = search needs

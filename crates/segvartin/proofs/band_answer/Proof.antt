@@ -1,10 +1,10 @@
 -- `band_answer` meets its contract: a code without a meaning is refused before the band call, and the band call's promise is kept.
 -- Assumes nothing.
 use mathlib.Core.Path.{refl, sym, _∙_}
-use Rattle.capi.proofs.Answered.{holds, fails}
+use Rattle.segvartin.proofs.Answered.{holds, fails}
 use borrow.Author.Needs.{needs}
-use Rattle.capi.proofs.band_answer.Statement.{statement}
-use Rattle.capi.proofs.band_answer.Tie as tie
+use Rattle.segvartin.proofs.band_answer.Statement.{statement}
+use Rattle.segvartin.proofs.band_answer.Tie as tie
 
 has-unknown-requires : tie.Need-has-unknown-requires
 has-unknown-requires c κs = search needs

@@ -1,8 +1,8 @@
 -- `has_unknown` meets its contract: each test is the definition's.
 -- Assumes nothing.
 use borrow.Author.Needs.{needs}
-use Rattle.capi.proofs.has_unknown.Statement.{statement}
-use Rattle.capi.proofs.has_unknown.Tie as tie
+use Rattle.segvartin.proofs.has_unknown.Statement.{statement}
+use Rattle.segvartin.proofs.has_unknown.Tie as tie
 
 returns : tie.Need-returns
 returns c = search needs

@@ -1,10 +1,10 @@
 -- `matrix_of` meets its contract: 6 is tested first, and the others are the named matrices.
 -- Assumes nothing.
 use borrow.Author.Tests.{eq-eqb, ne-eqb}
-use Rattle.capi.specs.Codes.{customCode}
+use Rattle.segvartin.specs.Codes.{customCode}
 use borrow.Author.Needs.{needs}
-use Rattle.capi.proofs.matrix_of.Statement.{statement}
-use Rattle.capi.proofs.matrix_of.Tie as tie
+use Rattle.segvartin.proofs.matrix_of.Statement.{statement}
+use Rattle.segvartin.proofs.matrix_of.Tie as tie
 
 matrix-of-requires : tie.Need-matrix-of-requires
 matrix-of-requires c κs = search needs
