@@ -1,18 +1,21 @@
--- A promise by cases, from the test that decides it; and those of the exported calls, from the answer under each.
+-- A promise by cases, from the test that decides it; how many numbers there are where it fails; and the part of them that is a description.
 -- Assumes nothing.
-use Prim.Native.Nat.{ℕ}
-use mathlib.Core.Path.{_≡_, sym, subst}
-use mathlib.Core.Bool.{Bool, true, false}
+use Prim.Native.Nat.{ℕ, _+_, _-_}
+use mathlib.Core.Path.{_≡_, refl, sym, subst}
+use mathlib.Core.Bool.{Bool, true, false, cond, true≢false}
 use mathlib.Core.List.{List}
-use Rattle.yuv_error.specs.declared.YuvAnswer.{YuvAnswer}
-use Rattle.yuv_error.specs.Numbers.{numbers, numbersOf}
+use lib.Dec.{eqb}
+use native.Mathlib.Omega.{arith}
+use lib.ListN.{length, take, drop, length-drop}
+use lib.Seq.{take-all}
+use borrow.Author.Tests.{eqb-true}
 use Rattle.definitions.specs.declared.FrameDescription.{FrameDescription}
 use Rattle.sharp_bands.specs.declared.FrameAnswer.{FrameAnswer}
-use Rattle.sharp_bands.specs.Band.{stateOf}
+use Rattle.sharp_bands.specs.declared.FrameState.{FrameState}
+use Rattle.sharp_bands.specs.Band.{stateOf, OpenPost, BandPost}
 use Rattle.sharp_bands.specs.Calls.{either}
-use Rattle.segvartin.specs.declared.SettingCodes.{SettingCodes}
-use Rattle.segvartin.specs.Codes.{frameOf}
-use Rattle.segvartin.specs.Calls.{FrameAnswered, FrameCalled, OpenAnswered, OpenCalled, BandAnswered, BandCalled}
+use Rattle.segvartin.specs.Codes.{isUnknown, isMalformed}
+use Rattle.segvartin.specs.Calls.{handed}
 
 pub holds : {test : Bool} {first : Type 0} (second : Type 0) → test ≡ true → first → either test first second
 holds {first = first} second e x = subst (λ (b : Bool). either b first second) (sym e) x
@@ -20,33 +23,27 @@ holds {first = first} second e x = subst (λ (b : Bool). either b first second) 
 pub fails : {test : Bool} (first : Type 0) {second : Type 0} → test ≡ false → second → either test first second
 fails first {second = second} e x = subst (λ (b : Bool). either b first second) (sym e) x
 
--- the frame that the code described is the definition's
-module _ (codes : SettingCodes) (w h y-stride u-stride v-stride : ℕ) {d : FrameDescription} (is : d ≡ frameOf codes w h y-stride u-stride v-stride) where
-  pub frame-called : (stride : ℕ) (source y u v : List ℕ) (answer : YuvAnswer) {number expected received : ℕ} (y′ u′ v′ : List ℕ)
-      → numbers number expected received ≡ numbersOf answer → FrameAnswered codes d stride source y u v answer y′ u′ v′
-      → FrameCalled codes w h y-stride u-stride v-stride stride source y u v number expected received y′ u′ v′
-  frame-called stride source y u v answer y′ u′ v′ told given = record {
-    answer = answer;
-    told = told;
-    answered = subst (λ (d : FrameDescription). FrameAnswered codes d stride source y u v answer y′ u′ v′) is given;
-  }
+pub counted : (before : ℕ) (numbers : List ℕ) → isMalformed before numbers ≡ false → length numbers ≡ before + 10
+unfolding isMalformed
+counted before numbers e = go (eqb (length numbers) (before + 10)) refl e
+  where
+    go : (b : Bool) → eqb (length numbers) (before + 10) ≡ b → cond b (isUnknown (drop before numbers)) true ≡ false → length numbers ≡ before + 10
+    go true t f = eqb-true _ _ t
+    go false t f = absurd (true≢false f)
 
-  pub open-called : (r : FrameAnswer) {number expected received done′ : ℕ} → numbers number expected received ≡ numbersOf (r .answer) → done′ ≡ r .state .done
-      → OpenAnswered codes d r → OpenCalled codes w h y-stride u-stride v-stride number expected received done′
-  open-called r told done given = record {
-    result = r;
-    told = told;
-    done = done;
-    answered = subst (λ (d : FrameDescription). OpenAnswered codes d r) is given;
-  }
+pub rest : (before : ℕ) (numbers : List ℕ) → take (length numbers - before) (drop before numbers) ≡ drop before numbers
+rest before numbers = take-all (length numbers - before) (drop before numbers) (omega (arith, length-drop before numbers))
 
-  pub band-called : (done rows stride : ℕ) (source y u v carried : List ℕ) (r : FrameAnswer) {number expected received done′ : ℕ} (y′ u′ v′ carried′ : List ℕ)
-      → numbers number expected received ≡ numbersOf (r .answer) → done′ ≡ r .state .done
-      → BandAnswered codes (stateOf d done) rows stride source y u v carried r y′ u′ v′ carried′
-      → BandCalled codes w h y-stride u-stride v-stride done rows stride source y u v carried number expected received done′ y′ u′ v′ carried′
-  band-called done rows stride source y u v carried r y′ u′ v′ carried′ told done-after given = record {
-    result = r;
-    told = told;
-    done-after = done-after;
-    answered = subst (λ (d : FrameDescription). BandAnswered codes (stateOf d done) rows stride source y u v carried r y′ u′ v′ carried′) is given;
-  }
+-- what a call hands back is its answer, and the rows done of the frame that it was given
+handed-is : (d : FrameDescription) (r : FrameAnswer) (n : ℕ) → r .state ≡ stateOf d n → r ≡ handed d (r .answer) (r .state .done)
+handed-is d r n e = rw e
+
+pub opened : {d d′ : FrameDescription} {r : FrameAnswer} → d ≡ d′ → OpenPost d r → OpenPost d′ (handed d′ (r .answer) (r .state .done))
+opened {d} {d′} {r} is p = subst (λ (x : FrameDescription). OpenPost x (handed x (r .answer) (r .state .done))) is (subst (OpenPost d) (handed-is d r 0 (p .state)) p)
+
+pub banded : {d d′ : FrameDescription} {done rows stride : ℕ} {source y u v carried : List ℕ} {r : FrameAnswer} {y′ u′ v′ carried′ : List ℕ} → d ≡ d′
+    → BandPost (stateOf d done) rows stride source y u v carried r y′ u′ v′ carried′
+    → BandPost (stateOf d′ done) rows stride source y u v carried (handed d′ (r .answer) (r .state .done)) y′ u′ v′ carried′
+banded {d} {d′} {done} {rows} {stride} {source} {y} {u} {v} {carried} {r} {y′} {u′} {v′} {carried′} is p =
+    subst (λ (x : FrameDescription). BandPost (stateOf x done) rows stride source y u v carried (handed x (r .answer) (r .state .done)) y′ u′ v′ carried′) is
+    (subst (λ (x : FrameAnswer). BandPost (stateOf d done) rows stride source y u v carried x y′ u′ v′ carried′) (handed-is d r _ (p .state)) p)

@@ -1,2 +1,3 @@
 -- Laws of the functions that C links.
+pub mod Arrays
 pub mod Answered

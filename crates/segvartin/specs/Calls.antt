@@ -1,54 +1,157 @@
 -- What the functions that C links answer and leave: the promise of the call under each, at the frame that the numbers describe; and refusal 1,
--- with nothing written, for a code without a meaning.
+-- with nothing written, for numbers without a meaning.
 -- Assumes nothing.
 use Prim.Native.Nat.{ℕ}
 use mathlib.Core.Path.{_≡_}
-use mathlib.Core.List.{List}
+use mathlib.Core.List.{List, [], _∷_}
+use lib.Ieee.{Float}
+use lib.ListN.{drop}
 use Rattle.yuv_error.specs.declared.YuvError.the-variants.{MalformedRequest}
 use Rattle.yuv_error.specs.declared.YuvAnswer.{YuvAnswer}
 use Rattle.yuv_error.specs.declared.YuvAnswer.the-variants.{Refused}
-use Rattle.yuv_error.specs.Numbers.{numbers, numbersOf}
+use Rattle.yuv_error.specs.Numbers.{numbersOf}
 use Rattle.definitions.specs.declared.FrameDescription.{FrameDescription}
 use Rattle.sharp_rgba_to_yuv.specs.Frame.{FramePost}
 use Rattle.sharp_bands.specs.declared.FrameState.{FrameState}
 use Rattle.sharp_bands.specs.declared.FrameAnswer.{FrameAnswer}
 use Rattle.sharp_bands.specs.Band.{stateOf, OpenPost, BandPost}
 use Rattle.sharp_bands.specs.Calls.{either}
-use Rattle.segvartin.specs.declared.SettingCodes.{SettingCodes}
-use Rattle.segvartin.specs.Codes.{unknownCode, frameOf}
+use Rattle.segvartin.specs.Codes.{at, descriptionOf, isMalformed}
 
--- a frame call, with refusal 1 before it
-abbrev pub FrameAnswered : SettingCodes → FrameDescription → (stride : ℕ) → (source y u v : List ℕ) → YuvAnswer → (y′ u′ v′ : List ℕ) → Type 0
-FrameAnswered codes d stride source y u v answer y′ u′ v′ =
-    either (unknownCode codes) ((answer ≡ Refused MalformedRequest) × (y′ ≡ y) × (u′ ≡ u) × (v′ ≡ v)) (FramePost d stride source y u v answer y′ u′ v′)
+-- ---- `segvartin_call_frame`
 
--- everything of `segvartin_frame`: the numbers that it answers are those of an answer that the frame call gives
-pub record FrameCalled (codes : SettingCodes) (width height y-stride u-stride v-stride stride : ℕ) (source y u v : List ℕ) (number expected received : ℕ) (y′ u′ v′ : List ℕ) : Type 0 where
+-- a call: what it was given, the number that it returned, and what it was lent as it left it
+pub record ExportedFrame : Type 0 where
+  pub numbers : List ℕ
+  pub custom : List Float
+  pub source : List ℕ
+  pub y : List ℕ
+  pub u : List ℕ
+  pub v : List ℕ
+  pub number : ℕ
+  pub told : List ℕ
+  pub y′ : List ℕ
+  pub u′ : List ℕ
+  pub v′ : List ℕ
+
+abbrev pub frameCall : (numbers : List ℕ) (custom : List Float) (source y u v : List ℕ) (number : ℕ) (told y′ u′ v′ : List ℕ) → ExportedFrame
+frameCall numbers custom source y u v number told y′ u′ v′ =
+    record { numbers = numbers; custom = custom; source = source; y = y; u = u; v = v; number = number; told = told; y′ = y′; u′ = u′; v′ = v′ }
+
+-- the source's stride, then the description
+abbrev pub strideOfFrame : ExportedFrame → ℕ
+strideOfFrame k = at (k .numbers) 0
+
+abbrev pub frameOfFrame : ExportedFrame → FrameDescription
+frameOfFrame k = descriptionOf (drop 1 (k .numbers)) (k .custom)
+
+-- a frame call's promise, with refusal 1 before it
+abbrev pub FrameAnswered : ExportedFrame → YuvAnswer → Type 0
+FrameAnswered k answer =
+    either (isMalformed 1 (k .numbers)) ((answer ≡ Refused MalformedRequest) × (k .y′ ≡ k .y) × (k .u′ ≡ k .u) × (k .v′ ≡ k .v))
+    (FramePost (frameOfFrame k) (strideOfFrame k) (k .source) (k .y) (k .u) (k .v) answer (k .y′) (k .u′) (k .v′))
+
+-- everything of a call: the number that it returns, and what it tells, are those of an answer that the frame call gives
+pub record FrameKept (k : ExportedFrame) : Type 0 where
   pub answer : YuvAnswer
-  pub told : numbers number expected received ≡ numbersOf answer
-  pub answered : FrameAnswered codes (frameOf codes width height y-stride u-stride v-stride) stride source y u v answer y′ u′ v′
+  pub number : k .number ≡ numbersOf answer .number
+  pub told : k .told ≡ numbersOf answer .expected ∷ numbersOf answer .received ∷ []
+  pub answered : FrameAnswered k answer
 
--- an opening, with refusal 1 before it. What a refused opening hands back is left free: it is a state with no row done, here too.
-abbrev pub OpenAnswered : SettingCodes → FrameDescription → FrameAnswer → Type 0
-OpenAnswered codes d r =
-    either (unknownCode codes) ((r .answer ≡ Refused MalformedRequest) × (r .state ≡ stateOf d 0)) (OpenPost d r)
+-- ---- `segvartin_call_open`
 
--- everything of `segvartin_open`: the numbers that it answers, and the rows done, are those of what the opening hands back
-pub record OpenCalled (codes : SettingCodes) (width height y-stride u-stride v-stride : ℕ) (number expected received done′ : ℕ) : Type 0 where
-  pub result : FrameAnswer
-  pub told : numbers number expected received ≡ numbersOf (result .answer)
-  pub done : done′ ≡ result .state .done
-  pub answered : OpenAnswered codes (frameOf codes width height y-stride u-stride v-stride) result
+pub record ExportedOpening : Type 0 where
+  pub numbers : List ℕ
+  pub custom : List Float
+  pub number : ℕ
+  pub told : List ℕ
 
--- a band call, with refusal 1 before it
-abbrev pub BandAnswered : SettingCodes → FrameState → (rows stride : ℕ) → (source y u v carried : List ℕ) → FrameAnswer → (y′ u′ v′ carried′ : List ℕ) → Type 0
-BandAnswered codes s rows stride source y u v carried r y′ u′ v′ carried′ =
-    either (unknownCode codes) ((r .answer ≡ Refused MalformedRequest) × (r .state ≡ s) × (y′ ≡ y) × (u′ ≡ u) × (v′ ≡ v) × (carried′ ≡ carried))
-    (BandPost s rows stride source y u v carried r y′ u′ v′ carried′)
+abbrev pub openCall : (numbers : List ℕ) (custom : List Float) (number : ℕ) (told : List ℕ) → ExportedOpening
+openCall numbers custom number told = record { numbers = numbers; custom = custom; number = number; told = told }
 
--- everything of `segvartin_band`: the state is what the numbers describe with the rows done, and so is what comes back
-pub record BandCalled (codes : SettingCodes) (width height y-stride u-stride v-stride done rows stride : ℕ) (source y u v carried : List ℕ) (number expected received done′ : ℕ) (y′ u′ v′ carried′ : List ℕ) : Type 0 where
-  pub result : FrameAnswer
-  pub told : numbers number expected received ≡ numbersOf (result .answer)
-  pub done-after : done′ ≡ result .state .done
-  pub answered : BandAnswered codes (stateOf (frameOf codes width height y-stride u-stride v-stride) done) rows stride source y u v carried result y′ u′ v′ carried′
+abbrev pub frameOfOpening : ExportedOpening → FrameDescription
+frameOfOpening k = descriptionOf (drop 0 (k .numbers)) (k .custom)
+
+-- what a call hands back, in numbers: the frame is the caller's
+abbrev pub handed : FrameDescription → YuvAnswer → (done : ℕ) → FrameAnswer
+handed d answer done = record { state = stateOf d done; answer = answer }
+
+-- an opening's promise, with refusal 1 before it. What a refused opening hands back is left free: no row is done, here too.
+abbrev pub OpenAnswered : ExportedOpening → YuvAnswer → (done : ℕ) → Type 0
+OpenAnswered k answer done =
+    either (isMalformed 0 (k .numbers)) ((answer ≡ Refused MalformedRequest) × (done ≡ 0)) (OpenPost (frameOfOpening k) (handed (frameOfOpening k) answer done))
+
+pub record OpenKept (k : ExportedOpening) : Type 0 where
+  pub answer : YuvAnswer
+  pub done : ℕ
+  pub number : k .number ≡ numbersOf answer .number
+  pub told : k .told ≡ numbersOf answer .expected ∷ numbersOf answer .received ∷ done ∷ []
+  pub answered : OpenAnswered k answer done
+
+-- ---- `segvartin_call_band`
+
+pub record ExportedBand : Type 0 where
+  pub numbers : List ℕ
+  pub custom : List Float
+  pub source : List ℕ
+  pub y : List ℕ
+  pub u : List ℕ
+  pub v : List ℕ
+  pub carried : List ℕ
+  pub number : ℕ
+  pub told : List ℕ
+  pub y′ : List ℕ
+  pub u′ : List ℕ
+  pub v′ : List ℕ
+  pub carried′ : List ℕ
+
+abbrev pub bandCall : (numbers : List ℕ) (custom : List Float) (source y u v carried : List ℕ) (number : ℕ) (told y′ u′ v′ carried′ : List ℕ) → ExportedBand
+bandCall numbers custom source y u v carried number told y′ u′ v′ carried′ = record {
+  numbers = numbers;
+  custom = custom;
+  source = source;
+  y = y;
+  u = u;
+  v = v;
+  carried = carried;
+  number = number;
+  told = told;
+  y′ = y′;
+  u′ = u′;
+  v′ = v′;
+  carried′ = carried′;
+}
+
+-- the rows done, the rows of the band, the source's stride, then the description
+abbrev pub doneOf : ExportedBand → ℕ
+doneOf k = at (k .numbers) 0
+
+abbrev pub rowsOf : ExportedBand → ℕ
+rowsOf k = at (k .numbers) 1
+
+abbrev pub strideOf : ExportedBand → ℕ
+strideOf k = at (k .numbers) 2
+
+abbrev pub frameOf : ExportedBand → FrameDescription
+frameOf k = descriptionOf (drop 3 (k .numbers)) (k .custom)
+
+-- the state that the numbers describe
+abbrev pub stateGiven : ExportedBand → FrameState
+stateGiven k = stateOf (frameOf k) (doneOf k)
+
+-- no byte written, and the rows done told as they were given
+abbrev pub Kept : ExportedBand → (done : ℕ) → Type 0
+Kept k done = (done ≡ doneOf k) × (k .y′ ≡ k .y) × (k .u′ ≡ k .u) × (k .v′ ≡ k .v) × (k .carried′ ≡ k .carried)
+
+-- a band call's promise, with refusal 1 before it
+abbrev pub BandAnswered : ExportedBand → YuvAnswer → (done : ℕ) → Type 0
+BandAnswered k answer done =
+    either (isMalformed 3 (k .numbers)) ((answer ≡ Refused MalformedRequest) × Kept k done)
+    (BandPost (stateGiven k) (rowsOf k) (strideOf k) (k .source) (k .y) (k .u) (k .v) (k .carried) (handed (frameOf k) answer done) (k .y′) (k .u′) (k .v′) (k .carried′))
+
+pub record BandKept (k : ExportedBand) : Type 0 where
+  pub answer : YuvAnswer
+  pub done : ℕ
+  pub number : k .number ≡ numbersOf answer .number
+  pub told : k .told ≡ numbersOf answer .expected ∷ numbersOf answer .received ∷ done ∷ []
+  pub answered : BandAnswered k answer done

@@ -1,272 +1,258 @@
-// The functions that C links: plain numbers and lent bytes, no enum and no struct. include/segvartin.h declares them.
+// The functions that C links: numbers and lent bytes, no enum and no struct. A caller's numbers come in a slice, so that a later setting is one
+// number more and no signature changes; how many there are says which call is meant. include/segvartin.h declares these functions, and has
+// calls with structs over them.
 use definitions::FrameDescription;
 use definitions::YuvSettings;
-use sharp_bands::FrameAnswer;
 use sharp_bands::FrameState;
 use yuv_error::YuvAnswer;
 use yuv_error::YuvError;
 use yuv_support::YuvStandardMatrix;
 ghost use mathlib.Core.Path.{_≡_};
-ghost use Rattle.yuv_error.specs.Numbers.{numbers, numbersOf};
-ghost use Rattle.segvartin.specs.Codes.{codesOf, matrixOf, settingsOf, unknownCode, frameOf};
-ghost use Rattle.segvartin.specs.Calls.{FrameAnswered, FrameCalled, OpenAnswered, OpenCalled, BandAnswered, BandCalled};
+ghost use mathlib.Core.Bool.{false};
+ghost use mathlib.Core.List.{[], _∷_};
+ghost use Prim.Native.Nat.{_+_, _≤_};
+ghost use lib.ListN.{length, getD, drop, set};
+ghost use Rattle.yuv_error.specs.Numbers.{numbersOf};
+ghost use Rattle.segvartin.specs.Codes.{matrixOf, settingsOf, descriptionOf, isUnknown, isMalformed};
+ghost use Rattle.segvartin.specs.Calls.{frameCall, FrameAnswered, FrameKept, openCall, OpenAnswered, OpenKept, bandCall, BandAnswered, BandKept};
+
+// The numbers of a description: width, height, channels, sampling, range, matrix, transfer, y_stride, u_stride, v_stride.
+const DESCRIPTION: usize = 10;
+
+// What stands before the description: the source's stride of a frame; the rows done, the rows and the source's stride of a band.
+const OF_FRAME: usize = 1;
+
+const OF_BAND: usize = 3;
 
 // The code of a matrix of the caller's own kr and kb; those below it are the named ones.
 const CUSTOM: u32 = 6;
 
-// The settings of a call as C passes them. kr and kb are read where the matrix is CUSTOM.
-struct SettingCodes {
-    channels: u32,
-    sampling: u32,
-    range: u32,
-    matrix: u32,
-    transfer: u32,
-    kr: f32,
-    kb: f32,
-}
-
-// Whether one of the codes has no meaning.
-fn has_unknown(codes: SettingCodes) -> bool
-    ensures { λ r. ⌜ r ≡ unknownCode codes ⌝ }
+// Whether one of a description's codes has no meaning.
+fn has_unknown(numbers: &[u32]) -> bool
+    requires { ⌜ 10 ≤ length (now numbers) ⌝ }
+    ensures { λ r. ⌜ r ≡ isUnknown (now (numbers .entry)) ⌝ }
 {
-    (codes.channels >= 4)
-        | (codes.sampling >= 2)
-        | (codes.range >= 2)
-        | (codes.matrix > CUSTOM)
-        | (codes.transfer >= 4)
+    (numbers[2] >= 4)
+        | (numbers[3] >= 2)
+        | (numbers[4] >= 2)
+        | (numbers[5] > CUSTOM)
+        | (numbers[6] >= 4)
 }
 
-fn matrix_of(code: u32, kr: f32, kb: f32) -> YuvStandardMatrix
-    ensures { λ r. ⌜ r ≡ matrixOf code kr kb ⌝ }
+// Whether there are not so many numbers and a description, or one of its codes has no meaning.
+fn is_malformed(before: usize, numbers: &[u32]) -> bool
+    requires { ⌜ before ≤ 3 ⌝ }
+    ensures { λ r. ⌜ r ≡ isMalformed before (now (numbers .entry)) ⌝ }
+{
+    if numbers.len() != before + DESCRIPTION {
+        return true;
+    }
+    has_unknown(&numbers[before..])
+}
+
+fn matrix_of(code: u32, custom: &[f32; 2]) -> YuvStandardMatrix
+    ensures { λ r. ⌜ r ≡ matrixOf code (now (custom .entry)) ⌝ }
 {
     if code == CUSTOM {
-        YuvStandardMatrix::Custom(kr, kb)
+        YuvStandardMatrix::Custom(custom[0], custom[1])
     } else {
         setting_codes::matrix_of(code)
     }
 }
 
-fn settings_of(codes: SettingCodes) -> YuvSettings
-    ensures { λ r. ⌜ r ≡ settingsOf codes ⌝ }
+fn settings_of(numbers: &[u32], custom: &[f32; 2]) -> YuvSettings
+    requires { ⌜ 10 ≤ length (now numbers) ⌝ }
+    ensures { λ r. ⌜ r ≡ settingsOf (now (numbers .entry)) (now (custom .entry)) ⌝ }
 {
     YuvSettings {
-        channels: setting_codes::channels_of(codes.channels),
-        sampling: setting_codes::sampling_of(codes.sampling),
-        range: setting_codes::range_of(codes.range),
-        matrix: matrix_of(codes.matrix, codes.kr, codes.kb),
-        transfer: setting_codes::transfer_of(codes.transfer),
+        channels: setting_codes::channels_of(numbers[2]),
+        sampling: setting_codes::sampling_of(numbers[3]),
+        range: setting_codes::range_of(numbers[4]),
+        matrix: matrix_of(numbers[5], custom),
+        transfer: setting_codes::transfer_of(numbers[6]),
     }
 }
 
-// The frame that a call's numbers describe.
-fn describe(
-    codes: SettingCodes,
-    width: u32,
-    height: u32,
-    y_stride: u32,
-    u_stride: u32,
-    v_stride: u32,
-) -> FrameDescription
-    ensures { λ r. ⌜ r ≡ frameOf codes width height «y_stride» «u_stride» «v_stride» ⌝ }
+// The frame that a description's numbers describe.
+fn describe(numbers: &[u32], custom: &[f32; 2]) -> FrameDescription
+    requires { ⌜ 10 ≤ length (now numbers) ⌝ }
+    ensures { λ r. ⌜ r ≡ descriptionOf (now (numbers .entry)) (now (custom .entry)) ⌝ }
 {
-    let settings = settings_of(codes);
+    let settings = settings_of(numbers, custom);
     FrameDescription {
-        width,
-        height,
+        width: numbers[0],
+        height: numbers[1],
         settings,
-        y_stride,
-        u_stride,
-        v_stride,
+        y_stride: numbers[7],
+        u_stride: numbers[8],
+        v_stride: numbers[9],
     }
 }
 
-// Writes what an answer carries, and returns its number: 0 for finished work.
-fn tell(answer: YuvAnswer, expected: &mut usize, received: &mut usize) -> u32
-    ensures { λ n. ⌜ numbers n (now (expected .exit)) (now (received .exit)) ≡ numbersOf answer ⌝ }
+// The same where other numbers stand before them.
+fn describe_after(before: usize, numbers: &[u32], custom: &[f32; 2]) -> FrameDescription
+    requires { ⌜ (before ≤ 3) × (isMalformed before (now numbers) ≡ false) ⌝ }
+    ensures { λ r. ⌜ r ≡ descriptionOf (drop before (now (numbers .entry))) (now (custom .entry)) ⌝ }
 {
-    let told = error_numbers::answer_numbers(answer);
-    let size = told.size;
-    *expected = size.expected;
-    *received = size.received;
-    told.number
+    describe(&numbers[before..], custom)
 }
 
-// The frame call, once the codes have a meaning.
+// The frame call, once the numbers have a meaning.
 fn frame_answer(
-    codes: SettingCodes,
-    frame: FrameDescription,
+    numbers: &[u32],
+    custom: &[f32; 2],
     source: &[u8],
-    stride: u32,
     y: &mut [u8],
     u: &mut [u8],
     v: &mut [u8],
 ) -> YuvAnswer
-    ensures { λ a. ⌜ FrameAnswered codes frame stride (now (source .entry)) (now (y .entry)) (now (u .entry)) (now (v .entry)) a (now (y .exit)) (now (u .exit)) (now (v .exit)) ⌝ }
+    ensures { λ a. ⌜ FrameAnswered (frameCall (now (numbers .entry)) (now (custom .entry)) (now (source .entry)) (now (y .entry)) (now (u .entry)) (now (v .entry))
+        0 [] (now (y .exit)) (now (u .exit)) (now (v .exit))) a ⌝ }
 {
-    if has_unknown(codes) {
+    if is_malformed(OF_FRAME, numbers) {
         return YuvAnswer::Refused(YuvError::MalformedRequest);
     }
-    sharp_rgba_to_yuv::rgbx_to_sharp_yuv(frame, source, stride, y, u, v)
+    let frame = describe_after(OF_FRAME, numbers, custom);
+    sharp_rgba_to_yuv::rgbx_to_sharp_yuv(frame, source, numbers[0], y, u, v)
 }
 
-// Converts a whole frame (0), or answers the number of one refusal and writes no byte of a plane: 1 for a code without a meaning, else
-// 2, 3, 4 or 6 to 12. `expected` and `received` get what the refusal carries, 0 where it carries none.
+// Tells an answer: its number, and its expected and received.
+fn tell_answer(answer: YuvAnswer, told: &mut [usize]) -> u32
+    requires { ⌜ 2 ≤ length (now told) ⌝ }
+    ensures { λ n. ⌜ (n ≡ numbersOf answer .number)
+        × (now (told .exit) ≡ set (set (now (told .entry)) 0 (numbersOf answer .expected)) 1 (numbersOf answer .received)) ⌝ }
+{
+    let numbered = error_numbers::answer_numbers(answer);
+    let size = numbered.size;
+    told[0] = size.expected;
+    told[1] = size.received;
+    numbered.number
+}
+
+// Converts a whole frame (0), or answers the number of one refusal and writes no byte of a plane: 1 for numbers without a meaning, else 2, 3, 4
+// or 6 to 12. numbers: the source's stride, then the description. told: expected and received.
 #[no_mangle]
-pub extern "C" fn segvartin_frame(
-    width: u32,
-    height: u32,
-    channels: u32,
-    sampling: u32,
-    range: u32,
-    matrix: u32,
-    kr: f32,
-    kb: f32,
-    transfer: u32,
+pub extern "C" fn segvartin_call_frame(
+    numbers: &[u32],
+    custom: &[f32; 2],
     source: &[u8],
-    stride: u32,
     y: &mut [u8],
-    y_stride: u32,
     u: &mut [u8],
-    u_stride: u32,
     v: &mut [u8],
-    v_stride: u32,
-    expected: &mut usize,
-    received: &mut usize,
+    told: &mut [usize; 2],
 ) -> u32
-    ensures { λ n. ⌜ FrameCalled (codesOf channels sampling range matrix transfer kr kb) width height «y_stride» «u_stride» «v_stride» stride (now (source .entry)) (now (y .entry)) (now (u .entry)) (now (v .entry)) n (now (expected .exit)) (now (received .exit)) (now (y .exit)) (now (u .exit)) (now (v .exit)) ⌝ }
+    ensures { λ n. ⌜ FrameKept (frameCall (now (numbers .entry)) (now (custom .entry)) (now (source .entry)) (now (y .entry)) (now (u .entry)) (now (v .entry))
+        n (now (told .exit)) (now (y .exit)) (now (u .exit)) (now (v .exit))) ⌝ }
 {
-    let codes = SettingCodes {
-        channels,
-        sampling,
-        range,
-        matrix,
-        transfer,
-        kr,
-        kb,
-    };
-    let frame = describe(codes, width, height, y_stride, u_stride, v_stride);
-    let answer = frame_answer(codes, frame, source, stride, y, u, v);
-    tell(answer, expected, received)
+    tell_answer(frame_answer(numbers, custom, source, y, u, v), told)
 }
 
-// The opening, once the codes have a meaning.
-fn open_answer(codes: SettingCodes, frame: FrameDescription) -> FrameAnswer
-    ensures { λ r. ⌜ OpenAnswered codes frame r ⌝ }
+// What an opening or a band call has to tell: its answer, and the rows done.
+struct Told {
+    answer: YuvAnswer,
+    done: u32,
+}
+
+// Tells it: the answer, and then the rows done.
+fn tell(t: Told, told: &mut [usize]) -> u32
+    requires { ⌜ 3 ≤ length (now told) ⌝ }
+    ensures { λ n. ⌜ (n ≡ numbersOf (t .answer) .number)
+        × (now (told .exit) ≡ set (set (set (now (told .entry)) 0 (numbersOf (t .answer) .expected)) 1 (numbersOf (t .answer) .received)) 2 (t .done)) ⌝ }
 {
-    if has_unknown(codes) {
-        return FrameAnswer {
-            state: FrameState { frame, done: 0 },
+    let answer = t.answer;
+    let number = tell_answer(answer, told);
+    told[2] = t.done as usize;
+    number
+}
+
+// The opening, once the numbers have a meaning.
+fn open_told(numbers: &[u32], custom: &[f32; 2]) -> Told
+    ensures { λ t. ⌜ OpenAnswered (openCall (now (numbers .entry)) (now (custom .entry)) 0 []) (t .answer) (t .done) ⌝ }
+{
+    if is_malformed(0, numbers) {
+        return Told {
             answer: YuvAnswer::Refused(YuvError::MalformedRequest),
+            done: 0,
         };
     }
-    FrameState::open(frame)
-}
-
-// Opens a frame that comes in bands (0), or answers the number of one refusal: 1 for a code without a meaning, else 2, 3 or 4.
-// `done` gets the rows done, 0.
-#[no_mangle]
-pub extern "C" fn segvartin_open(
-    width: u32,
-    height: u32,
-    channels: u32,
-    sampling: u32,
-    range: u32,
-    matrix: u32,
-    kr: f32,
-    kb: f32,
-    transfer: u32,
-    y_stride: u32,
-    u_stride: u32,
-    v_stride: u32,
-    done: &mut u32,
-    expected: &mut usize,
-    received: &mut usize,
-) -> u32
-    ensures { λ n. ⌜ OpenCalled (codesOf channels sampling range matrix transfer kr kb) width height «y_stride» «u_stride» «v_stride» n (now (expected .exit)) (now (received .exit)) (now (done .exit)) ⌝ }
-{
-    let codes = SettingCodes {
-        channels,
-        sampling,
-        range,
-        matrix,
-        transfer,
-        kr,
-        kb,
-    };
-    let frame = describe(codes, width, height, y_stride, u_stride, v_stride);
-    let opened = open_answer(codes, frame);
-    let state = opened.state;
-    *done = state.done;
+    let opened = FrameState::open(describe_after(0, numbers, custom));
     let answer = opened.answer;
-    tell(answer, expected, received)
+    let state = opened.state;
+    Told {
+        answer,
+        done: state.done,
+    }
 }
 
-// The band call, once the codes have a meaning.
-fn band_answer(
-    codes: SettingCodes,
-    state: FrameState,
-    rows: u32,
+// Opens a frame that comes in bands (0), or answers the number of one refusal: 1 for numbers without a meaning, else 2, 3 or 4.
+// numbers: the description. told: expected, received, and the rows done, 0.
+#[no_mangle]
+pub extern "C" fn segvartin_call_open(
+    numbers: &[u32],
+    custom: &[f32; 2],
+    told: &mut [usize; 3],
+) -> u32
+    ensures { λ n. ⌜ OpenKept (openCall (now (numbers .entry)) (now (custom .entry)) n (now (told .exit))) ⌝ }
+{
+    tell(open_told(numbers, custom), told)
+}
+
+// The first number, or 0 where there is none.
+fn first_of(numbers: &[u32]) -> u32
+    ensures { λ r. ⌜ r ≡ getD (now (numbers .entry)) 0 0 ⌝ }
+{
+    if numbers.len() == 0 { 0 } else { numbers[0] }
+}
+
+// The band call, once the numbers have a meaning.
+fn band_told(
+    numbers: &[u32],
+    custom: &[f32; 2],
     source: &[u8],
-    stride: u32,
     y: &mut [u8],
     u: &mut [u8],
     v: &mut [u8],
     carried: &mut [u8],
-) -> FrameAnswer
-    ensures { λ r. ⌜ BandAnswered codes state rows stride (now (source .entry)) (now (y .entry)) (now (u .entry)) (now (v .entry)) (now (carried .entry)) r (now (y .exit)) (now (u .exit)) (now (v .exit)) (now (carried .exit)) ⌝ }
+) -> Told
+    ensures { λ t. ⌜ BandAnswered (bandCall (now (numbers .entry)) (now (custom .entry)) (now (source .entry)) (now (y .entry)) (now (u .entry)) (now (v .entry))
+        (now (carried .entry)) 0 [] (now (y .exit)) (now (u .exit)) (now (v .exit)) (now (carried .exit))) (t .answer) (t .done) ⌝ }
 {
-    if has_unknown(codes) {
-        return FrameAnswer {
-            state,
+    if is_malformed(OF_BAND, numbers) {
+        return Told {
             answer: YuvAnswer::Refused(YuvError::MalformedRequest),
+            done: first_of(numbers),
         };
     }
-    state.band(rows, source, stride, y, u, v, carried)
+    let frame = describe_after(OF_BAND, numbers, custom);
+    let before = FrameState {
+        frame,
+        done: numbers[0],
+    };
+    let converted = before.band(numbers[1], source, numbers[2], y, u, v, carried);
+    let answer = converted.answer;
+    let after = converted.state;
+    Told {
+        answer,
+        done: after.done,
+    }
 }
 
-// Converts the next rows of a frame (0), or answers the number of one refusal, writes no byte of a plane or of the carried row and leaves
-// `done` as it is: 1 for a code without a meaning, else 2 to 13.
+// Converts the next rows of a frame (0), or answers the number of one refusal, writes no byte of a plane or of the carried row and leaves the rows
+// done as they are: 1 for numbers without a meaning, else 2 to 13. numbers: the rows done, the rows of the band, the source's stride, then the
+// description. told: expected, received, and the rows done.
 #[no_mangle]
-pub extern "C" fn segvartin_band(
-    width: u32,
-    height: u32,
-    channels: u32,
-    sampling: u32,
-    range: u32,
-    matrix: u32,
-    kr: f32,
-    kb: f32,
-    transfer: u32,
-    rows: u32,
+pub extern "C" fn segvartin_call_band(
+    numbers: &[u32],
+    custom: &[f32; 2],
     source: &[u8],
-    stride: u32,
     y: &mut [u8],
-    y_stride: u32,
     u: &mut [u8],
-    u_stride: u32,
     v: &mut [u8],
-    v_stride: u32,
     carried: &mut [u8],
-    done: &mut u32,
-    expected: &mut usize,
-    received: &mut usize,
+    told: &mut [usize; 3],
 ) -> u32
-    ensures { λ n. ⌜ BandCalled (codesOf channels sampling range matrix transfer kr kb) width height «y_stride» «u_stride» «v_stride» (now (done .entry)) rows stride (now (source .entry)) (now (y .entry)) (now (u .entry)) (now (v .entry)) (now (carried .entry)) n (now (expected .exit)) (now (received .exit)) (now (done .exit)) (now (y .exit)) (now (u .exit)) (now (v .exit)) (now (carried .exit)) ⌝ }
+    ensures { λ n. ⌜ BandKept (bandCall (now (numbers .entry)) (now (custom .entry)) (now (source .entry)) (now (y .entry)) (now (u .entry)) (now (v .entry))
+        (now (carried .entry)) n (now (told .exit)) (now (y .exit)) (now (u .exit)) (now (v .exit)) (now (carried .exit))) ⌝ }
 {
-    let codes = SettingCodes {
-        channels,
-        sampling,
-        range,
-        matrix,
-        transfer,
-        kr,
-        kb,
-    };
-    let frame = describe(codes, width, height, y_stride, u_stride, v_stride);
-    let before = FrameState { frame, done: *done };
-    let converted = band_answer(codes, before, rows, source, stride, y, u, v, carried);
-    let after = converted.state;
-    *done = after.done;
-    let answer = converted.answer;
-    tell(answer, expected, received)
+    tell(band_told(numbers, custom, source, y, u, v, carried), told)
 }

@@ -4,11 +4,17 @@ use borrow.Author.Needs.{needs}
 use Rattle.segvartin.proofs.describe.Statement.{statement}
 use Rattle.segvartin.proofs.describe.Tie as tie
 
-settings-of-requires : tie.Need-settings-of-requires
-settings-of-requires c κs = search needs
-
 returns : tie.Need-returns
-returns c = rw (c .settings-of .ensures)
+returns c = rw (c .before .before .before .before .before .settings-of .ensures)
 
 pub describe-spec : {M : Type 1} → statement M
-describe-spec = tie.close (tie.spec settings-of-requires returns)
+describe-spec =
+    tie.close
+    (tie.spec
+    (λ c κs. search needs)
+    (λ c. search needs)
+    (λ c. search needs)
+    (λ c. search needs)
+    (λ c. search needs)
+    (λ c. search needs)
+    returns)

@@ -1,43 +1,42 @@
--- `frame_answer` meets its contract: a code without a meaning is refused before the frame call, and the frame call's promise is kept.
+-- `frame_answer` meets its contract: numbers without a meaning are refused before the frame call, and the frame call's promise is kept.
 -- Assumes nothing.
-use mathlib.Core.Path.{refl, sym, _∙_}
-use Rattle.segvartin.proofs.Answered.{holds, fails}
+use mathlib.Core.Path.{_≡_, refl, sym, _∙_}
+use mathlib.Core.Bool.{false}
+use native.Mathlib.Omega.{arith}
+use Rattle.segvartin.specs.Codes.{isMalformed}
+use Rattle.segvartin.proofs.Answered.{holds, fails, counted}
 use borrow.Author.Needs.{needs}
 use Rattle.segvartin.proofs.frame_answer.Statement.{statement}
 use Rattle.segvartin.proofs.frame_answer.Tie as tie
 
-has-unknown-requires : tie.Need-has-unknown-requires
-has-unknown-requires c κs = search needs
-
 returns : tie.Need-returns
-returns c = holds _ (sym (c .before .has-unknown .ensures) ∙ c .if1 .taken) (refl, refl, refl, refl)
+returns c = holds _ (sym (c .before .is-malformed .ensures) ∙ c .if1 .taken) (refl, refl, refl, refl)
 
-rgbx-to-sharp-yuv-requires : tie.Need-rgbx-to-sharp-yuv-requires
-rgbx-to-sharp-yuv-requires c κs = search needs
+meant : (c : tie.Else1) → isMalformed 1 (c .before .before .before .before .before .before .before .args .numbers .now) ≡ false
+meant c = sym (c .before .is-malformed .ensures) ∙ c .if1 .left
 
-same-length : tie.Need-same-length
-same-length c = search needs
+describe-after-requires : tie.Need-describe-after-requires
+describe-after-requires c κs = (omega arith, meant c)
 
-same-length-2 : tie.Need-same-length-2
-same-length-2 c = search needs
-
-same-length-3 : tie.Need-same-length-3
-same-length-3 c = search needs
+shared-slice-read-rgbx-to-sharp-yuv : tie.Need-shared-slice-read-rgbx-to-sharp-yuv
+shared-slice-read-rgbx-to-sharp-yuv c = omega (arith, counted 1 _ (meant (c .before .before)))
 
 returns-2 : tie.Need-returns-2
 returns-2 c =
     let k = c .before .before .before .before .before .before in
-    let t = k .before .before .before .before in
-    fails _ (sym (t .before .has-unknown .ensures) ∙ t .if1 .left) (k .rgbx-to-sharp-yuv .ensures)
+    let d = k .before .before .before .before .before in
+    fails _ (meant (d .before)) (rw (d .describe-after .ensures) at (k .rgbx-to-sharp-yuv .ensures))
 
 pub frame-answer-spec : {M : Type 1} → statement M
 frame-answer-spec =
     tie.close
     (tie.spec
-    has-unknown-requires
+    (λ c κs. search needs)
     returns
-    rgbx-to-sharp-yuv-requires
-    same-length
-    same-length-2
-    same-length-3
+    describe-after-requires
+    shared-slice-read-rgbx-to-sharp-yuv
+    (λ c κs. search needs)
+    (λ c. search needs)
+    (λ c. search needs)
+    (λ c. search needs)
     returns-2)

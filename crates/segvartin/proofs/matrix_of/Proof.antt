@@ -6,14 +6,12 @@ use borrow.Author.Needs.{needs}
 use Rattle.segvartin.proofs.matrix_of.Statement.{statement}
 use Rattle.segvartin.proofs.matrix_of.Tie as tie
 
-matrix-of-requires : tie.Need-matrix-of-requires
-matrix-of-requires c κs = search needs
-
 returns : tie.Need-returns
-returns c = simp (eq-eqb (c .before .args .code) customCode (c .if1 .taken))
+returns c = simp (eq-eqb (c .before .before .before .args .code) customCode (c .before .before .if1 .taken))
 
 returns-2 : tie.Need-returns-2
 returns-2 c = simp (c .matrix-of .ensures, ne-eqb (c .before .before .args .code) customCode (c .before .if1 .left))
 
 pub matrix-of-spec : {M : Type 1} → statement M
-matrix-of-spec = tie.close (tie.spec matrix-of-requires returns returns-2)
+matrix-of-spec =
+    tie.close (tie.spec (λ c. search needs) (λ c. search needs) (λ c κs. search needs) returns returns-2)

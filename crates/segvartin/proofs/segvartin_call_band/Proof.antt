@@ -1,0 +1,30 @@
+-- `segvartin_call_band` meets its contract: what it tells is what `band_told` has to tell.
+-- Assumes nothing.
+use mathlib.Core.Path.{_∙_}
+use Rattle.segvartin.proofs.Arrays.{three-told}
+use borrow.Author.Needs.{needs}
+use Rattle.segvartin.proofs.segvartin_call_band.Statement.{statement}
+use Rattle.segvartin.proofs.segvartin_call_band.Tie as tie
+
+returns : tie.Need-returns
+returns c =
+    let t = c .before .before .before .before .before .before .before .before .before .before .band-told in
+    record {
+      answer = t .result .answer;
+      done = t .result .done;
+      number = c .tell .ensures .0;
+      told = c .tell .ensures .1 ∙ three-told (c .before .before .before .before .before .before .before .before .before .before .before .before .before .before .before .before .before .before .before .before .before .args .told .now) _ _ _ (c .before .tell-arg .given .0 .1);
+      answered = t .ensures;
+    }
+
+pub segvartin-call-band-spec : {M : Type 1} → statement M
+segvartin-call-band-spec =
+    tie.close
+    (tie.spec
+    (λ c κs. search needs)
+    (λ c κs. search needs)
+    (λ c. search needs)
+    (λ c. search needs)
+    (λ c. search needs)
+    (λ c. search needs)
+    returns)
