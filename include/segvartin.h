@@ -4,10 +4,16 @@
  * Link libsegvartin.a (x86-64, System V ABI). It has no state, no heap, no threads, no input and no output, and of libc it calls memset alone;
  * calls on separate buffers may run on separate threads. A call takes less than 96 KiB of stack.
  *
+ * Call segvartin_frame, segvartin_open and segvartin_band, or the same calls with their numbers in structs: segvartin_convert_frame,
+ * segvartin_open_frame and segvartin_convert_band. They only pass numbers on to the library's segvartin_call_ functions below.
+ *
  * Every function answers finished work (0) or the number of one refusal, and a refusal writes no byte of a plane or of the carried row.
  * This holds for all values of all numbers: sizes, strides, lengths, codes, kr, kb. What no function can check, and the caller must see to:
  *   - a pointer is not NULL, also where its length is 0, and points to as many bytes as the length beside it says;
  *   - source, y, u, v, carried, done, expected and received do not overlap.
+ *
+ * The caller's floating-point mode (rounding, denormals, trapped exceptions) does not matter: each call is made in the default mode, and the
+ * caller's mode and exception flags are put back as they were. Only SEGVARTIN_FCC and SEGVARTIN_CUSTOM use floats at all.
  *
  * Write w, h for width and height; c for the bytes of a pixel, 3 (RGB, BGR) or 4; cw for w / 2 rounded up; ch for h in 4:2:2, and for h / 2
  * rounded up in 4:2:0. Strides are in bytes, from the start of a row to the start of the next. Of a row only its first w (Y) or cw (U, V)
@@ -15,6 +21,10 @@
  */
 #ifndef SEGVARTIN_H
 #define SEGVARTIN_H
+
+#if !defined(__GNUC__) || !defined(__x86_64__) || defined(__ILP32__)
+#error "segvartin.h: the library is x86-64 code, and its floating-point mode is set by the assembler statements of GCC and clang"
+#endif
 
 #include <stddef.h>
 #include <stdint.h>
@@ -52,7 +62,7 @@ enum { SEGVARTIN_SRGB = 0, SEGVARTIN_REC709 = 1, SEGVARTIN_GAMMA2P2 = 2, SEGVART
  */
 enum {
     SEGVARTIN_FINISHED = 0,
-    /* a code of channels, sampling, range, matrix or transfer without a meaning */
+    /* a code of channels, sampling, range, matrix or transfer without a meaning; of segvartin_call_ also another count of numbers */
     SEGVARTIN_MALFORMED_REQUEST = 1,
     /* w or h is 0 */
     SEGVARTIN_ZERO_BASE_SIZE = 2,
@@ -83,6 +93,43 @@ enum {
 #define SEGVARTIN_MAX_SIDE 16384
 
 /*
+ * What the library exports. A program has no need of these: they are what the functions below call. They need the default floating-point
+ * mode, MXCSR 0x1f80 but for its exception flags: in another, Fcc and Custom may give other bytes and Custom other answers, and a trapped
+ * exception ends the program.
+ *
+ *   numbers          frame: stride, description. open: description. band: done, rows, stride, description. The description is ten numbers:
+ *                    width, height, channels, sampling, range, matrix, transfer, y_stride, u_stride, v_stride. Any other count is refusal 1.
+ *                    A later version may take further numbers; a call that does not give them stays the call that it is today
+ *   custom           kr, kb
+ *   told             gets expected, received, and in open and band the rows done: 0, and what they are after the band
+ *   the others       as below; numbers, custom and told overlap nothing either
+ */
+/* Made by tools/declarations.py from the library's source: change that, and run it. */
+uint32_t segvartin_call_frame(const uint32_t *numbers, size_t numbers_len, const float custom[2], const uint8_t *source, size_t source_len,
+                              uint8_t *y, size_t y_len, uint8_t *u, size_t u_len, uint8_t *v, size_t v_len, size_t told[2]);
+
+uint32_t segvartin_call_open(const uint32_t *numbers, size_t numbers_len, const float custom[2], size_t told[3]);
+
+uint32_t segvartin_call_band(const uint32_t *numbers, size_t numbers_len, const float custom[2], const uint8_t *source, size_t source_len,
+                             uint8_t *y, size_t y_len, uint8_t *u, size_t u_len, uint8_t *v, size_t v_len, uint8_t *carried,
+                             size_t carried_len, size_t told[3]);
+/* End of what tools/declarations.py makes. */
+
+/* MXCSR: the floating-point mode and the exception flags. */
+static inline uint32_t segvartin_get_mode(void) {
+    uint32_t mode;
+    __asm__ __volatile__("stmxcsr %0" : "=m"(mode) : : "memory");
+    return mode;
+}
+
+static inline void segvartin_set_mode(uint32_t mode) { __asm__ __volatile__("ldmxcsr %0" : : "m"(mode) : "memory"); }
+
+#define SEGVARTIN_DEFAULT_MODE 0x1f80u
+
+/* Where the mode changes nothing is inlined, so that no floating-point operation of the caller's is moved to where the mode is not its own. */
+#define SEGVARTIN_APART static __attribute__((noinline, unused))
+
+/*
  * Converts a whole frame. Answers 0, or a refusal: 1 to 4, 6 to 12.
  *
  *   width, height    1 to 16384
@@ -92,10 +139,22 @@ enum {
  *   u, v             ch rows of cw bytes: u_stride at least cw, u_len exactly u_stride * ch; so for v
  *   expected, received    always written
  */
-uint32_t segvartin_frame(uint32_t width, uint32_t height, uint32_t channels, uint32_t sampling, uint32_t range, uint32_t matrix, float kr,
-                         float kb, uint32_t transfer, const uint8_t *source, size_t source_len, uint32_t stride, uint8_t *y, size_t y_len,
-                         uint32_t y_stride, uint8_t *u, size_t u_len, uint32_t u_stride, uint8_t *v, size_t v_len, uint32_t v_stride,
-                         size_t *expected, size_t *received);
+SEGVARTIN_APART uint32_t segvartin_frame(uint32_t width, uint32_t height, uint32_t channels, uint32_t sampling, uint32_t range, uint32_t matrix,
+                                         float kr, float kb, uint32_t transfer, const uint8_t *source, size_t source_len, uint32_t stride,
+                                         uint8_t *y, size_t y_len, uint32_t y_stride, uint8_t *u, size_t u_len, uint32_t u_stride, uint8_t *v,
+                                         size_t v_len, uint32_t v_stride, size_t *expected, size_t *received) {
+    const uint32_t numbers[11] = {stride, width, height, channels, sampling, range, matrix, transfer, y_stride, u_stride, v_stride};
+    const float custom[2] = {kr, kb};
+    size_t told[2];
+    const uint32_t mode = segvartin_get_mode();
+    uint32_t number;
+    segvartin_set_mode(SEGVARTIN_DEFAULT_MODE);
+    number = segvartin_call_frame(numbers, 11, custom, source, source_len, y, y_len, u, u_len, v, v_len, told);
+    segvartin_set_mode(mode);
+    *expected = told[0];
+    *received = told[1];
+    return number;
+}
 
 /*
  * Opens a frame that comes in bands of rows. Answers 0, or a refusal: 1 to 4. Of plane strides it says nothing; the first band call does.
@@ -103,9 +162,22 @@ uint32_t segvartin_frame(uint32_t width, uint32_t height, uint32_t channels, uin
  *   done             gets 0, the rows done so far, also after a refusal
  *   the others       as in segvartin_frame
  */
-uint32_t segvartin_open(uint32_t width, uint32_t height, uint32_t channels, uint32_t sampling, uint32_t range, uint32_t matrix, float kr,
-                        float kb, uint32_t transfer, uint32_t y_stride, uint32_t u_stride, uint32_t v_stride, uint32_t *done, size_t *expected,
-                        size_t *received);
+SEGVARTIN_APART uint32_t segvartin_open(uint32_t width, uint32_t height, uint32_t channels, uint32_t sampling, uint32_t range, uint32_t matrix,
+                                        float kr, float kb, uint32_t transfer, uint32_t y_stride, uint32_t u_stride, uint32_t v_stride,
+                                        uint32_t *done, size_t *expected, size_t *received) {
+    const uint32_t numbers[10] = {width, height, channels, sampling, range, matrix, transfer, y_stride, u_stride, v_stride};
+    const float custom[2] = {kr, kb};
+    size_t told[3];
+    const uint32_t mode = segvartin_get_mode();
+    uint32_t number;
+    segvartin_set_mode(SEGVARTIN_DEFAULT_MODE);
+    number = segvartin_call_open(numbers, 10, custom, told);
+    segvartin_set_mode(mode);
+    *expected = told[0];
+    *received = told[1];
+    *done = (uint32_t)told[2];
+    return number;
+}
 
 /*
  * Converts the next rows of a frame. Answers 0, or a refusal: 1 to 13; a refusal leaves *done as it is.
@@ -121,13 +193,28 @@ uint32_t segvartin_open(uint32_t width, uint32_t height, uint32_t channels, uint
  *                    last row here for the next call
  *   done             in: the rows done; out: the rows done, this band's among them
  */
-uint32_t segvartin_band(uint32_t width, uint32_t height, uint32_t channels, uint32_t sampling, uint32_t range, uint32_t matrix, float kr,
-                        float kb, uint32_t transfer, uint32_t rows, const uint8_t *source, size_t source_len, uint32_t stride, uint8_t *y,
-                        size_t y_len, uint32_t y_stride, uint8_t *u, size_t u_len, uint32_t u_stride, uint8_t *v, size_t v_len,
-                        uint32_t v_stride, uint8_t *carried, size_t carried_len, uint32_t *done, size_t *expected, size_t *received);
+SEGVARTIN_APART uint32_t segvartin_band(uint32_t width, uint32_t height, uint32_t channels, uint32_t sampling, uint32_t range, uint32_t matrix,
+                                        float kr, float kb, uint32_t transfer, uint32_t rows, const uint8_t *source, size_t source_len,
+                                        uint32_t stride, uint8_t *y, size_t y_len, uint32_t y_stride, uint8_t *u, size_t u_len,
+                                        uint32_t u_stride, uint8_t *v, size_t v_len, uint32_t v_stride, uint8_t *carried, size_t carried_len,
+                                        uint32_t *done, size_t *expected, size_t *received) {
+    const uint32_t numbers[13] = {*done, rows,   stride,   width,    height,   channels, sampling,
+                                  range, matrix, transfer, y_stride, u_stride, v_stride};
+    const float custom[2] = {kr, kb};
+    size_t told[3];
+    const uint32_t mode = segvartin_get_mode();
+    uint32_t number;
+    segvartin_set_mode(SEGVARTIN_DEFAULT_MODE);
+    number = segvartin_call_band(numbers, 13, custom, source, source_len, y, y_len, u, u_len, v, v_len, carried, carried_len, told);
+    segvartin_set_mode(mode);
+    *expected = told[0];
+    *received = told[1];
+    *done = (uint32_t)told[2];
+    return number;
+}
 
 /*
- * The same calls with their numbers in structs. These are inline: they only pass each field on.
+ * The same calls with their numbers in structs: they only pass each field on.
  */
 
 /* A frame's size, settings and plane strides, by the rules above. */

@@ -2,6 +2,7 @@
 //!
 //! Each figure is the least of many turns. The two, or a frame's forms, take turns, so that a busy
 //! moment of the machine falls on both alike.
+use segvartin::{FrameDescription, FrameState, YuvChromaSubsampling, YuvSourceChannels};
 use std::time::Instant;
 use yuvutils_unaltered::sharpyuv::*;
 use yuvutils_unaltered::{BufferStoreMut, YuvPlanarImageMut, YuvRange, YuvStandardMatrix};
@@ -13,28 +14,9 @@ const MOST_OVER_120: f64 = 3.;
 
 const TURNS: usize = 100;
 
-// include/segvartin.h
-unsafe extern "C" {
-    fn segvartin_frame(
-        width: u32, height: u32, channels: u32, sampling: u32, range: u32, matrix: u32, kr: f32, kb: f32, transfer: u32,
-        source: *const u8, source_len: usize, stride: u32,
-        y: *mut u8, y_len: usize, y_stride: u32, u: *mut u8, u_len: usize, u_stride: u32, v: *mut u8, v_len: usize, v_stride: u32,
-        expected: &mut usize, received: &mut usize,
-    ) -> u32;
-
-    fn segvartin_band(
-        width: u32, height: u32, channels: u32, sampling: u32, range: u32, matrix: u32, kr: f32, kb: f32, transfer: u32,
-        rows: u32, source: *const u8, source_len: usize, stride: u32,
-        y: *mut u8, y_len: usize, y_stride: u32, u: *mut u8, u_len: usize, u_stride: u32, v: *mut u8, v_len: usize, v_stride: u32,
-        carried: *mut u8, carried_len: usize, done: &mut u32, expected: &mut usize, received: &mut usize,
-    ) -> u32;
-}
-
-// Bt601, Full, sRGB, for both: their codes in include/segvartin.h.
-const FULL: u32 = 1;
-const BT601: u32 = 0;
-const SRGB: u32 = 0;
-
+const CHANNELS: [YuvSourceChannels; 4] =
+    [YuvSourceChannels::Rgb, YuvSourceChannels::Rgba, YuvSourceChannels::Bgra, YuvSourceChannels::Bgr];
+const CHROMA: [YuvChromaSubsampling; 2] = [YuvChromaSubsampling::Yuv420, YuvChromaSubsampling::Yuv422];
 const ORDERS: [(&str, usize); 4] = [("Rgb", 3), ("Rgba", 4), ("Bgra", 4), ("Bgr", 3)];
 const SAMPLINGS: [&str; 2] = ["4:2:0", "4:2:2"];
 
@@ -89,40 +71,40 @@ impl Frame {
         self.width * ORDERS[self.order].1
     }
 
+    fn description(&self) -> FrameDescription {
+        let chroma = self.width.div_ceil(2) as u32;
+        FrameDescription {
+            width: self.width as u32,
+            height: self.height as u32,
+            channels: CHANNELS[self.order],
+            sampling: CHROMA[self.sampling],
+            range: segvartin::YuvRange::Full,
+            matrix: segvartin::YuvStandardMatrix::Bt601,
+            transfer: segvartin::SharpYuvGammaTransfer::Srgb,
+            y_stride: self.width as u32,
+            u_stride: chroma,
+            v_stride: chroma,
+        }
+    }
+
     /// One call.
     fn ours(&mut self) {
-        let chroma = self.width.div_ceil(2) as u32;
-        let (mut expected, mut received) = (0, 0);
-        let answer = unsafe {
-            segvartin_frame(
-                self.width as u32, self.height as u32, self.order as u32, self.sampling as u32, FULL, BT601, 0., 0., SRGB,
-                self.source.as_ptr(), self.source.len(), self.stride() as u32,
-                self.y.as_mut_ptr(), self.y.len(), self.width as u32,
-                self.u.as_mut_ptr(), self.u.len(), chroma, self.v.as_mut_ptr(), self.v.len(), chroma,
-                &mut expected, &mut received,
-            )
-        };
-        assert_eq!(answer, 0);
+        let (frame, stride) = (self.description(), self.stride() as u32);
+        segvartin::rgbx_to_sharp_yuv(&frame, &self.source, stride, &mut self.y, &mut self.u, &mut self.v).unwrap();
     }
 
     /// The same frame in bands of so many rows.
     fn bands(&mut self, rows: usize) {
-        let chroma = self.width.div_ceil(2) as u32;
-        let (mut done, mut expected, mut received) = (0, 0, 0);
         let stride = self.stride();
+        let mut state = FrameState { frame: self.description(), done: 0 };
         for band in self.source.chunks(rows * stride) {
-            let answer = unsafe {
-                segvartin_band(
-                    self.width as u32, self.height as u32, self.order as u32, self.sampling as u32, FULL, BT601, 0., 0., SRGB,
-                    (band.len() / stride) as u32, band.as_ptr(), band.len(), stride as u32,
-                    self.y.as_mut_ptr(), self.y.len(), self.width as u32,
-                    self.u.as_mut_ptr(), self.u.len(), chroma, self.v.as_mut_ptr(), self.v.len(), chroma,
-                    self.carried.as_mut_ptr(), self.carried.len(), &mut done, &mut expected, &mut received,
-                )
-            };
-            assert_eq!(answer, 0);
+            let rows = (band.len() / stride) as u32;
+            let (y, u, v, carried) = (&mut self.y, &mut self.u, &mut self.v, &mut self.carried);
+            let (after, answer) = state.band(rows, band, stride as u32, y, u, v, carried);
+            answer.unwrap();
+            state = after;
         }
-        assert_eq!(done as usize, self.height);
+        assert_eq!(state.done as usize, self.height);
     }
 
     fn rust(&mut self) {

@@ -2,6 +2,7 @@
 
 use crate::error::YuvError;
 use crate::ffi;
+use crate::mode::in_default_mode;
 use crate::settings::FrameDescription;
 
 /// A frame that is being converted: what its opening fixed, and how many of its rows are done.
@@ -14,30 +15,19 @@ pub struct FrameState {
 impl FrameState {
     /// A state with no row done. Refuses a size (2, 3) or a matrix (4); of plane strides it says nothing, the first band call does.
     pub fn open(frame: FrameDescription) -> Result<FrameState, YuvError> {
-        let codes = frame.codes();
-        let (mut done, mut expected, mut received) = (0, 0, 0);
-        // SAFETY: the three pointers are to locals of their own.
-        let number = unsafe {
-            ffi::segvartin_open(
-                frame.width,
-                frame.height,
-                codes.channels,
-                codes.sampling,
-                codes.range,
-                codes.matrix,
-                codes.kr,
-                codes.kb,
-                codes.transfer,
-                frame.y_stride,
-                frame.u_stride,
-                frame.v_stride,
-                &mut done,
-                &mut expected,
-                &mut received,
-            )
-        };
+        let numbers = &frame.numbers(0, 0, 0)[3..];
+        let custom = frame.custom();
+        let mut told = [0; 3];
+        // SAFETY: each pointer is that of a local of its own.
+        let number = in_default_mode(|| unsafe {
+            ffi::segvartin_call_open(numbers.as_ptr(), numbers.len(), &custom, &mut told)
+        });
+        let [expected, received, done] = told;
         YuvError::answer(number, expected, received)?;
-        Ok(FrameState { frame, done })
+        Ok(FrameState {
+            frame,
+            done: done as u32,
+        })
     }
 
     /// Converts the next `rows` rows of the frame and hands the state back with them done. Planes and carried row are those that the accepted
@@ -56,42 +46,34 @@ impl FrameState {
         carried: &mut [u8],
     ) -> (FrameState, Result<(), YuvError>) {
         let frame = self.frame;
-        let codes = frame.codes();
-        let (mut done, mut expected, mut received) = (self.done, 0, 0);
+        let numbers = frame.numbers(self.done, rows, stride);
+        let custom = frame.custom();
+        let mut told = [0; 3];
         // SAFETY: each pointer is that of a slice beside its own length, or of a local; no two overlap, as the borrows say.
-        let number = unsafe {
-            ffi::segvartin_band(
-                frame.width,
-                frame.height,
-                codes.channels,
-                codes.sampling,
-                codes.range,
-                codes.matrix,
-                codes.kr,
-                codes.kb,
-                codes.transfer,
-                rows,
+        let number = in_default_mode(|| unsafe {
+            ffi::segvartin_call_band(
+                numbers.as_ptr(),
+                numbers.len(),
+                &custom,
                 source.as_ptr(),
                 source.len(),
-                stride,
                 y.as_mut_ptr(),
                 y.len(),
-                frame.y_stride,
                 u.as_mut_ptr(),
                 u.len(),
-                frame.u_stride,
                 v.as_mut_ptr(),
                 v.len(),
-                frame.v_stride,
                 carried.as_mut_ptr(),
                 carried.len(),
-                &mut done,
-                &mut expected,
-                &mut received,
+                &mut told,
             )
-        };
+        });
+        let [expected, received, done] = told;
         (
-            FrameState { frame, done },
+            FrameState {
+                frame,
+                done: done as u32,
+            },
             YuvError::answer(number, expected, received),
         )
     }

@@ -3,6 +3,7 @@
 use crate::error::YuvError;
 use crate::ffi;
 use crate::image::YuvPlanarImageMut;
+use crate::mode::in_default_mode;
 use crate::settings::{
     FrameDescription, SharpYuvGammaTransfer, YuvChromaSubsampling, YuvRange, YuvSourceChannels,
     YuvStandardMatrix,
@@ -19,36 +20,27 @@ pub fn rgbx_to_sharp_yuv(
     u: &mut [u8],
     v: &mut [u8],
 ) -> Result<(), YuvError> {
-    let codes = frame.codes();
-    let (mut expected, mut received) = (0, 0);
+    let numbers = &frame.numbers(0, 0, stride)[2..];
+    let custom = frame.custom();
+    let mut told = [0; 2];
     // SAFETY: each pointer is that of a slice beside its own length, or of a local; no two overlap, as the borrows say.
-    let number = unsafe {
-        ffi::segvartin_frame(
-            frame.width,
-            frame.height,
-            codes.channels,
-            codes.sampling,
-            codes.range,
-            codes.matrix,
-            codes.kr,
-            codes.kb,
-            codes.transfer,
+    let number = in_default_mode(|| unsafe {
+        ffi::segvartin_call_frame(
+            numbers.as_ptr(),
+            numbers.len(),
+            &custom,
             source.as_ptr(),
             source.len(),
-            stride,
             y.as_mut_ptr(),
             y.len(),
-            frame.y_stride,
             u.as_mut_ptr(),
             u.len(),
-            frame.u_stride,
             v.as_mut_ptr(),
             v.len(),
-            frame.v_stride,
-            &mut expected,
-            &mut received,
+            &mut told,
         )
-    };
+    });
+    let [expected, received] = told;
     YuvError::answer(number, expected, received)
 }
 

@@ -1,7 +1,10 @@
 //! RGB frames to planar YUV 4:2:0 and 4:2:2 over the proved library, under the names and with the argument order of yuvutils-rs's sharp path.
 //!
 //! Every call answers finished work or one numbered refusal ([`YuvError`]), for all sizes, strides, lengths and settings; a refusal writes no
-//! byte. Nothing here panics.
+//! byte. No frame or band call panics. [`YuvPlanarImageMut::alloc`] makes the planes as [`Vec`]s, and ends as those do where memory does not suffice.
+//!
+//! The caller's floating-point mode (rounding, denormals, trapped exceptions) does not matter: each call is made in the default mode, and the
+//! caller's mode and exception flags are put back as they were.
 //!
 //! ```
 //! use segvartin::*;
@@ -17,6 +20,7 @@ mod error;
 mod ffi;
 mod frame;
 mod image;
+mod mode;
 mod settings;
 
 pub use bands::FrameState;

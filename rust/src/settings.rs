@@ -1,4 +1,4 @@
-//! The settings of a call, and the codes by which the library knows them.
+//! The settings of a call, and the numbers by which the library knows them.
 
 /// Order of the bytes of a pixel.
 #[derive(Debug, Copy, Clone, PartialEq, Eq)]
@@ -65,52 +65,60 @@ pub struct FrameDescription {
     pub v_stride: u32,
 }
 
-/// The settings as include/segvartin.h numbers them.
-pub(crate) struct Codes {
-    pub channels: u32,
-    pub sampling: u32,
-    pub range: u32,
-    pub matrix: u32,
-    pub kr: f32,
-    pub kb: f32,
-    pub transfer: u32,
-}
-
 impl FrameDescription {
-    pub(crate) fn codes(&self) -> Codes {
-        let (matrix, kr, kb) = match self.matrix {
-            YuvStandardMatrix::Bt601 => (0, 0.0, 0.0),
-            YuvStandardMatrix::Bt709 => (1, 0.0, 0.0),
-            YuvStandardMatrix::Bt2020 => (2, 0.0, 0.0),
-            YuvStandardMatrix::Smpte240 => (3, 0.0, 0.0),
-            YuvStandardMatrix::Bt470_6 => (4, 0.0, 0.0),
-            YuvStandardMatrix::Fcc => (5, 0.0, 0.0),
-            YuvStandardMatrix::Custom(kr, kb) => (6, kr, kb),
+    /// The numbers of a band call, as include/segvartin.h lists them. The last 11 are those of a frame call, the last 10 those of an opening.
+    pub(crate) fn numbers(&self, done: u32, rows: u32, stride: u32) -> [u32; 13] {
+        let channels = match self.channels {
+            YuvSourceChannels::Rgb => 0,
+            YuvSourceChannels::Rgba => 1,
+            YuvSourceChannels::Bgra => 2,
+            YuvSourceChannels::Bgr => 3,
         };
-        Codes {
-            channels: match self.channels {
-                YuvSourceChannels::Rgb => 0,
-                YuvSourceChannels::Rgba => 1,
-                YuvSourceChannels::Bgra => 2,
-                YuvSourceChannels::Bgr => 3,
-            },
-            sampling: match self.sampling {
-                YuvChromaSubsampling::Yuv420 => 0,
-                YuvChromaSubsampling::Yuv422 => 1,
-            },
-            range: match self.range {
-                YuvRange::Limited => 0,
-                YuvRange::Full => 1,
-            },
+        let sampling = match self.sampling {
+            YuvChromaSubsampling::Yuv420 => 0,
+            YuvChromaSubsampling::Yuv422 => 1,
+        };
+        let range = match self.range {
+            YuvRange::Limited => 0,
+            YuvRange::Full => 1,
+        };
+        let matrix = match self.matrix {
+            YuvStandardMatrix::Bt601 => 0,
+            YuvStandardMatrix::Bt709 => 1,
+            YuvStandardMatrix::Bt2020 => 2,
+            YuvStandardMatrix::Smpte240 => 3,
+            YuvStandardMatrix::Bt470_6 => 4,
+            YuvStandardMatrix::Fcc => 5,
+            YuvStandardMatrix::Custom(..) => 6,
+        };
+        let transfer = match self.transfer {
+            SharpYuvGammaTransfer::Srgb => 0,
+            SharpYuvGammaTransfer::Rec709 => 1,
+            SharpYuvGammaTransfer::Gamma2p2 => 2,
+            SharpYuvGammaTransfer::Gamma2p8 => 3,
+        };
+        [
+            done,
+            rows,
+            stride,
+            self.width,
+            self.height,
+            channels,
+            sampling,
+            range,
             matrix,
-            kr,
-            kb,
-            transfer: match self.transfer {
-                SharpYuvGammaTransfer::Srgb => 0,
-                SharpYuvGammaTransfer::Rec709 => 1,
-                SharpYuvGammaTransfer::Gamma2p2 => 2,
-                SharpYuvGammaTransfer::Gamma2p8 => 3,
-            },
+            transfer,
+            self.y_stride,
+            self.u_stride,
+            self.v_stride,
+        ]
+    }
+
+    /// kr and kb, which the library looks at for Custom alone.
+    pub(crate) fn custom(&self) -> [f32; 2] {
+        match self.matrix {
+            YuvStandardMatrix::Custom(kr, kb) => [kr, kb],
+            _ => [0.0, 0.0],
         }
     }
 }

@@ -167,8 +167,36 @@ static void openings(void) {
     e = d, e.y_stride = 0, e.u_stride = UINT32_MAX, refused_opening(e, 0);
 }
 
+/*
+ * The exported functions answer 1 to every count of numbers but their own; no byte is written, and the rows done are told as they were given.
+ * Of a band the numbers are one row done, one row, stride 15.
+ */
+static void counts(void) {
+    segvartin_description d = description(SEGVARTIN_RGB, SEGVARTIN_YUV420, 3);
+    const uint32_t numbers[18] = {1, 1, 15, 5, 3, 0, 0, 0, 0, 0, 6, 4, 3, 3, 3, 3, 3, 3};
+    const float custom[2] = {0, 0};
+    for (size_t count = 0; count <= 15; count++) {
+        planes p = lend_planes(&d);
+        lent source = lend(15), carried = lend(3 * WIDTH);
+        size_t told[3] = {99, 99, 99};
+        uint32_t number = segvartin_call_open(numbers + 3, count, custom, told);
+        EXPECT(number == (count == 10 ? SEGVARTIN_FINISHED : SEGVARTIN_MALFORMED_REQUEST));
+        EXPECT(told[0] == 0 && told[1] == 0 && told[2] == 0);
+        told[0] = told[1] = told[2] = 99;
+        number = segvartin_call_band(numbers, count, custom, source.at, source.len, p.y.at, p.y.len, p.u.at, p.u.len, p.v.at, p.v.len, carried.at,
+                                     carried.len, told);
+        EXPECT(number == (count == 13 ? SEGVARTIN_FINISHED : SEGVARTIN_MALFORMED_REQUEST));
+        EXPECT(told[0] == 0 && told[1] == 0 && told[2] == (count == 0 ? 0 : count == 13 ? 2 : 1));
+        EXPECT((count != 13) == (untouched(&p.y) && untouched(&p.u) && untouched(&p.v)) && untouched(&carried));
+        give_back(&source);
+        give_back(&carried);
+        give_back_planes(&p);
+    }
+}
+
 int main(void) {
     openings();
+    counts();
     for (closed_before = 0; closed_before < 2; closed_before++)
         for (uint32_t channels = 0; channels < 4; channels += 1)
             for (uint32_t sampling = 0; sampling < 2; sampling++)

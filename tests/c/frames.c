@@ -194,12 +194,27 @@ static void limits(void) {
     one_colour(r, 255, 0, 0, 76, 85, 255);
 }
 
+/* The exported function answers 1 to every count of numbers but its own, whatever the numbers are; no byte is written. */
+static void counts(void) {
+    uint32_t numbers[16] = {15, 5, 3, 0, 0, 0, 0, 0, 5, 3, 3, 3, 3, 3, 3, 3};
+    const float custom[2] = {0, 0};
+    for (size_t count = 0; count <= 16; count++) {
+        request r = accepted(5, 3, SEGVARTIN_RGB, SEGVARTIN_YUV420, SEGVARTIN_LIMITED, 0);
+        size_t told[2] = {99, 99};
+        uint32_t number = segvartin_call_frame(numbers, count, custom, r.source.at, r.source.len, r.y.at, r.y.len, r.u.at, r.u.len, r.v.at, r.v.len, told);
+        EXPECT(number == (count == 11 ? SEGVARTIN_FINISHED : SEGVARTIN_MALFORMED_REQUEST) && told[0] == 0 && told[1] == 0);
+        EXPECT((count != 11) == (untouched(&r.y) && untouched(&r.u) && untouched(&r.v)));
+        discard(&r);
+    }
+}
+
 int main(void) {
     for (closed_before = 0; closed_before < 2; closed_before++) {
         worked_lines();
         refusals(SEGVARTIN_YUV420);
         refusals(SEGVARTIN_YUV422);
         limits();
+        counts();
     }
     return finish("frames");
 }

@@ -13,6 +13,8 @@
 #include <sys/mman.h>
 #include <unistd.h>
 
+#include "expect.h"
+
 typedef struct lent {
     uint8_t *at;
     size_t len;
@@ -51,23 +53,6 @@ static int untouched(const lent *b) {
     for (size_t i = 0; i < b->len; i++)
         if (b->at[i] != (uint8_t)(0xa5 ^ i)) return 0;
     return 1;
-}
-
-static unsigned long checks, failures;
-
-static void expect(int holds, const char *what, int line) {
-    checks++;
-    if (!holds) {
-        failures++;
-        fprintf(stderr, "line %d: %s\n", line, what);
-    }
-}
-
-#define EXPECT(condition) expect(condition, #condition, __LINE__)
-
-static int finish(const char *name) {
-    printf("%s: %lu checks, %lu failed\n", name, checks, failures);
-    return failures != 0;
 }
 
 #endif

@@ -1,0 +1,222 @@
+//! In every floating-point mode of the caller: the answers and bytes of the default mode, and the caller's mode and exception flags afterwards
+//! as they were. The exported functions alone, in another mode, go wrong.
+
+use core::arch::asm;
+use segvartin::*;
+
+#[path = "../src/ffi.rs"]
+#[allow(dead_code)]
+mod ffi;
+
+const DEFAULT: u32 = 0x1f80;
+const DENORMALS_ARE_ZERO: u32 = 0x40;
+const FLUSH_TO_ZERO: u32 = 0x8000;
+const FLAGS: u32 = 0x3f;
+
+/// MXCSR before and after the call, and its answer. Between the two settings nothing else computes with floats.
+fn in_mode<R>(mode: u32, call: impl FnOnce() -> R) -> (u32, u32, R) {
+    let (mut before, mut after) = (0u32, 0u32);
+    // SAFETY: each reads or writes four bytes of a local; the default mode comes back before anything here computes with floats.
+    unsafe {
+        asm!("ldmxcsr [{}]", in(reg) &mode);
+        asm!("stmxcsr [{}]", in(reg) &mut before);
+    }
+    let answer = call();
+    // SAFETY: as above.
+    unsafe {
+        asm!("stmxcsr [{}]", in(reg) &mut after);
+        asm!("ldmxcsr [{}]", in(reg) &DEFAULT);
+    }
+    (before, after, answer)
+}
+
+/// Four roundings; denormals kept, taken as 0, flushed to 0, both; exceptions masked or all trapped; flags clear or set.
+fn modes() -> Vec<u32> {
+    let mut modes = vec![DEFAULT];
+    for (one_more, count) in [(0x2000, 4), (DENORMALS_ARE_ZERO, 2), (FLUSH_TO_ZERO, 2)] {
+        modes = (0..count)
+            .flat_map(|n| modes.iter().map(move |mode| mode + n * one_more))
+            .collect();
+    }
+    modes.extend(modes.clone().iter().map(|mode| mode - DEFAULT));
+    modes.extend(modes.clone().iter().map(|mode| mode + FLAGS));
+    modes
+}
+
+fn description(
+    width: u32,
+    height: u32,
+    sampling: YuvChromaSubsampling,
+    range: YuvRange,
+    matrix: YuvStandardMatrix,
+) -> FrameDescription {
+    FrameDescription {
+        width,
+        height,
+        channels: YuvSourceChannels::Rgb,
+        sampling,
+        range,
+        matrix,
+        transfer: SharpYuvGammaTransfer::Srgb,
+        y_stride: width,
+        u_stride: width.div_ceil(2),
+        v_stride: width.div_ceil(2),
+    }
+}
+
+fn source(frame: &FrameDescription) -> Vec<u8> {
+    (0..3 * frame.width * frame.height)
+        .map(|i| (i * i * 31 + i * 7) as u8)
+        .collect()
+}
+
+fn planes(frame: &FrameDescription) -> [Vec<u8>; 3] {
+    let rows = match frame.sampling {
+        YuvChromaSubsampling::Yuv420 => frame.height.div_ceil(2),
+        YuvChromaSubsampling::Yuv422 => frame.height,
+    };
+    let chroma = vec![0; (frame.u_stride * rows) as usize];
+    [
+        vec![0; (frame.y_stride * frame.height) as usize],
+        chroma.clone(),
+        chroma,
+    ]
+}
+
+/// What a frame call answers and leaves.
+fn by_frame(frame: &FrameDescription, source: &[u8]) -> (Result<(), YuvError>, [Vec<u8>; 3]) {
+    let mut planes = planes(frame);
+    let [y, u, v] = &mut planes;
+    let answer = rgbx_to_sharp_yuv(frame, source, 3 * frame.width, y, u, v);
+    (answer, planes)
+}
+
+/// The same of bands of one row, until one is refused.
+fn by_bands(frame: &FrameDescription, source: &[u8]) -> (Result<(), YuvError>, [Vec<u8>; 3]) {
+    let mut planes = planes(frame);
+    let [y, u, v] = &mut planes;
+    let mut carried = vec![0; 3 * frame.width as usize];
+    let mut state = FrameState {
+        frame: *frame,
+        done: 0,
+    };
+    let stride = 3 * frame.width;
+    for row in source.chunks(stride as usize) {
+        let (after, answer) = state.band(1, row, stride, y, u, v, &mut carried);
+        if answer.is_err() {
+            return (answer, planes);
+        }
+        state = after;
+    }
+    (Ok(()), planes)
+}
+
+/// The number that the exported frame call answers, and the planes that it leaves, for Limited, 4:2:2 and a Custom matrix.
+fn by_export(width: u32, height: u32, custom: [f32; 2], source: &[u8]) -> (u32, [Vec<u8>; 3]) {
+    let (sampling, range) = (YuvChromaSubsampling::Yuv422, YuvRange::Limited);
+    let frame = description(width, height, sampling, range, YuvStandardMatrix::Bt601);
+    let mut planes = planes(&frame);
+    let [y, u, v] = &mut planes;
+    let chroma = frame.u_stride;
+    let numbers = [
+        3 * width,
+        width,
+        height,
+        0,
+        1,
+        0,
+        6,
+        0,
+        width,
+        chroma,
+        chroma,
+    ];
+    // SAFETY: each pointer is that of a slice beside its own length, or of a local; no two overlap, as the borrows say.
+    let number = unsafe {
+        ffi::segvartin_call_frame(
+            numbers.as_ptr(),
+            numbers.len(),
+            &custom,
+            source.as_ptr(),
+            source.len(),
+            y.as_mut_ptr(),
+            y.len(),
+            u.as_mut_ptr(),
+            u.len(),
+            v.as_mut_ptr(),
+            v.len(),
+            &mut [0; 2],
+        )
+    };
+    (number, planes)
+}
+
+#[test]
+fn the_same_in_every_mode() {
+    let refused = Err(YuvError::MatrixNotAccepted);
+    let mut matrices = vec![
+        (YuvStandardMatrix::Bt601, Ok(())),
+        (YuvStandardMatrix::Fcc, Ok(())),
+    ];
+    for (k, answer) in [
+        (0.0f32.next_down(), refused),
+        (f32::NAN, refused),
+        (0.5f32.next_up(), refused),
+        (-0.0, Ok(())),
+        (0.0f32.next_up(), Ok(())),
+        (0.5, Ok(())),
+        (0.056, Ok(())),
+    ] {
+        matrices.push((YuvStandardMatrix::Custom(k, 0.257), answer));
+        matrices.push((YuvStandardMatrix::Custom(0.257, k), answer));
+    }
+    assert_eq!(modes().len(), 64);
+    for (matrix, answer) in matrices {
+        for (sampling, range) in [
+            (YuvChromaSubsampling::Yuv420, YuvRange::Full),
+            (YuvChromaSubsampling::Yuv422, YuvRange::Limited),
+        ] {
+            let frame = description(5, 3, sampling, range, matrix);
+            let source = source(&frame);
+            let usual = by_frame(&frame, &source);
+            assert_eq!(usual.0, answer);
+            for mode in modes() {
+                let (before, after, got) = in_mode(mode, || by_frame(&frame, &source));
+                assert_eq!((before, after, &got), (mode, mode, &usual));
+                let (before, after, got) = in_mode(mode, || by_bands(&frame, &source));
+                assert_eq!((before, after, &got), (mode, mode, &usual));
+                let (before, after, opened) = in_mode(mode, || FrameState::open(frame));
+                assert_eq!(
+                    (before, after, opened.map(|state| state.done)),
+                    (mode, mode, answer.map(|()| 0))
+                );
+            }
+        }
+    }
+}
+
+/// One green pixel whose V is 46, and 47 where the weights are computed in another rounding mode.
+#[test]
+fn the_export_rounds_as_its_caller() {
+    let (sampling, range) = (YuvChromaSubsampling::Yuv422, YuvRange::Limited);
+    let matrix = YuvStandardMatrix::Custom(0.056, 0.257);
+    let frame = description(1, 1, sampling, range, matrix);
+    for rounding in 0..4 {
+        let mode = DEFAULT + 0x2000 * rounding;
+        let (_, _, (answer, [_, _, v])) = in_mode(mode, || by_frame(&frame, &[0, 255, 0]));
+        assert_eq!((answer, v[0]), (Ok(()), 46));
+        let export = || by_export(1, 1, [0.056, 0.257], &[0, 255, 0]);
+        let (_, _, (number, [_, _, v])) = in_mode(mode, export);
+        assert_eq!((number, v[0]), (0, if rounding == 0 { 46 } else { 47 }));
+    }
+}
+
+/// A negative kr that counts as 0 where denormals do.
+#[test]
+fn the_export_takes_denormals_as_its_caller() {
+    let source = [0; 45];
+    for (mode, number) in [(DEFAULT, 4), (DEFAULT + DENORMALS_ARE_ZERO, 0)] {
+        let export = || by_export(5, 3, [0.0f32.next_down(), 0.1], &source);
+        assert_eq!(in_mode(mode, export).2.0, number);
+    }
+}

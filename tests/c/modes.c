@@ -1,0 +1,260 @@
+/*
+ * The calls in every floating-point mode that a caller may be in: answers and bytes are those of the default mode, and the caller's mode and
+ * exception flags are as they were afterwards. The bare segvartin_call_ functions, in another mode, are shown to go wrong: where they no longer
+ * do, the mode need not be set around them.
+ *
+ * Not run under valgrind: its processor knows the rounding modes, and neither the two modes of denormals nor exceptions.
+ */
+#define _GNU_SOURCE
+#include "expect.h"
+#include "segvartin.h"
+
+#include <fenv.h>
+#include <signal.h>
+#include <stdlib.h>
+#include <string.h>
+#include <sys/wait.h>
+#include <unistd.h>
+#include <xmmintrin.h>
+
+/* Bits of MXCSR. */
+enum { DENORMALS_ARE_ZERO = 0x40, FLUSH_TO_ZERO = 0x8000, DENORMAL_MASK = 0x100, FLAGS = 0x3f, DEFAULT = 0x1f80 };
+
+static const int roundings[4] = {FE_TONEAREST, FE_DOWNWARD, FE_UPWARD, FE_TOWARDZERO};
+
+/* rounding of 4, denormals of 4, trapped or not, flags set or not */
+enum { MODES = 4 * 4 * 2 * 2 };
+
+/* Between enter and leave nothing here computes with floats. FE_ALL_EXCEPT lacks the exception of a denormal operand. */
+static void enter(int mode) {
+    fesetround(roundings[mode % 4]);
+    if (mode / 4 % 2) _mm_setcsr(_mm_getcsr() | DENORMALS_ARE_ZERO);
+    if (mode / 8 % 2) _mm_setcsr(_mm_getcsr() | FLUSH_TO_ZERO);
+    if (mode / 32) _mm_setcsr(_mm_getcsr() | FLAGS);
+    if (mode / 16 % 2) {
+        feenableexcept(FE_ALL_EXCEPT);
+        _mm_setcsr(_mm_getcsr() & ~(unsigned)DENORMAL_MASK);
+    }
+}
+
+static void leave(void) {
+    fesetenv(FE_DFL_ENV);
+    _mm_setcsr(DEFAULT);
+}
+
+static float of_bits(uint32_t bits) {
+    float x;
+    memcpy(&x, &bits, sizeof x);
+    return x;
+}
+
+enum { W = 5, H = 3, CW = 3, STRIDE = 3 * W };
+
+static uint8_t source[STRIDE * H];
+
+/* All that a call leaves; memory for it is cleared first, so that two can be compared as bytes. */
+typedef struct outcome {
+    size_t expected, received;
+    uint32_t number, done;
+    uint8_t y[W * H], u[CW * H], v[CW * H], carried[3 * W];
+} outcome;
+
+typedef void call(const segvartin_description *d, outcome *o);
+
+static void told(outcome *o, segvartin_answer a) {
+    o->number = a.number;
+    o->expected = a.expected;
+    o->received = a.received;
+}
+
+static segvartin_bytes_mut plane(uint8_t *at, const segvartin_description *d) {
+    segvartin_bytes_mut p = {at, d->u_stride * (size_t)(d->sampling == SEGVARTIN_YUV420 ? (d->height + 1) / 2 : d->height)};
+    return p;
+}
+
+static segvartin_bytes rows(const segvartin_description *d, uint32_t first, uint32_t count) {
+    segvartin_bytes part = {source + (size_t)first * 3 * d->width, (size_t)count * 3 * d->width};
+    return part;
+}
+
+static void frame(const segvartin_description *d, outcome *o) {
+    segvartin_bytes_mut y = {o->y, (size_t)d->y_stride * d->height};
+    told(o, segvartin_convert_frame(d, rows(d, 0, d->height), 3 * d->width, y, plane(o->u, d), plane(o->v, d)));
+}
+
+static void opening(const segvartin_description *d, outcome *o) {
+    segvartin_state state;
+    told(o, segvartin_open_frame(&state, d));
+    o->done = state.done;
+}
+
+/* The frame in bands of one row, until one is refused. The opening is not asked: a band call judges the matrix itself. */
+static void bands(const segvartin_description *d, outcome *o) {
+    segvartin_state state;
+    segvartin_bytes_mut y = {o->y, (size_t)d->y_stride * d->height}, carried = {o->carried, 3 * (size_t)d->width};
+    state.frame = *d;
+    state.done = 0;
+    do {
+        segvartin_bytes row = rows(d, state.done, 1);
+        told(o, segvartin_convert_band(&state, 1, row, 3 * d->width, y, plane(o->u, d), plane(o->v, d), carried));
+    } while (o->number == SEGVARTIN_FINISHED && state.done < d->height);
+    o->done = state.done;
+}
+
+/* As frame, by the exported function alone. */
+static void bare(const segvartin_description *d, outcome *o) {
+    const uint32_t numbers[11] = {3 * d->width, d->width,    d->height,   d->channels, d->sampling, d->range,
+                                  d->matrix,    d->transfer, d->y_stride, d->u_stride, d->v_stride};
+    const float custom[2] = {d->kr, d->kb};
+    size_t sizes[2];
+    segvartin_bytes from = rows(d, 0, d->height);
+    segvartin_bytes_mut u = plane(o->u, d), v = plane(o->v, d);
+    o->number = segvartin_call_frame(numbers, 11, custom, from.at, from.len, o->y, (size_t)d->y_stride * d->height, u.at, u.len, v.at, v.len, sizes);
+    o->expected = sizes[0];
+    o->received = sizes[1];
+}
+
+/* Makes the call in the mode, and answers MXCSR before and after it. */
+static void in_mode(int mode, call *made, const segvartin_description *d, outcome *o, unsigned mxcsr[2]) {
+    memset(o, 0, sizeof *o);
+    enter(mode);
+    mxcsr[0] = _mm_getcsr();
+    made(d, o);
+    mxcsr[1] = _mm_getcsr();
+    leave();
+}
+
+static int differ(const outcome *a, const outcome *b) { return memcmp(a, b, sizeof *a); }
+
+static segvartin_description description(uint32_t width, uint32_t height, uint32_t sampling, uint32_t range, uint32_t matrix) {
+    segvartin_description d;
+    memset(&d, 0, sizeof d);
+    d.width = d.y_stride = width;
+    d.height = height;
+    d.u_stride = d.v_stride = width / 2 + width % 2;
+    d.sampling = sampling;
+    d.range = range;
+    d.matrix = matrix;
+    return d;
+}
+
+/* The three calls, in each mode: answered with this number, and the same bytes as in the default mode. */
+static void in_every_mode(const segvartin_description *d, uint32_t number) {
+    static call *const calls[3] = {frame, opening, bands};
+    for (int i = 0; i < 3; i++) {
+        outcome usual, o;
+        unsigned mxcsr[2];
+        in_mode(0, calls[i], d, &usual, mxcsr);
+        EXPECT(usual.number == number && usual.expected == 0 && usual.received == 0);
+        EXPECT(usual.done == (calls[i] == bands && number == SEGVARTIN_FINISHED ? d->height : 0));
+        for (int mode = 0; mode < MODES; mode++) {
+            in_mode(mode, calls[i], d, &o, mxcsr);
+            EXPECT(!differ(&o, &usual));
+            EXPECT(mxcsr[1] == mxcsr[0]);
+        }
+    }
+}
+
+/* Refusal 4 and its limits, by the bits of kr or of kb. */
+static const struct limit {
+    uint32_t bits, number;
+} limits[] = {
+    {0x80000001, SEGVARTIN_MATRIX_NOT_ACCEPTED}, /* the negative nearest to 0 */
+    {0x807fffff, SEGVARTIN_MATRIX_NOT_ACCEPTED}, /* the largest negative denormal */
+    {0x7fc00000, SEGVARTIN_MATRIX_NOT_ACCEPTED}, /* NaN */
+    {0x7f800001, SEGVARTIN_MATRIX_NOT_ACCEPTED}, /* NaN that signals */
+    {0x3f000001, SEGVARTIN_MATRIX_NOT_ACCEPTED}, /* next above 0.5 */
+    {0x80000000, SEGVARTIN_FINISHED},            /* -0.0 */
+    {0x00000001, SEGVARTIN_FINISHED},            /* next above 0 */
+    {0x3f000000, SEGVARTIN_FINISHED},            /* 0.5 */
+    {0x3d656042, SEGVARTIN_FINISHED},            /* 0.056 */
+};
+
+static void matrices(void) {
+    for (uint32_t sampling = 0; sampling < 2; sampling++)
+        for (uint32_t range = 0; range < 2; range++) {
+            segvartin_description d = description(W, H, sampling, range, SEGVARTIN_BT601);
+            in_every_mode(&d, SEGVARTIN_FINISHED);
+            d.matrix = SEGVARTIN_FCC;
+            in_every_mode(&d, SEGVARTIN_FINISHED);
+            d.matrix = SEGVARTIN_CUSTOM;
+            for (size_t i = 0; i < sizeof limits / sizeof *limits; i++) {
+                d.kr = of_bits(limits[i].bits), d.kb = 0.257f;
+                in_every_mode(&d, limits[i].number);
+                d.kr = 0.257f, d.kb = of_bits(limits[i].bits);
+                in_every_mode(&d, limits[i].number);
+            }
+        }
+}
+
+/* One green pixel whose V is 46, and 47 where the weights are computed in another rounding mode. */
+static void another_rounding(void) {
+    segvartin_description d = description(1, 1, SEGVARTIN_YUV422, SEGVARTIN_LIMITED, SEGVARTIN_CUSTOM);
+    d.kr = 0.056f, d.kb = 0.257f;
+    source[0] = 0, source[1] = 255, source[2] = 0;
+    for (int mode = 0; mode < 4; mode++) {
+        outcome o;
+        unsigned mxcsr[2];
+        in_mode(mode, frame, &d, &o, mxcsr);
+        EXPECT(o.number == SEGVARTIN_FINISHED && o.v[0] == 46);
+        in_mode(mode, bands, &d, &o, mxcsr);
+        EXPECT(o.number == SEGVARTIN_FINISHED && o.v[0] == 46);
+        in_mode(mode, bare, &d, &o, mxcsr);
+        EXPECT(o.number == SEGVARTIN_FINISHED && o.v[0] == (mode == 0 ? 46 : 47));
+    }
+}
+
+/* A negative kr that counts as 0 where denormals do. */
+static void another_answer(void) {
+    segvartin_description d = description(W, H, SEGVARTIN_YUV420, SEGVARTIN_FULL, SEGVARTIN_CUSTOM);
+    d.kr = of_bits(0x80000001);
+    for (int mode = 0; mode < 8; mode += 4) {
+        outcome o;
+        unsigned mxcsr[2];
+        in_mode(mode, frame, &d, &o, mxcsr);
+        EXPECT(o.number == SEGVARTIN_MATRIX_NOT_ACCEPTED);
+        in_mode(mode, bare, &d, &o, mxcsr);
+        EXPECT(o.number == (mode == 0 ? SEGVARTIN_MATRIX_NOT_ACCEPTED : SEGVARTIN_FINISHED));
+    }
+}
+
+/* Whether the call, where exceptions are trapped, ends the program with SIGFPE. */
+static int ends(call *made, const segvartin_description *d) {
+    int status = 0;
+    pid_t child = fork();
+    if (child == 0) {
+        outcome o;
+        unsigned mxcsr[2];
+        signal(SIGFPE, SIG_DFL);
+        in_mode(16, made, d, &o, mxcsr);
+        _exit(0);
+    }
+    if (child < 0 || waitpid(child, &status, 0) != child) {
+        perror("fork");
+        exit(2);
+    }
+    return WIFSIGNALED(status) && WTERMSIG(status) == SIGFPE;
+}
+
+static void another_end(void) {
+    segvartin_description d = description(W, H, SEGVARTIN_YUV420, SEGVARTIN_FULL, SEGVARTIN_FCC);
+    EXPECT(!ends(frame, &d) && !ends(bands, &d) && ends(bare, &d));
+    d.matrix = SEGVARTIN_BT709;
+    EXPECT(!ends(bare, &d));
+}
+
+int main(void) {
+    unsigned start = _mm_getcsr();
+    leave();
+#ifdef __FAST_MATH__
+    EXPECT((start & (DENORMALS_ARE_ZERO | FLUSH_TO_ZERO)) == (DENORMALS_ARE_ZERO | FLUSH_TO_ZERO));
+#else
+    EXPECT(start == DEFAULT);
+#endif
+    for (size_t i = 0; i < sizeof source; i++) source[i] = (uint8_t)(i * i * 31 + i * 7);
+    matrices();
+    another_rounding();
+    another_answer();
+    another_end();
+    return finish("modes");
+}

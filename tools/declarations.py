@@ -1,0 +1,154 @@
+#!/usr/bin/env python3
+"""Make the declarations of the exported functions: in include/segvartin.h between its two marks, and rust/src/ffi.rs.
+
+They are read out of crates/segvartin/src, so that C and Rust call what is there.
+
+    tools/declarations.py                     write both
+    tools/declarations.py --check [ARCHIVE]   say what differs from the files, and fail if anything does; of an
+                                              archive also, that it defines these functions and no other
+"""
+import difflib
+import re
+import subprocess
+import sys
+from pathlib import Path
+
+ROOT = Path(__file__).resolve().parent.parent
+SOURCES = ROOT / 'crates' / 'segvartin' / 'src'
+HEADER = ROOT / 'include' / 'segvartin.h'
+FFI = ROOT / 'rust' / 'src' / 'ffi.rs'
+
+BEGIN = '/* Made by tools/declarations.py from the library\'s source: change that, and run it. */\n'
+END = '/* End of what tools/declarations.py makes. */\n'
+FFI_HEADER = '''\
+//! The exported functions, as include/segvartin.h says them.
+// Made by tools/declarations.py from the library's source: change that, and run it.
+
+'''
+
+C_TYPES = {'u8': 'uint8_t', 'u16': 'uint16_t', 'u32': 'uint32_t', 'u64': 'uint64_t', 'usize': 'size_t', 'f32': 'float', 'f64': 'double'}
+C_WIDTH = 140
+RUST_WIDTH = 100
+
+EXPORT = re.compile(r'#\[no_mangle\]\s*pub extern "C" fn (\w+)\(([^)]*)\)\s*->\s*(\w+)')
+PARAMETER = re.compile(r'(?P<name>\w+): (?P<lent>&(?P<mut>mut )?)?'
+                       r'(?P<bracket>\[)?(?P<type>\w+)(?:; (?P<count>\d+))?(?(bracket)\])')
+
+
+def element(name):
+    """The C type of a number's type."""
+    if name not in C_TYPES:
+        sys.exit(f'tools/declarations.py: no C type for {name}')
+    return C_TYPES[name]
+
+
+def parameters(function, text):
+    """Each parameter as a match of PARAMETER."""
+    found = []
+    for part in filter(None, (part.strip() for part in text.split(','))):
+        match = PARAMETER.fullmatch(part)
+        if not match or (match['bracket'] and not match['lent']) or (match['count'] and not match['bracket']):
+            sys.exit(f'tools/declarations.py: {function}: cannot read the parameter {part}')
+        found.append(match)
+    return found
+
+
+def exports():
+    """Name, parameters and result of every exported function, in the source's order."""
+    text = ''.join(path.read_text() for path in sorted(SOURCES.glob('*.rt')))
+    text = re.sub(r'//.*', '', text)
+    found = [(name, parameters(name, given), result) for name, given, result in EXPORT.findall(text)]
+    # An export that is written in a way EXPORT does not see must not go missing.
+    if not found or len(found) != len(re.findall(r'\bno_mangle\b', text)) or len(found) != len(re.findall(r'\bextern "C" fn\b', text)):
+        sys.exit(f'tools/declarations.py: {SOURCES}: not every exported function could be read')
+    return found
+
+
+def c_parameters(p):
+    """A slice is a pointer and its length; an array by reference says its length in the brackets."""
+    name, type_ = p['name'], element(p['type'])
+    if not p['lent']:
+        return [f'{type_} {name}']
+    lent = type_ if p['mut'] else f'const {type_}'
+    if p['count']:
+        return [f'{lent} {name}[{p["count"]}]']
+    if p['bracket']:
+        return [f'{lent} *{name}', f'size_t {name}_len']
+    return [f'{lent} *{name}']
+
+
+def rust_parameters(p):
+    name, type_ = p['name'], p['type']
+    if not p['bracket'] or p['count']:
+        return [p[0]]
+    return [f'{name}: *{"mut" if p["mut"] else "const"} {type_}', f'{name}_len: usize']
+
+
+def c_declaration(name, given, result):
+    """Filled lines, those after the first below the first parameter."""
+    head = f'{element(result)} {name}('
+    lines, line = [], head
+    words = [word for p in given for word in c_parameters(p)]
+    for i, word in enumerate(words):
+        word += ');' if i == len(words) - 1 else ','
+        if line == head:
+            line += word
+        elif len(line) + 1 + len(word) <= C_WIDTH:
+            line += ' ' + word
+        else:
+            lines.append(line)
+            line = ' ' * len(head) + word
+    return '\n'.join(lines + [line]) + '\n'
+
+
+def rust_declaration(name, given, result):
+    """As rustfmt lays it out."""
+    words = [word for p in given for word in rust_parameters(p)]
+    line = f'    pub(crate) fn {name}({", ".join(words)}) -> {result};\n'
+    if len(line) <= RUST_WIDTH:
+        return line
+    return f'    pub(crate) fn {name}(\n' + ''.join(f'        {word},\n' for word in words) + f'    ) -> {result};\n'
+
+
+def header_text(functions):
+    before, begin, rest = HEADER.read_text().partition(BEGIN)
+    _, end, after = rest.partition(END)
+    if not begin or not end:
+        sys.exit(f'tools/declarations.py: {HEADER}: a mark is missing')
+    return before + BEGIN + '\n'.join(c_declaration(*f) for f in functions) + END + after
+
+
+def ffi_text(functions):
+    return FFI_HEADER + 'unsafe extern "C" {\n' + '\n'.join(rust_declaration(*f) for f in functions) + '}\n'
+
+
+def archive_differs(functions, archive):
+    """Whether the archive's global names are other than the functions'."""
+    told = subprocess.run(['nm', '--defined-only', '--extern-only', '--format=posix', archive], check=True, capture_output=True, text=True)
+    defined = sorted(line.split()[0] for line in told.stdout.splitlines() if len(line.split()) > 1)
+    declared = sorted(name for name, _, _ in functions)
+    if defined == declared:
+        return False
+    print(f'{archive} defines {defined}, declared are {declared}')
+    return True
+
+
+def main(words):
+    checking = words[:1] == ['--check']
+    if len(words) > (2 if checking else 0):
+        sys.exit(__doc__)
+    functions = exports()
+    differs = False
+    for path, text in ((HEADER, header_text(functions)), (FFI, ffi_text(functions))):
+        if not checking:
+            path.write_text(text)
+        elif path.read_text() != text:
+            differs = True
+            sys.stdout.writelines(difflib.unified_diff(path.read_text().splitlines(True), text.splitlines(True), str(path), 'made'))
+    if checking and len(words) == 2:
+        differs = archive_differs(functions, words[1]) or differs
+    if differs:
+        sys.exit('tools/declarations.py: the declarations are not those of the library')
+
+
+main(sys.argv[1:])
