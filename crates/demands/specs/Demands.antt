@@ -1,18 +1,20 @@
--- The three demands, one after the other. Each cites definitions alone: the promises of the calls (`FramePost`, `OpenPost`, `BandPost`, the very
--- predicates of their `ensures`), which hold of every call whatever it is given, and the rules, rows, planes and curves that they speak of. Their
--- proofs are `demand-1`, `demand-2` and `demand-3` of proofs/Demands.antt.
+-- The three demands, one after the other. Each cites definitions alone: the promises of the calls (`FramePost`, `OpenPost`, `BandPost`,
+-- `RequestPost`, `FrameKept`, `OpenKept`, `BandKept`, the very predicates of their `ensures`), which hold of every call whatever it is given, and the
+-- rules, rows, planes and curves that they speak of. Their proofs are `demand-1`, `demand-2` and `demand-3` of proofs/Demands.antt.
 -- Assumes nothing.
 use Prim.Native.Nat.{ℕ, _+_, _*_, _≤_, _<_}
 use mathlib.Core.Path.{_≡_}
+use mathlib.Core.Bool.{true}
 use mathlib.Core.List.{List}
 use mathlib.Core.Logic.{_↔_}
 use lib.Dec.{T}
 use lib.ListN.{length, getD}
+use Rattle.yuv_support.specs.Channels.{channelsCount}
 use Rattle.yuv_support.specs.Sampling.{chromaWidth, chromaHeight}
-use Rattle.yuv_error.specs.declared.YuvError.{YuvError}
+use Rattle.yuv_support.specs.Matrix.{accepted}
 use Rattle.yuv_error.specs.declared.YuvAnswer.{YuvAnswer}
-use Rattle.yuv_error.specs.declared.YuvAnswer.the-variants.{Finished, Refused}
-use Rattle.yuv_error.specs.Numbers.{numbersOf}
+use Rattle.yuv_error.specs.declared.YuvAnswer.the-variants.{Finished}
+use Rattle.yuv_error.specs.Numbers.{Numbers, numbersOf}
 use Rattle.yuv_error.specs.Rules.{Rule}
 use Rattle.yuv_error.specs.Lowest.{Lowest}
 use Rattle.sharp_gamma.specs.declared.SharpYuvGammaTransfer.{SharpYuvGammaTransfer}
@@ -23,29 +25,59 @@ use Rattle.definitions.specs.declared.FrameDescription.{FrameDescription}
 use Rattle.definitions.specs.Image.{sourceImage, lumaAt, cbAt, crAt}
 use Rattle.sharp_rgba_to_yuv.specs.Frame.{openingRules, frameRules, FramePost}
 use Rattle.sharp_bands.specs.declared.FrameAnswer.{FrameAnswer}
-use Rattle.sharp_bands.specs.Band.{OpenPost, bandRules}
-use Rattle.sharp_bands.specs.Calls.{BandCall, Met, Untouched, OthersEqual}
+use Rattle.sharp_bands.specs.Band.{stateOf, OpenPost, bandRules}
+use Rattle.sharp_bands.specs.Calls.{BandCall, Met, Untouched, FrameCall, OthersEqual, noRows, tallyOf, none, firstCall, lastCall, Chained, After}
 use Rattle.sharp_bands.specs.Calls as calls
+use Rattle.frame_request.specs.declared.Response.{Response}
+use Rattle.frame_request.specs.Request.{requestRules, responseNumbers, RequestPost}
+use Rattle.segvartin.specs.Calls.{ExportedFrame, rulesOfFrame, FrameKept, ExportedOpening, frameOfOpening, rulesOfOpening, OpenKept, ExportedBand, rulesOfBand, Kept, BandKept}
+use Rattle.segvartin.specs.Lists.{numbersTold, doneTold, asFrame, asBands, AllKept, RefusedKept}
 
 -- ---- 1. "The answer to every call is finished work or one numbered refusal, for all sizes, strides, buffers and settings; a refusal writes no
 -- byte."
 
--- the answer is the lowest number whose condition holds, with that number's expected and received, or finished work where none holds; and where it
--- is a refusal, nothing changed
-pub record Answered (rules : List Rule) (answer : YuvAnswer) (unchanged : Type 0) : Type 0 where
-  pub lowest : Lowest rules (numbersOf answer)
-  pub writes-nothing : (e : YuvError) → answer ≡ Refused e → unchanged
+-- the answer, in its three numbers, is the lowest number whose condition holds, with that number's expected and received, or 0, finished work,
+-- where none holds; and where it is a refusal, nothing changed
+pub record Answered (rules : List Rule) (told : Numbers) (unchanged : Type 0) : Type 0 where
+  pub lowest : Lowest rules told
+  pub writes-nothing : 1 ≤ told .number → unchanged
 
+-- the calls of Rattle: frame, opening, band, and a request of the program; then those that C and Rust link, whose numbers come first to be refused
 pub record Demand1 : Type 0 where
   pub frame : (d : FrameDescription) (stride : ℕ) (source y u v : List ℕ) (answer : YuvAnswer) (y′ u′ v′ : List ℕ) → FramePost d stride source y u v answer y′ u′ v′
-      → Answered (frameRules d stride (length source) (length y) (length u) (length v)) answer ((y′ ≡ y) × (u′ ≡ u) × (v′ ≡ v))
+      → Answered (frameRules d stride (length source) (length y) (length u) (length v)) (numbersOf answer) ((y′ ≡ y) × (u′ ≡ u) × (v′ ≡ v))
   pub opening : (d : FrameDescription) (r : FrameAnswer) → OpenPost d r → Lowest (openingRules d) (numbersOf (r .answer))
   pub band : (k : BandCall) → Met k
-      → Answered (bandRules (k .state) (k .rows) (k .stride) (length (k .source)) (length (k .y)) (length (k .u)) (length (k .v)) (length (k .carried))) (k .result .answer) (Untouched k)
+      → Answered (bandRules (k .state) (k .rows) (k .stride) (length (k .source)) (length (k .y)) (length (k .u)) (length (k .v)) (length (k .carried)))
+      (numbersOf (k .result .answer)) (Untouched k)
+  pub request : (input output : List ℕ) (response : Response) (output′ : List ℕ) → RequestPost input output response output′
+      → Answered (requestRules input) (responseNumbers response) (output′ ≡ output)
+  pub linked-frame : (k : ExportedFrame) → FrameKept k
+      → Answered (rulesOfFrame k) (numbersTold (k .number) (k .told)) ((k .y′ ≡ k .y) × (k .u′ ≡ k .u) × (k .v′ ≡ k .v))
+  pub linked-opening : (k : ExportedOpening) → OpenKept k → Lowest (rulesOfOpening k) (numbersTold (k .number) (k .told))
+  pub linked-band : (k : ExportedBand) → BandKept k
+      → Answered (rulesOfBand k) (numbersTold (k .number) (k .told)) (Kept k (doneTold (k .told)))
 
 -- ---- 2. "For frames of 1 to 16,384 pixels a side in whole rows, with any channel order, sampling, range, transfer and accepted matrix of document
 -- 01: the planes equal those of the Rust over our stated curve tables, each table entry is the truncated H.273-shaped curve, and padding is
 -- untouched."
+
+-- so many whole rows of n bytes
+pub record WholeRows (n rows stride : ℕ) (buffer : List ℕ) : Type 0 where
+  pub row : n ≤ stride
+  pub size : length buffer ≡ stride * rows
+
+-- such a frame, with its planes
+pub record WholeFrame (d : FrameDescription) (stride : ℕ) (source y u v : List ℕ) : Type 0 where
+  pub width-least : 1 ≤ d .width
+  pub width-most : d .width ≤ 16384
+  pub height-least : 1 ≤ d .height
+  pub height-most : d .height ≤ 16384
+  pub matrix : accepted (d .settings .matrix) ≡ true
+  pub source-rows : WholeRows (d .width * channelsCount (d .settings .channels)) (d .height) stride source
+  pub y-rows : WholeRows (d .width) (d .height) (d .«y_stride») y
+  pub u-rows : WholeRows (chromaWidth (d .width)) (chromaHeight (d .settings .sampling) (d .height)) (d .«u_stride») u
+  pub v-rows : WholeRows (chromaWidth (d .width)) (chromaHeight (d .settings .sampling) (d .height)) (d .«v_stride») v
 
 -- every byte of the planes: those of the rows by the definition, which the Rust over these tables is run against, the others as they were
 pub record FrameBytes (d : FrameDescription) (stride : ℕ) (source y u v y′ u′ v′ : List ℕ) : Type 0 where
@@ -59,13 +91,24 @@ pub record FrameBytes (d : FrameDescription) (stride : ℕ) (source y u v y′ u
   pub v-padding : OthersEqual (chromaHeight (d .settings .sampling) (d .height)) (chromaWidth (d .width)) (d .«v_stride») v′ v
 
 pub record Demand2 : Type 0 where
+  -- every such frame is answered with finished work, and no other is
+  pub finished : (d : FrameDescription) (stride : ℕ) (source y u v : List ℕ) (answer : YuvAnswer) (y′ u′ v′ : List ℕ) → FramePost d stride source y u v answer y′ u′ v′
+      → (answer ≡ Finished) ↔ WholeFrame d stride source y u v
   pub planes : (d : FrameDescription) (stride : ℕ) (source y u v : List ℕ) (answer : YuvAnswer) (y′ u′ v′ : List ℕ) → FramePost d stride source y u v answer y′ u′ v′
-      → answer ≡ Finished → FrameBytes d stride source y u v y′ u′ v′
+      → WholeFrame d stride source y u v → FrameBytes d stride source y u v y′ u′ v′
   pub linear : (t : SharpYuvGammaTransfer) (v n : ℕ) → v < 256 → T (underCurve (curveOf t) (n over 65535) (v over 255)) ↔ n ≤ linearEntry t v
   pub gamma : (t : SharpYuvGammaTransfer) (i k : ℕ) → i < 65536 → T (underInverse (curveOf t) (k over 255) (i over 65535)) ↔ k ≤ gammaEntry t i
 
 -- ---- 3. "For every list of band calls after a fresh opening, refused calls included, whatever their bands and buffers: .." The whole sentence stands,
 -- part by part, in sharp_bands' specs/Calls.antt.
 
-abbrev pub Demand3 : Type 0
-Demand3 = calls.Demand3
+pub record Demand3 : Type 0 where
+  pub calls : calls.Demand3
+  -- the same for who links the library: an opening that was answered with 0, and a list of band calls, those refused with 1 included
+  pub linked : (o : ExportedOpening) (bands : List ExportedBand) → OpenKept o → o .number ≡ 0 → AllKept bands
+      → Chained (stateOf (frameOfOpening o) 0) none (asBands bands)
+      → After (frameOfOpening o) (stateOf (frameOfOpening o) 0) (tallyOf (frameOfOpening o) noRows (asBands bands)) (firstCall (asBands bands)) (lastCall none (asBands bands))
+      × RefusedKept bands
+  -- and their accepted frame calls are among the frame calls that it speaks of
+  pub linked-frames : (k : ExportedFrame) → FrameKept k → k .number ≡ 0
+      → let f : FrameCall = asFrame k in (f .result ≡ Finished) × FramePost (f .frame) (f .stride) (f .source) (f .y) (f .u) (f .v) (f .result) (f .y′) (f .u′) (f .v′)

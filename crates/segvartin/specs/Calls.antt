@@ -3,20 +3,21 @@
 -- Assumes nothing.
 use Prim.Native.Nat.{ℕ}
 use mathlib.Core.Path.{_≡_}
-use mathlib.Core.List.{List, [], _∷_}
+use mathlib.Core.List.{List, [], _∷_, _++_}
 use lib.Ieee.{Float}
-use lib.ListN.{drop}
+use lib.ListN.{length, drop}
 use Rattle.yuv_error.specs.declared.YuvError.the-variants.{MalformedRequest}
 use Rattle.yuv_error.specs.declared.YuvAnswer.{YuvAnswer}
 use Rattle.yuv_error.specs.declared.YuvAnswer.the-variants.{Refused}
 use Rattle.yuv_error.specs.Numbers.{numbersOf}
 use Rattle.definitions.specs.declared.FrameDescription.{FrameDescription}
-use Rattle.sharp_rgba_to_yuv.specs.Frame.{FramePost}
+use Rattle.yuv_error.specs.Rules.{Rule}
+use Rattle.sharp_rgba_to_yuv.specs.Frame.{openingRules, frameRules, FramePost}
 use Rattle.sharp_bands.specs.declared.FrameState.{FrameState}
 use Rattle.sharp_bands.specs.declared.FrameAnswer.{FrameAnswer}
-use Rattle.sharp_bands.specs.Band.{stateOf, OpenPost, BandPost}
+use Rattle.sharp_bands.specs.Band.{stateOf, bandRules, OpenPost, BandPost}
 use Rattle.sharp_bands.specs.Calls.{either}
-use Rattle.segvartin.specs.Codes.{at, descriptionOf, isMalformed}
+use Rattle.segvartin.specs.Codes.{at, descriptionOf, isMalformed, numberRules}
 
 -- ---- `segvartin_call_frame`
 
@@ -45,6 +46,13 @@ strideOfFrame k = at (k .numbers) 0
 abbrev pub frameOfFrame : ExportedFrame → FrameDescription
 frameOfFrame k = descriptionOf (drop 1 (k .numbers)) (k .custom)
 
+-- refusal 1, then the frame call's own
+abbrev pub frameRulesOf : ExportedFrame → List Rule
+frameRulesOf k = frameRules (frameOfFrame k) (strideOfFrame k) (length (k .source)) (length (k .y)) (length (k .u)) (length (k .v))
+
+abbrev pub rulesOfFrame : ExportedFrame → List Rule
+rulesOfFrame k = numberRules 1 (k .numbers) ++ frameRulesOf k
+
 -- a frame call's promise, with refusal 1 before it
 abbrev pub FrameAnswered : ExportedFrame → YuvAnswer → Type 0
 FrameAnswered k answer =
@@ -71,6 +79,9 @@ openCall numbers custom number told = record { numbers = numbers; custom = custo
 
 abbrev pub frameOfOpening : ExportedOpening → FrameDescription
 frameOfOpening k = descriptionOf (drop 0 (k .numbers)) (k .custom)
+
+abbrev pub rulesOfOpening : ExportedOpening → List Rule
+rulesOfOpening k = numberRules 0 (k .numbers) ++ openingRules (frameOfOpening k)
 
 -- what a call hands back, in numbers: the frame is the caller's
 abbrev pub handed : FrameDescription → YuvAnswer → (done : ℕ) → FrameAnswer
@@ -138,6 +149,12 @@ frameOf k = descriptionOf (drop 3 (k .numbers)) (k .custom)
 -- the state that the numbers describe
 abbrev pub stateGiven : ExportedBand → FrameState
 stateGiven k = stateOf (frameOf k) (doneOf k)
+
+abbrev pub bandRulesOf : ExportedBand → List Rule
+bandRulesOf k = bandRules (stateGiven k) (rowsOf k) (strideOf k) (length (k .source)) (length (k .y)) (length (k .u)) (length (k .v)) (length (k .carried))
+
+abbrev pub rulesOfBand : ExportedBand → List Rule
+rulesOfBand k = numberRules 3 (k .numbers) ++ bandRulesOf k
 
 -- no byte written, and the rows done told as they were given
 abbrev pub Kept : ExportedBand → (done : ℕ) → Type 0

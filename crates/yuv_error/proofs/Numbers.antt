@@ -1,41 +1,17 @@
--- An answer is known by its numbers: the table below finds it again. Assumes nothing.
+-- An answer is known by its numbers: `answerOf` finds it again. Assumes nothing.
 use Prim.Native.Nat.{ℕ}
 use mathlib.Core.Bool.{false}
-use mathlib.Core.List.{List, [], _∷_}
 use mathlib.Core.Path.{_≡_, refl, sym, ap, _∙_}
 use native.Mathlib.Omega.{arith}
 use lib.Dec.{eqb}
-use lib.ListN.{getD}
 use borrow.Author.Tests.{ne-eqb}
-use Rattle.yuv_error.specs.Numbers.{Numbers, numbersOf, errorNumbers}
-use Rattle.yuv_error.specs.declared.MismatchedSize.{MismatchedSize}
+use Rattle.yuv_error.specs.Numbers.{numbersOf, errorNumbers, answerOf}
 use Rattle.yuv_error.specs.declared.YuvError.{YuvError}
 use Rattle.yuv_error.specs.declared.YuvError.the-variants.{MalformedRequest, ZeroBaseSize, SizeTooLarge, MatrixNotAccepted, BandRowsMismatch, DestinationSizeMismatch, MinimumStrideSizeMismatch, LumaPlaneMinimumSizeMismatch, LumaPlaneSizeMismatch, UPlaneMinimumSizeMismatch, VPlaneMinimumSizeMismatch, WholeRowsMismatch, CarriedRowSizeMismatch}
 use Rattle.yuv_error.specs.declared.YuvAnswer.{YuvAnswer}
 use Rattle.yuv_error.specs.declared.YuvAnswer.the-variants.{Finished, Refused}
 
--- the answers by number, each with the size m where it carries one
-abbrev answers : MismatchedSize → List YuvAnswer
-answers m =
-    Finished ∷
-    Refused MalformedRequest ∷
-    Refused ZeroBaseSize ∷
-    Refused SizeTooLarge ∷
-    Refused MatrixNotAccepted ∷
-    Refused BandRowsMismatch ∷
-    Refused (DestinationSizeMismatch m) ∷
-    Refused (MinimumStrideSizeMismatch m) ∷
-    Refused (LumaPlaneMinimumSizeMismatch m) ∷
-    Refused (LumaPlaneSizeMismatch m) ∷
-    Refused (UPlaneMinimumSizeMismatch m) ∷
-    Refused (VPlaneMinimumSizeMismatch m) ∷
-    Refused (WholeRowsMismatch m) ∷
-    Refused (CarriedRowSizeMismatch m) ∷ []
-
-abbrev answerOf : Numbers → YuvAnswer
-answerOf x = getD (answers (record { expected = x .expected; received = x .received })) (x .number) Finished
-
-found : (a : YuvAnswer) → answerOf (numbersOf a) ≡ a
+pub found : (a : YuvAnswer) → answerOf (numbersOf a) ≡ a
 found Finished = refl
 found (Refused MalformedRequest) = refl
 found (Refused ZeroBaseSize) = refl

@@ -1,6 +1,8 @@
 -- Document 01's number, expected and received of each answer. "A refusal carries expected and received (both 0 where none is named)."
 -- Assumes nothing.
 use Prim.Native.Nat.{ℕ}
+use mathlib.Core.List.{List, [], _∷_}
+use lib.ListN.{getD}
 use Rattle.yuv_error.specs.declared.MismatchedSize.{MismatchedSize}
 use Rattle.yuv_error.specs.declared.YuvError.{YuvError}
 use Rattle.yuv_error.specs.declared.YuvError.the-variants.{MalformedRequest, ZeroBaseSize, SizeTooLarge, MatrixNotAccepted, BandRowsMismatch, DestinationSizeMismatch, MinimumStrideSizeMismatch, LumaPlaneMinimumSizeMismatch, LumaPlaneSizeMismatch, UPlaneMinimumSizeMismatch, VPlaneMinimumSizeMismatch, WholeRowsMismatch, CarriedRowSizeMismatch}
@@ -37,3 +39,25 @@ errorNumbers (CarriedRowSizeMismatch m) = sized 13 m
 abbrev pub numbersOf : YuvAnswer → Numbers
 numbersOf Finished = numbers 0 0 0
 numbersOf (Refused e) = errorNumbers e
+
+-- the answers by number, each with the size m where it carries one
+abbrev pub answers : MismatchedSize → List YuvAnswer
+answers m =
+    Finished ∷
+    Refused MalformedRequest ∷
+    Refused ZeroBaseSize ∷
+    Refused SizeTooLarge ∷
+    Refused MatrixNotAccepted ∷
+    Refused BandRowsMismatch ∷
+    Refused (DestinationSizeMismatch m) ∷
+    Refused (MinimumStrideSizeMismatch m) ∷
+    Refused (LumaPlaneMinimumSizeMismatch m) ∷
+    Refused (LumaPlaneSizeMismatch m) ∷
+    Refused (UPlaneMinimumSizeMismatch m) ∷
+    Refused (VPlaneMinimumSizeMismatch m) ∷
+    Refused (WholeRowsMismatch m) ∷
+    Refused (CarriedRowSizeMismatch m) ∷ []
+
+-- the answer of these numbers, the other way round
+abbrev pub answerOf : Numbers → YuvAnswer
+answerOf x = getD (answers (record { expected = x .expected; received = x .received })) (x .number) Finished

@@ -1,0 +1,67 @@
+-- Lists of exported calls, as the lists of band calls that demand 3 speaks of: what a caller's numbers mean, and which answer they tell.
+-- Assumes nothing.
+use Prim.Native.Nat.{ℕ, _≤_}
+use mathlib.Core.Bool.{cond}
+use mathlib.Core.List.{List, [], _∷_}
+use Rattle.yuv_error.specs.declared.YuvAnswer.{YuvAnswer}
+use Rattle.yuv_error.specs.Numbers.{Numbers, numbers, answerOf}
+use Rattle.sharp_bands.specs.Calls.{BandCall, FrameCall}
+use Rattle.segvartin.specs.Codes.{at, isMalformed}
+use Rattle.segvartin.specs.Calls.{ExportedFrame, strideOfFrame, frameOfFrame, handed, ExportedBand, rowsOf, strideOf, frameOf, stateGiven, Kept, BandKept}
+
+-- number, expected and received, as a call told them
+abbrev pub numbersTold : (number : ℕ) → (told : List ℕ) → Numbers
+numbersTold number told = numbers number (at told 0) (at told 1)
+
+abbrev pub answerTold : (number : ℕ) → (told : List ℕ) → YuvAnswer
+answerTold number told = answerOf (numbersTold number told)
+
+-- the rows done, as an opening or a band call told them
+abbrev pub doneTold : (told : List ℕ) → ℕ
+doneTold told = at told 2
+
+-- a frame call, and a band call, that came as numbers
+abbrev pub asFrame : ExportedFrame → FrameCall
+asFrame k = record {
+  frame = frameOfFrame k;
+  stride = strideOfFrame k;
+  source = k .source;
+  y = k .y;
+  u = k .u;
+  v = k .v;
+  result = answerTold (k .number) (k .told);
+  y′ = k .y′;
+  u′ = k .u′;
+  v′ = k .v′;
+}
+
+abbrev pub asBand : ExportedBand → BandCall
+asBand k = record {
+  state = stateGiven k;
+  rows = rowsOf k;
+  stride = strideOf k;
+  source = k .source;
+  y = k .y;
+  u = k .u;
+  v = k .v;
+  carried = k .carried;
+  result = handed (frameOf k) (answerTold (k .number) (k .told)) (doneTold (k .told));
+  y′ = k .y′;
+  u′ = k .u′;
+  v′ = k .v′;
+  carried′ = k .carried′;
+}
+
+-- the calls of a list whose numbers have a meaning; the others are refused with 1, and are no band calls
+abbrev pub asBands : List ExportedBand → List BandCall
+asBands [] = []
+asBands (k ∷ ks) = cond (isMalformed 3 (k .numbers)) (asBands ks) (asBand k ∷ asBands ks)
+
+abbrev pub AllKept : List ExportedBand → Type 0
+AllKept [] = Unit {0}
+AllKept (k ∷ ks) = BandKept k × AllKept ks
+
+-- every refused call, with 1 too, wrote no byte and told the rows done as it got them
+abbrev pub RefusedKept : List ExportedBand → Type 0
+RefusedKept [] = Unit {0}
+RefusedKept (k ∷ ks) = (1 ≤ k .number → Kept k (doneTold (k .told))) × RefusedKept ks
