@@ -1,4 +1,4 @@
-//! What is compared: the model, the oracle, and the library that users link.
+//! What is compared: the model, the oracle, and the library that users link. The built program is in program.rs.
 
 use crate::request::BandRequest;
 use model::{Answer, Frame, FrameState, Refusal, Settings};

@@ -1,5 +1,5 @@
-//! Compares the model of document 01, the oracle, which is the Rust over the exact tables, and the
-//! linked library on random requests. Exit status 1 where anything differs.
+//! Compares the model of document 01, the oracle, which is the Rust over the exact tables, the linked
+//! library and the built program on random requests. Exit status 1 where anything differs.
 
 mod bands;
 mod calls;
@@ -9,6 +9,7 @@ mod converter;
 #[cfg(library)]
 mod library;
 mod mistakes;
+mod program;
 mod random;
 mod request;
 mod sequences;
@@ -34,7 +35,7 @@ compare --vectors ROOT | --check ROOT | --mistakes
   --frames N     random frame calls (200000)
   --calls N      random band calls on any state (60000)
   --runs N       frames cut into bands, with refused calls between them (40000)
-  --programs N   inputs of the program (20000)
+  --programs N   inputs of the program (20000), a fifth of them run by target/bin/frame where it is there
   --pairs N      Custom pairs whose nine weights are compared (1000000)
   --side N       sizes to N by N (64); some are 1,920 by 1,080, some up to 16,384 long and thin
   --seed N       seed of all of these (1)
@@ -45,6 +46,9 @@ A mismatch is printed as the smallest request found that shows it, in the form o
   --vectors ROOT   write the stored lists of frame calls and band sequences into the repository ROOT
   --check ROOT     say whether the lists in ROOT are what --vectors writes
   --mistakes       for each mistake near at hand the call made for it, and how many calls catch it";
+
+/// One in so many inputs is run by the built program too: a process takes a millisecond.
+const RUN: u64 = 5;
 
 /// Bytes of a request that --list still prints.
 const LONGEST_LISTED: usize = 10_000;
@@ -142,9 +146,16 @@ fn main() {
     compare("frames in bands", options.runs, &converters, |case| {
         random::run(&mut Random::new(seed, 3, case), side)
     });
-    compare("program inputs", options.programs, &converters, |case| {
-        random::input(&mut Random::new(seed, 4, case), side)
-    });
+    let input = |case| random::input(&mut Random::new(seed, 4, case), side);
+    compare("program inputs", options.programs, &converters, input);
+    if let Some(built) = program::Program::built() {
+        let mut converters = converters;
+        converters.push(Box::new(built));
+        let inputs = options.programs / RUN;
+        compare("inputs run by target/bin/frame", inputs, &converters, input);
+    } else {
+        println!("target/bin/frame is not here: it was run on no input");
+    }
     println!("all equal, {:.1} s", start.elapsed().as_secs_f64());
 }
 

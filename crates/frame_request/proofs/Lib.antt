@@ -5,3 +5,4 @@ pub mod Call
 pub mod Post
 pub mod Answers
 pub mod Reading
+pub mod Reply

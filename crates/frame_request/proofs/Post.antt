@@ -55,12 +55,9 @@ posted input output output′ a n is size c = rw is (go a c)
 -- ---- what a caller reads off the promise
 
 -- 49,152 bytes hold the planes of every request that is not refused
-bytes-most : (input output : List ℕ) (r : Response) (output′ : List ℕ) → RequestPost input output r output′ → bytesSaid r ≤ 49152
+pub bytes-most : (input output : List ℕ) (r : Response) (output′ : List ℕ) → RequestPost input output r output′ → bytesSaid r ≤ 49152
 bytes-most input output (Planes n) output′ p =
     let zero = sym (ap (λ (x : Numbers). x .number) (p .answered)) in
     let k = checked input (append-finished (openingRules input) (bufferRules input) refl zero .0) in
     omega (arith, p .said, k .area, chroma-small input k)
 bytes-most input output (Refuses e) output′ p = zero-le
-
-pub planes-fit : {input output output′ : List ℕ} {r : Response} {n : ℕ} → RequestPost input output r output′ → r ≡ Planes n → length output ≡ 49152 → n ≤ length output′
-planes-fit {input} {output} {output′} {r} {n} p is size = let most = rw is at (bytes-most input output r output′ p) in omega (arith, p .written .size)

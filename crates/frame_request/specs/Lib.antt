@@ -1,3 +1,4 @@
 -- The program's request.
 pub mod Request
 pub mod Packed
+pub mod Reply

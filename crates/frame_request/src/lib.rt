@@ -14,6 +14,7 @@ ghost use Rattle.definitions.specs.Image.{sourceImage};
 ghost use Rattle.sharp_rgba_to_yuv.specs.Frame.{frameRules, taken};
 ghost use Rattle.frame_request.specs.Request.{settingsOf, frameOf, sourceStride, lumaSize, chromaSize, hasUnknown, headerRules, areaRules, openingRules, outputAt, outputSize, RequestPost};
 ghost use Rattle.frame_request.specs.Packed.{Packed, PlanesPost, responseOf};
+ghost use Rattle.frame_request.specs.Reply.{refusalLine, reply, Begins};
 
 // The bytes of w, h and the five codes.
 const HEADER: usize = 9;
@@ -235,8 +236,8 @@ fn convert(input: &[u8], output: &mut [u8]) -> Response
     respond(answer, sizes.luma + 2 * sizes.chroma)
 }
 
-// Answers a request: its planes in the first bytes of the output, or a refusal and no byte written.
-pub fn answer_request(input: &[u8], output: &mut [u8; 49152]) -> Response
+fn answer_into(input: &[u8], output: &mut [u8]) -> Response
+    requires { ⌜ 49152 ≤ length (now output) ⌝ }
     ensures { λ r. ⌜ RequestPost (now (input .entry)) (now (output .entry)) r (now (output .exit)) ⌝ }
 {
     let checked = check_request(input);
@@ -244,4 +245,58 @@ pub fn answer_request(input: &[u8], output: &mut [u8; 49152]) -> Response
         YuvAnswer::Refused(e) => Response::Refused(e),
         YuvAnswer::Finished => convert(input, output),
     }
+}
+
+// Answers a request: its planes in the first bytes of the output, or a refusal and no byte written.
+pub fn answer_request(input: &[u8], output: &mut [u8; 49152]) -> Response
+    ensures { λ r. ⌜ RequestPost (now (input .entry)) (now (output .entry)) r (now (output .exit)) ⌝ }
+{
+    answer_into(input, output)
+}
+
+// A digit in ASCII.
+fn digit(value: u32) -> u8
+    requires { ⌜ value < 10 ⌝ }
+    ensures { λ r. ⌜ r ≡ 48 + value ⌝ }
+{
+    b'0' + value as u8
+}
+
+// Puts the line of a refusal at the start of the output, and answers how many bytes it has.
+fn put_refusal(number: u32, output: &mut [u8]) -> usize
+    requires { ⌜ number < 100 ⌝ }
+    requires { ⌜ 49152 ≤ length (now output) ⌝ }
+    ensures { λ r. ⌜ Begins (refusalLine number) (now (output .entry)) r (now (output .exit)) ⌝ }
+{
+    put(b"refused ", 8, output, 0);
+    if number < 10 {
+        let end = [digit(number), b'\n'];
+        put(&end, 2, output, 8);
+        return 10;
+    }
+    let end = [digit(number / 10), digit(number % 10), b'\n'];
+    put(&end, 3, output, 8);
+    11
+}
+
+fn reply_into(input: &[u8], output: &mut [u8]) -> usize
+    requires { ⌜ 49152 ≤ length (now output) ⌝ }
+    ensures { λ r. ⌜ Begins (reply (now (input .entry))) (now (output .entry)) r (now (output .exit)) ⌝ }
+{
+    let response = answer_into(input, output);
+    match response {
+        Response::Planes(bytes) => bytes,
+        Response::Refused(e) => {
+            let numbers = error_numbers::error_numbers(e);
+            put_refusal(numbers.number, output)
+        }
+    }
+}
+
+// Puts all that the program writes for an input at the start of the output: the planes, or the line of the refusal. Answers how
+// many bytes that is; the output past them is as it was.
+pub fn reply_to(input: &[u8], output: &mut [u8; 49152]) -> usize
+    ensures { λ r. ⌜ Begins (reply (now (input .entry))) (now (output .entry)) r (now (output .exit)) ⌝ }
+{
+    reply_into(input, output)
 }

@@ -6,14 +6,13 @@
 //     red, 1 by 1 | 01 00 01 00 00 01 01 00 00 FF 00 00
 //     one colour, 128 by 128 | 80 00 80 00 00 00 00 00 00 10 20 30 * 49161
 //
-// Standard output has a line for each: its name, a bar, and `refused N`, or how many bytes answer it
-// and these bytes, or their CRC-32 where they are more than 40. The last line counts the requests.
+// Standard output has a line for each: its name, a bar, how many bytes the program writes for it, and these
+// bytes, or their CRC-32 where they are more than 40. The last line counts the requests.
 // tools/requests.py makes both files.
 mod text; // text.rt: the lines of standard input
 
 ghost use mathlib.Core.Path.{_≡_};
 ghost use lib.ListN.{length};
-use frame_request::Response;
 use libc::STDIN_FILENO;
 use libc::STDOUT_FILENO;
 
@@ -43,14 +42,14 @@ fn print_bytes(bytes: &[u8]) {
     }
 }
 
-fn print_planes(planes: &[u8]) {
-    io::print_decimal(STDOUT_FILENO, planes.len() as u64);
-    if planes.len() <= 40 {
+fn print_reply(reply: &[u8]) {
+    io::print_decimal(STDOUT_FILENO, reply.len() as u64);
+    if reply.len() <= 40 {
         io::write_all(STDOUT_FILENO, b" bytes ");
-        print_bytes(planes);
+        print_bytes(reply);
     } else {
         io::write_all(STDOUT_FILENO, b" bytes, CRC-32 ");
-        io::print_hex(STDOUT_FILENO, crc32(planes) as u64, 8);
+        io::print_hex(STDOUT_FILENO, crc32(reply) as u64, 8);
     }
 }
 
@@ -62,15 +61,8 @@ fn output_buffer() -> [u8; 49152]
 
 fn replay(request: &[u8]) {
     let mut output = output_buffer();
-    let response = frame_request::answer_request(request, &mut output);
-    match response {
-        Response::Planes(bytes) => print_planes(&output[0..bytes]),
-        Response::Refused(e) => {
-            io::write_all(STDOUT_FILENO, b"refused ");
-            let numbers = error_numbers::error_numbers(e);
-            io::print_decimal(STDOUT_FILENO, numbers.number as u64);
-        }
-    }
+    let size = frame_request::reply_to(request, &mut output);
+    print_reply(&output[..size]);
 }
 
 // One byte past the largest request.
