@@ -7,7 +7,8 @@ use mathlib.Core.Bool.{Bool, true, false}
 use mathlib.Core.List.{List}
 use native.Mathlib.Omega.{arith}
 use lib.Dec.{T}
-use lib.ListN.{length}
+use borrow.Author.Tests.{eq-eqb, ne-eqb}
+use lib.ListN.{length, take}
 use Rattle.yuv_support.specs.Matrix.{accepted as accepted-matrix}
 use Rattle.yuv_error.specs.declared.YuvError.{YuvError}
 use Rattle.yuv_error.specs.declared.YuvAnswer.{YuvAnswer}
@@ -26,7 +27,7 @@ use Rattle.sharp_planes.proofs.Finished.{finished-none, finished-last}
 use Rattle.sharp_rgba_to_yuv.specs.Frame.{openingRules, frameRules, taken, FramePost}
 use Rattle.sharp_rgba_to_yuv.proofs.Accepted.{Lent, accepted}
 use Rattle.sharp_rgba_to_yuv.proofs.Post as frame
-use Rattle.sharp_bands.specs.Band.{stateOf, bandRules}
+use Rattle.sharp_bands.specs.Band.{OpenPost, bandRules}
 use Rattle.sharp_bands.proofs.Accepts.{frame-passes}
 use Rattle.sharp_bands.proofs.Post as band
 use Rattle.sharp_bands.proofs.SameImage.{others-equal}
@@ -34,10 +35,11 @@ use Rattle.sharp_bands.proofs.Demand3 as lists
 use Rattle.frame_request.specs.declared.Response.{Response}
 use Rattle.frame_request.specs.declared.Response.the-variants.{Planes, Refused as Refuses}
 use Rattle.frame_request.specs.Request.{requestRules, responseNumbers, RequestPost}
+use Rattle.frame_request.specs.Reply.{reply}
 use Rattle.segvartin.specs.Calls.{rulesOfFrame, frameOfOpening, rulesOfOpening, handed, rulesOfBand}
-use Rattle.segvartin.specs.Lists.{asBands}
-use Rattle.segvartin.proofs.Lists.{frame-first, frame-writes-nothing, frame-accepted, open-first, open-accepted, band-first, band-writes-nothing, all-met, refused-kept}
-use Rattle.demands.specs.Demands.{Demand1, Demand2, Demand3, WholeFrame, FrameBytes}
+use Rattle.segvartin.specs.Lists.{doneTold, asBands}
+use Rattle.segvartin.proofs.Lists.{frame-first, frame-writes-nothing, frame-accepted, open-first, open-done, open-accepted, band-first, band-writes-nothing, all-met, refused-kept}
+use Rattle.demands.specs.Demands.{Replied, Demand1, Demand2, Demand3, WholeFrame, FrameBytes}
 
 -- the promise's equation, read as document 01's sentence
 lowest : (rules : List Rule) {x : Numbers} → rising 1 rules ≡ true → x ≡ firstOf rules → Lowest rules x
@@ -52,6 +54,14 @@ request-writes-nothing : {input output output′ : List ℕ} (r : Response) → 
 request-writes-nothing (Planes n) p l = absurd (omega arith)
 request-writes-nothing (Refuses e) p l = painted-same (p .written)
 
+-- what the first rule that holds says is the only right answer, and `reply` goes by its number
+replied : (input bytes : List ℕ) → bytes ≡ reply input → Replied input bytes
+unfolding reply
+replied input bytes e x right =
+    let is = first-is-lowest (requestRules input) x refl .1 right in
+    let n : x .number ≡ firstOf (requestRules input) .number = ap (λ (x : Numbers). x .number) is in
+    (λ z. e ∙ rw (eq-eqb (firstOf (requestRules input) .number) 0 (sym n ∙ z)), λ l. e ∙ rw (ne-eqb (firstOf (requestRules input) .number) 0 (λ z. omega arith), sym n))
+
 pub demand-1 : Demand1
 demand-1 = record {
   frame = λ d stride source y u v answer y′ u′ v′ p. record {
@@ -63,9 +73,10 @@ demand-1 = record {
     lowest = lowest (bandRules (k .state) (k .rows) (k .stride) (length (k .source)) (length (k .y)) (length (k .u)) (length (k .v)) (length (k .carried))) refl (p .answered);
     writes-nothing = λ l. band.refused-writes-nothing (λ n. ap (λ (a : YuvAnswer). taken a n) (refusal (k .result .answer) l .1)) p;
   };
+  reply = λ input output n output′ p. replied input (take n output′) (p .written);
   request = λ input output r output′ p. record { lowest = lowest (requestRules input) refl (p .answered); writes-nothing = request-writes-nothing r p };
   linked-frame = λ k p. record { lowest = lowest (rulesOfFrame k) refl (frame-first p); writes-nothing = frame-writes-nothing p };
-  linked-opening = λ k p. lowest (rulesOfOpening k) refl (open-first p);
+  linked-opening = λ k p. (lowest (rulesOfOpening k) refl (open-first p), open-done p);
   linked-band = λ k p. record { lowest = lowest (rulesOfBand k) refl (band-first p); writes-nothing = band-writes-nothing p };
 }
 
@@ -129,8 +140,9 @@ pub demand-3 : Demand3
 demand-3 = record {
   calls = lists.demand-3;
   linked = λ o bands p z kept chained.
-      let d = frameOfOpening o in (
-        lists.demand-3 d (handed d Finished 0) (asBands bands) (record { met = open-accepted p z; accepted = refl }) (all-met bands kept) chained .0,
+      let d = frameOfOpening o in
+      let opened : OpenPost d (handed d Finished (doneTold (o .told))) = rw (open-done p) (open-accepted p z) in (
+        lists.demand-3 d (handed d Finished (doneTold (o .told))) (asBands bands) (record { met = opened; accepted = refl }) (all-met bands kept) chained .0,
         refused-kept bands kept,
       );
   linked-frames = λ k p z. frame-accepted p z;

@@ -1,5 +1,5 @@
 -- The three demands, one after the other. Each cites definitions alone: the promises of the calls (`FramePost`, `OpenPost`, `BandPost`,
--- `RequestPost`, `FrameKept`, `OpenKept`, `BandKept`, the very predicates of their `ensures`), which hold of every call whatever it is given, and the
+-- `RequestPost`, `Begins`, `FrameKept`, `OpenKept`, `BandKept`, the very predicates of their `ensures`), which hold of every call whatever it is given, and the
 -- rules, rows, planes and curves that they speak of. Their proofs are `demand-1`, `demand-2` and `demand-3` of proofs/Demands.antt.
 -- Assumes nothing.
 use Prim.Native.Nat.{ℕ, _+_, _*_, _≤_, _<_}
@@ -8,7 +8,7 @@ use mathlib.Core.Bool.{true}
 use mathlib.Core.List.{List}
 use mathlib.Core.Logic.{_↔_}
 use lib.Dec.{T}
-use lib.ListN.{length, getD}
+use lib.ListN.{length, getD, take}
 use Rattle.yuv_support.specs.Channels.{channelsCount}
 use Rattle.yuv_support.specs.Sampling.{chromaWidth, chromaHeight}
 use Rattle.yuv_support.specs.Matrix.{accepted}
@@ -25,13 +25,14 @@ use Rattle.definitions.specs.declared.FrameDescription.{FrameDescription}
 use Rattle.definitions.specs.Image.{sourceImage, lumaAt, cbAt, crAt}
 use Rattle.sharp_rgba_to_yuv.specs.Frame.{openingRules, frameRules, FramePost}
 use Rattle.sharp_bands.specs.declared.FrameAnswer.{FrameAnswer}
-use Rattle.sharp_bands.specs.Band.{stateOf, OpenPost, bandRules}
+use Rattle.sharp_bands.specs.Band.{OpenPost, bandRules}
 use Rattle.sharp_bands.specs.Calls.{BandCall, Met, Untouched, FrameCall, OthersEqual, noRows, tallyOf, none, firstCall, lastCall, Chained, After}
 use Rattle.sharp_bands.specs.Calls as calls
 use Rattle.frame_request.specs.declared.Response.{Response}
-use Rattle.frame_request.specs.Request.{requestRules, responseNumbers, RequestPost}
+use Rattle.frame_request.specs.Request.{frameOf, requestRules, outputSize, answerAt, responseNumbers, RequestPost}
+use Rattle.frame_request.specs.Reply.{firstBytes, refusalLine, reply as replyTo, Begins}
 use Rattle.segvartin.specs.Calls.{ExportedFrame, rulesOfFrame, FrameKept, ExportedOpening, frameOfOpening, rulesOfOpening, OpenKept, ExportedBand, rulesOfBand, Kept, BandKept}
-use Rattle.segvartin.specs.Lists.{numbersTold, doneTold, asFrame, asBands, AllKept, RefusedKept}
+use Rattle.segvartin.specs.Lists.{numbersTold, doneTold, openedState, asFrame, asBands, AllKept, RefusedKept}
 
 -- ---- 1. "The answer to every call is finished work or one numbered refusal, for all sizes, strides, buffers and settings; a refusal writes no
 -- byte."
@@ -41,6 +42,12 @@ use Rattle.segvartin.specs.Lists.{numbersTold, doneTold, asFrame, asBands, AllK
 pub record Answered (rules : List Rule) (told : Numbers) (unchanged : Type 0) : Type 0 where
   pub lowest : Lowest rules told
   pub writes-nothing : 1 ≤ told .number → unchanged
+
+-- the bytes that answer a request, by the three numbers that are the right answer to its rules
+abbrev pub Replied : (input bytes : List ℕ) → Type 0
+Replied input bytes =
+    (x : Numbers) → Lowest (requestRules input) x
+    → (x .number ≡ 0 → bytes ≡ firstBytes (answerAt input) (outputSize (frameOf input))) × (1 ≤ x .number → bytes ≡ refusalLine (x .number))
 
 -- the calls of Rattle: frame, opening, band, and a request of the program; then those that C and Rust link, whose numbers come first to be refused
 pub record Demand1 : Type 0 where
@@ -52,9 +59,11 @@ pub record Demand1 : Type 0 where
       (numbersOf (k .result .answer)) (Untouched k)
   pub request : (input output : List ℕ) (response : Response) (output′ : List ℕ) → RequestPost input output response output′
       → Answered (requestRules input) (responseNumbers response) (output′ ≡ output)
+  -- and what the program writes for it: the planes where no condition holds, or the line of the lowest number whose condition holds
+  pub reply : (input output : List ℕ) (n : ℕ) (output′ : List ℕ) → Begins (replyTo input) output n output′ → Replied input (take n output′)
   pub linked-frame : (k : ExportedFrame) → FrameKept k
       → Answered (rulesOfFrame k) (numbersTold (k .number) (k .told)) ((k .y′ ≡ k .y) × (k .u′ ≡ k .u) × (k .v′ ≡ k .v))
-  pub linked-opening : (k : ExportedOpening) → OpenKept k → Lowest (rulesOfOpening k) (numbersTold (k .number) (k .told))
+  pub linked-opening : (k : ExportedOpening) → OpenKept k → Lowest (rulesOfOpening k) (numbersTold (k .number) (k .told)) × (doneTold (k .told) ≡ 0)
   pub linked-band : (k : ExportedBand) → BandKept k
       → Answered (rulesOfBand k) (numbersTold (k .number) (k .told)) (Kept k (doneTold (k .told)))
 
@@ -106,8 +115,8 @@ pub record Demand3 : Type 0 where
   pub calls : calls.Demand3
   -- the same for who links the library: an opening that was answered with 0, and a list of band calls, those refused with 1 included
   pub linked : (o : ExportedOpening) (bands : List ExportedBand) → OpenKept o → o .number ≡ 0 → AllKept bands
-      → Chained (stateOf (frameOfOpening o) 0) none (asBands bands)
-      → After (frameOfOpening o) (stateOf (frameOfOpening o) 0) (tallyOf (frameOfOpening o) noRows (asBands bands)) (firstCall (asBands bands)) (lastCall none (asBands bands))
+      → Chained (openedState o) none (asBands bands)
+      → After (frameOfOpening o) (openedState o) (tallyOf (frameOfOpening o) noRows (asBands bands)) (firstCall (asBands bands)) (lastCall none (asBands bands))
       × RefusedKept bands
   -- and their accepted frame calls are among the frame calls that it speaks of
   pub linked-frames : (k : ExportedFrame) → FrameKept k → k .number ≡ 0

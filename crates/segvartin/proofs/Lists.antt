@@ -86,6 +86,12 @@ module _ {k : ExportedOpening} (p : OpenKept k) where
       (λ t q. refused-1 (openingRules (frameOfOpening k)) t (open-told ∙ ap numbersOf (q .0)))
       (λ t q. passed-1 (openingRules (frameOfOpening k)) t (open-told ∙ q .answered))
 
+  -- no row is done, refused or not
+  pub open-done : doneTold (k .told) ≡ 0
+  open-done =
+      let told : doneTold (k .told) ≡ p .done = rw (p .told) in
+      told ∙ either-way (isMalformed 0 (k .numbers)) (p .answered) (λ t q. q .1) (λ t q. ap (λ (s : FrameState). s .done) (q .state))
+
   -- an opening that was not refused is fresh
   pub open-accepted : k .number ≡ 0 → OpenPost (frameOfOpening k) (handed (frameOfOpening k) Finished 0)
   open-accepted z =

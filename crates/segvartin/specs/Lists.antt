@@ -5,9 +5,11 @@ use mathlib.Core.Bool.{cond}
 use mathlib.Core.List.{List, [], _∷_}
 use Rattle.yuv_error.specs.declared.YuvAnswer.{YuvAnswer}
 use Rattle.yuv_error.specs.Numbers.{Numbers, numbers, answerOf}
+use Rattle.sharp_bands.specs.declared.FrameState.{FrameState}
+use Rattle.sharp_bands.specs.Band.{stateOf}
 use Rattle.sharp_bands.specs.Calls.{BandCall, FrameCall}
 use Rattle.segvartin.specs.Codes.{at, isMalformed}
-use Rattle.segvartin.specs.Calls.{ExportedFrame, strideOfFrame, frameOfFrame, handed, ExportedBand, rowsOf, strideOf, frameOf, stateGiven, Kept, BandKept}
+use Rattle.segvartin.specs.Calls.{ExportedFrame, strideOfFrame, frameOfFrame, ExportedOpening, frameOfOpening, handed, ExportedBand, rowsOf, strideOf, frameOf, stateGiven, Kept, BandKept}
 
 -- number, expected and received, as a call told them
 abbrev pub numbersTold : (number : ℕ) → (told : List ℕ) → Numbers
@@ -19,6 +21,10 @@ answerTold number told = answerOf (numbersTold number told)
 -- the rows done, as an opening or a band call told them
 abbrev pub doneTold : (told : List ℕ) → ℕ
 doneTold told = at told 2
+
+-- the state that an opening gives its caller: the frame that it described, and the rows done as they were told
+abbrev pub openedState : ExportedOpening → FrameState
+openedState k = stateOf (frameOfOpening k) (doneTold (k .told))
 
 -- a frame call, and a band call, that came as numbers
 abbrev pub asFrame : ExportedFrame → FrameCall
