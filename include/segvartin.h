@@ -175,7 +175,7 @@ SEGVARTIN_APART uint32_t segvartin_open(uint32_t width, uint32_t height, uint32_
     segvartin_set_mode(mode);
     *expected = told[0];
     *received = told[1];
-    *done = (uint32_t)told[2];
+    *done = told[2] & 0xffffffffu; /* the rows done are 32 bits */
     return number;
 }
 
@@ -209,7 +209,7 @@ SEGVARTIN_APART uint32_t segvartin_band(uint32_t width, uint32_t height, uint32_
     segvartin_set_mode(mode);
     *expected = told[0];
     *received = told[1];
-    *done = (uint32_t)told[2];
+    *done = told[2] & 0xffffffffu; /* the rows done are 32 bits */
     return number;
 }
 

@@ -6,6 +6,9 @@ They are read out of crates/segvartin/src, so that C and Rust call what is there
     tools/declarations.py                     write both
     tools/declarations.py --check [ARCHIVE]   say what differs from the files, and fail if anything does; of an
                                               archive also, that it defines these functions and no other
+
+--check also holds the codes of settings, the numbers of refusals and the most pixels a side, as the header and the
+Rust crate name them, to the library's.
 """
 import difflib
 import re
@@ -17,6 +20,19 @@ ROOT = Path(__file__).resolve().parent.parent
 SOURCES = ROOT / 'crates' / 'segvartin' / 'src'
 HEADER = ROOT / 'include' / 'segvartin.h'
 FFI = ROOT / 'rust' / 'src' / 'ffi.rs'
+
+SETTINGS = ROOT / 'rust' / 'src' / 'settings.rs'
+ERRORS = ROOT / 'rust' / 'src' / 'error.rs'
+
+# The header's names of refusals, by the library's; those of settings are the library's in capitals.
+REFUSALS = {
+    'MalformedRequest': 'MALFORMED_REQUEST', 'ZeroBaseSize': 'ZERO_BASE_SIZE', 'SizeTooLarge': 'SIZE_TOO_LARGE',
+    'MatrixNotAccepted': 'MATRIX_NOT_ACCEPTED', 'BandRowsMismatch': 'BAND_ROWS_MISMATCH',
+    'DestinationSizeMismatch': 'SOURCE_SIZE_MISMATCH', 'MinimumStrideSizeMismatch': 'SOURCE_STRIDE_MISMATCH',
+    'LumaPlaneMinimumSizeMismatch': 'Y_STRIDE_MISMATCH', 'LumaPlaneSizeMismatch': 'Y_SIZE_MISMATCH',
+    'UPlaneMinimumSizeMismatch': 'U_MISMATCH', 'VPlaneMinimumSizeMismatch': 'V_MISMATCH',
+    'WholeRowsMismatch': 'WHOLE_ROWS_MISMATCH', 'CarriedRowSizeMismatch': 'CARRIED_ROW_MISMATCH',
+}
 
 BEGIN = '/* Made by tools/declarations.py from the library\'s source: change that, and run it. */\n'
 END = '/* End of what tools/declarations.py makes. */\n'
@@ -133,6 +149,44 @@ def archive_differs(functions, archive):
     return True
 
 
+def named_numbers():
+    """The library's codes and numbers by name: those of settings, and those of refusals."""
+    codes = (ROOT / 'crates' / 'setting_codes' / 'src' / 'lib.rt').read_text()
+    settings = {f'{kind}::{name}': int(code) for code, kind, name in re.findall(r'(\d+) => (\w+)::(\w+),', codes)}
+    custom = re.search(r'const CUSTOM: u32 = (\d+);', (SOURCES / 'lib.rt').read_text())
+    settings['YuvStandardMatrix::Custom'] = int(custom[1])
+    answers = (ROOT / 'crates' / 'error_numbers' / 'src' / 'lib.rt').read_text()
+    refusals = {name: int(number) for name, number in re.findall(r'YuvError::(\w+)(?:\(size\))? => AnswerNumbers \{ number: (\d+)', answers)}
+    if len(settings) != 19 or refusals.keys() != REFUSALS.keys():
+        sys.exit('tools/declarations.py: not every code or refusal of the library could be read')
+    return settings, refusals
+
+
+def names_differ():
+    """Whether the header or the Rust crate has another number for a name, or another name."""
+    settings, refusals = named_numbers()
+    side = re.search(r'const MAX_SIDE: u32 = (\d+);', (ROOT / 'crates' / 'yuv_error' / 'src' / 'lib.rt').read_text())[1]
+    header = HEADER.read_text()
+    ours = {name.split('::')[1].upper(): code for name, code in settings.items()} | {REFUSALS[name]: number for name, number in refusals.items()}
+    ours |= {'FINISHED': 0, 'MAX_SIDE': int(side)}
+    theirs = {name: int(number) for name, number in re.findall(r'\bSEGVARTIN_(\w+) = (\d+)', header)}
+    theirs |= {name: int(number) for name, number in re.findall(r'#define SEGVARTIN_(MAX_SIDE) (\d+)', header)}
+    rust = {name: int(code) for name, code in re.findall(r'(\w+::\w+)(?:\(\.\.\))? => (\d+),', SETTINGS.read_text())}
+    errors = ERRORS.read_text()
+    numbers = {name: int(number) for name, number in re.findall(r'YuvError::(\w+)(?:\(_\))? => (\d+),', errors)}
+    back = {name: int(number) for number, name in re.findall(r'(\d+) => YuvError::(\w+)', errors)}
+    differ = False
+    for where, said, right in (
+        (HEADER, theirs, ours), (SETTINGS, rust, settings), (ERRORS, numbers, refusals),
+        (ERRORS, back, {name: number for name, number in refusals.items() if number != 1}),
+    ):
+        for name in sorted(said.keys() | right.keys()):
+            if said.get(name) != right.get(name):
+                print(f'{where}: {name} is {said.get(name)}, and {right.get(name)} in the library')
+                differ = True
+    return differ
+
+
 def main(words):
     checking = words[:1] == ['--check']
     if len(words) > (2 if checking else 0):
@@ -145,6 +199,8 @@ def main(words):
         elif path.read_text() != text:
             differs = True
             sys.stdout.writelines(difflib.unified_diff(path.read_text().splitlines(True), text.splitlines(True), str(path), 'made'))
+    if checking:
+        differs = names_differ() or differs
     if checking and len(words) == 2:
         differs = archive_differs(functions, words[1]) or differs
     if differs:
