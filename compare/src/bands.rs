@@ -5,15 +5,14 @@ use crate::check::{Converters, band_of, checked, frame_of};
 use crate::conditions;
 use crate::request::{answer_text, band_text, state_text};
 use crate::sequences::{Held, MOST_CALLS, Sequence, sequences};
-use crate::stored::Stored;
+use crate::stored::{Stored, digest};
 use model::{Answer, FrameState};
 use std::collections::{BTreeMap, BTreeSet};
 use std::fmt::Write;
 use std::path::Path;
 
-/// The longest buffer that the replaying program can hold, and the longest list that it can read.
-const LONGEST_BUFFER: usize = 4_096;
-const LONGEST_LIST: usize = 524_288;
+/// The longest source that the replaying program can lend.
+const LONGEST_SOURCE: usize = 4_096;
 
 /// The model's answer to a call, and all that is held after it.
 struct After {
@@ -158,16 +157,14 @@ fn complete(list: &[Answered]) -> Result<(), String> {
     let orders = |s: &FrameState| format!("{:?} {:?}", s.settings.channels, s.settings.sampling);
     let counts = |a: &Answered| (1..=MOST_CALLS).contains(&a.sequence.calls.len());
     let short = |a: &Answered| {
-        let held = a.sequence.held.iter();
-        let sources = a.sequence.calls.iter().map(|call| &call.source);
-        held.chain(sources)
-            .all(|bytes| bytes.len() <= LONGEST_BUFFER)
+        let mut calls = a.sequence.calls.iter();
+        calls.all(|call| call.source.len() <= LONGEST_SOURCE)
     };
     for (has, what) in [
         (list.len() >= 120, "120 sequences"),
         (whole.len() >= 100, "100 sequences that bring a whole frame"),
         (list.iter().all(counts), "1 to 8 calls in each sequence"),
-        (list.iter().all(short), "buffers that the program can hold"),
+        (list.iter().all(short), "sources that the program can lend"),
         (kinds(&orders) == 8, "every order with every sampling"),
         (
             kinds(&|s| format!("{:?}", s.settings.range)) == 2,
@@ -198,36 +195,58 @@ fn complete(list: &[Answered]) -> Result<(), String> {
 // The files.
 
 fn put_frame(stored: &mut Stored, state: &FrameState) {
-    stored.numbers(&[state.w, state.h]);
-    stored.settings(&state.settings);
-    stored.numbers(&[state.y_stride, state.u_stride, state.v_stride]);
+    let strides = [state.y_stride, state.u_stride, state.v_stride];
+    stored.frame(state.w, state.h, &state.settings, strides);
 }
 
 fn stored(list: &[Answered]) -> Vec<u8> {
     let mut stored = Stored::default();
-    for answered in list {
-        let sequence = &answered.sequence;
+    stored.lengths([list.len()]);
+    for Answered { sequence, .. } in list {
         put_frame(&mut stored, &sequence.opening);
-        stored.answer(&answered.opened);
-        stored.numbers(&sequence.held.each_ref().map(|bytes| bytes.len() as u32));
-        stored.numbers(&[sequence.calls.len() as u32]);
         for buffer in &sequence.held {
             stored.block(buffer);
         }
-        for (call, after) in sequence.calls.iter().zip(&answered.after) {
+        stored.lengths([sequence.calls.len()]);
+        for call in &sequence.calls {
+            stored.lengths([call.source.len()]);
             put_frame(&mut stored, &call.state);
             stored.numbers(&[call.state.done, call.rows, call.source_stride]);
-            stored.numbers(&[call.source.len() as u32]);
-            stored.numbers(&call.lengths.map(|length| length as u32));
-            stored.answer(&after.answer);
-            stored.numbers(&[after.state.done]);
+            stored.lengths(call.lengths);
             stored.block(&call.source);
-            for buffer in &after.held {
-                stored.block(buffer);
-            }
         }
     }
     stored.0
+}
+
+/// A line for each opening and each call: what it answers, the rows done, and the digests of all
+/// that is held after it.
+fn expected(list: &[Answered]) -> String {
+    let mut text = String::new();
+    for (answered, place) in list.iter().zip(1..) {
+        let opened = answer_text(&answered.opened);
+        let _ = writeln!(
+            text,
+            "{place} {opened} done={}",
+            answered.sequence.opening.done
+        );
+        for (after, count) in answered.after.iter().zip(1..) {
+            let [y, u, v, carried] = &after.held;
+            let digests = [
+                digest("y", y),
+                digest("u", u),
+                digest("v", v),
+                digest("carried", carried),
+            ];
+            let (answer, done) = (answer_text(&after.answer), after.state.done);
+            let _ = writeln!(
+                text,
+                "{place}.{count} {answer} done={done}{}",
+                digests.concat()
+            );
+        }
+    }
+    text
 }
 
 /// Openings and band calls.
@@ -259,7 +278,7 @@ fn index(list: &[Answered], bytes: usize) -> String {
         "# The band sequences of crates/replay_bands/stdin, made by vectors/make; README.md says how.\n\
          # {} sequences of {} band calls in {bytes} bytes: {accepted} accepted, refused {}.\n\
          # {}.\n\
-         # number | group | size and settings | strides of Y, U, V | lengths of Y, U, V, carried row | the opening's number, expected, received\n\
+         # number | group | size and settings | strides of Y, U, V | the opening's number, expected, received\n\
          # number.call | what it is for | rows done, rows | source stride | lengths of source, Y, U, V, carried row | number, expected, received | rows done after\n",
         list.len(),
         calls(list) - list.len(),
@@ -276,7 +295,7 @@ fn index(list: &[Answered], bytes: usize) -> String {
         let s = &sequence.opening;
         let _ = writeln!(
             text,
-            "{place} | {} | {w} x {h} {:?} {:?} {:?} {:?} {:?} | {} {} {} | {} | {}",
+            "{place} | {} | {w} x {h} {:?} {:?} {:?} {:?} {:?} | {} {} {} | {}",
             sequence.group,
             settings.channels,
             settings.sampling,
@@ -286,7 +305,6 @@ fn index(list: &[Answered], bytes: usize) -> String {
             s.y_stride,
             s.u_stride,
             s.v_stride,
-            words(&sequence.held.each_ref().map(Vec::len)),
             answer_text(&answered.opened),
         );
         for ((call, after), count) in sequence.calls.iter().zip(&answered.after).zip(1..) {
@@ -308,28 +326,19 @@ fn index(list: &[Answered], bytes: usize) -> String {
 }
 
 /// The files of the repository that are made here, with their bytes.
-fn files(list: &[Answered]) -> Result<Vec<(&'static str, Vec<u8>)>, String> {
+fn files(list: &[Answered]) -> [(&'static str, Vec<u8>); 3] {
     let stored = stored(list);
-    if stored.len() >= LONGEST_LIST {
-        return Err(format!(
-            "a list of {} bytes is too long to be replayed",
-            stored.len()
-        ));
-    }
-    let counts = format!("{} sequences, {} calls", list.len(), calls(list));
-    Ok(vec![
-        ("vectors/bands.txt", index(list, stored.len()).into_bytes()),
-        (
-            "crates/replay_bands/stdout",
-            format!("{counts}, all equal\n").into_bytes(),
-        ),
+    let index = index(list, stored.len());
+    [
+        ("vectors/bands.txt", index.into_bytes()),
+        ("crates/replay_bands/stdout", expected(list).into_bytes()),
         ("crates/replay_bands/stdin", stored),
-    ])
+    ]
 }
 
 pub fn write(root: &Path, converters: &Converters) -> Result<String, String> {
     let list = list(converters)?;
-    for (file, bytes) in files(&list)? {
+    for (file, bytes) in files(&list) {
         std::fs::write(root.join(file), bytes).map_err(|error| format!("{file}: {error}"))?;
     }
     Ok(format!("{} band sequences written", list.len()))
@@ -356,7 +365,7 @@ pub fn check(root: &Path, converters: &Converters) -> Result<String, String> {
     let list = list(converters)?;
     let read =
         |file: &str| std::fs::read(root.join(file)).map_err(|error| format!("{file}: {error}"));
-    for (file, bytes) in files(&list)? {
+    for (file, bytes) in files(&list) {
         if read(file)? != bytes {
             return Err(format!("{file} is not what is made"));
         }

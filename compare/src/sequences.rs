@@ -4,6 +4,7 @@
 use crate::conditions;
 use crate::random::{self, Random};
 use crate::request::{BandRequest, FrameRequest, Lent};
+use crate::stored::repeated;
 use model::settings::{channels_of, matrix_of, range_of, sampling_of, transfer_of};
 use model::{FrameState, Settings, YuvChromaSubsampling, YuvStandardMatrix};
 
@@ -14,6 +15,9 @@ pub const MOST_CALLS: usize = 8;
 
 /// Y, U, V and the carried row, longer than any call that is accepted is lent.
 pub type Held = [Vec<u8>; 4];
+
+/// The bytes of each in the replaying program.
+const HELD: usize = 256;
 
 /// A band call on the first bytes of the buffers that its sequence holds.
 pub struct BandCall {
@@ -72,6 +76,11 @@ pub fn sequences() -> Vec<Sequence> {
     }
     for case in 0..12 {
         list.push(opening_refused(case));
+    }
+    for sequence in &mut list {
+        for buffer in &mut sequence.held {
+            *buffer = repeated(buffer, HELD);
+        }
     }
     list
 }

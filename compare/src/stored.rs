@@ -1,72 +1,73 @@
-//! The stored form of a list of calls, for a reader without Rust: numbers low byte first, and
-//! buffers as blocks. vectors/README.md has it field by field.
+//! The stored form of a list of calls, for a reader without Rust: numbers of four bytes, low byte
+//! first, and buffers as blocks; and the digest of a buffer that a call left. vectors/README.md has
+//! it field by field.
 
 use model::settings::{channels_of, matrix_of, range_of, sampling_of, transfer_of};
-use model::{Answer, Settings, YuvStandardMatrix};
+use model::{Settings, YuvStandardMatrix};
 
 #[derive(Default)]
 pub struct Stored(pub Vec<u8>);
 
 /// The code of a Custom matrix, which the program's codes do not have.
-const CUSTOM: u8 = 6;
+const CUSTOM: u32 = 6;
 
 /// The program's code of a setting, where it has one.
-fn code<T: PartialEq>(setting: T, of: fn(u8) -> Option<T>) -> Option<u8> {
-    (0..=u8::MAX).find(|code| of(*code).as_ref() == Some(&setting))
+fn code<T: PartialEq>(setting: T, of: fn(u8) -> Option<T>) -> Option<u32> {
+    (0..=u8::MAX)
+        .find(|code| of(*code).as_ref() == Some(&setting))
+        .map(u32::from)
 }
 
 impl Stored {
-    pub fn byte(&mut self, byte: u8) {
-        self.0.push(byte);
-    }
-
     pub fn numbers(&mut self, numbers: &[u32]) {
         for number in numbers {
             self.0.extend(number.to_le_bytes());
         }
     }
 
-    /// Five codes, then the bits of kr and kb, both 0 where the matrix is not Custom.
-    pub fn settings(&mut self, settings: &Settings) {
-        let codes = [
-            code(settings.channels, channels_of),
-            code(settings.sampling, sampling_of),
-            code(settings.range, range_of),
-            code(settings.matrix, matrix_of),
-            code(settings.transfer, transfer_of),
-        ];
-        self.0.extend(codes.map(|code| code.unwrap_or(CUSTOM)));
+    pub fn lengths<const N: usize>(&mut self, lengths: [usize; N]) {
+        self.numbers(&lengths.map(|length| length as u32));
+    }
+
+    /// The code of each setting, and after that of the matrix the bits of kr and kb, both 0 where it
+    /// is not Custom.
+    fn settings(&mut self, settings: &Settings) {
         let (kr, kb) = match settings.matrix {
             YuvStandardMatrix::Custom(kr, kb) => (kr, kb),
             _ => (0.0, 0.0),
         };
-        self.numbers(&[kr.to_bits(), kb.to_bits()]);
+        let has = "a code for every setting";
+        self.numbers(&[
+            code(settings.channels, channels_of).expect(has),
+            code(settings.sampling, sampling_of).expect(has),
+            code(settings.range, range_of).expect(has),
+            code(settings.matrix, matrix_of).unwrap_or(CUSTOM),
+            kr.to_bits(),
+            kb.to_bits(),
+            code(settings.transfer, transfer_of).expect(has),
+        ]);
     }
 
-    /// Number (0: accepted), expected, received.
-    pub fn answer(&mut self, answer: &Answer) {
-        let (number, expected, received) = match answer {
-            Ok(()) => (0, 0, 0),
-            Err(refusal) => (refusal.number, refusal.expected, refusal.received),
-        };
-        self.byte(number);
-        self.0.extend(expected.to_le_bytes());
-        self.0.extend(received.to_le_bytes());
+    /// Width, height, settings, strides of Y, U, V.
+    pub fn frame(&mut self, w: u32, h: u32, settings: &Settings, strides: [u32; 3]) {
+        self.numbers(&[w, h]);
+        self.settings(settings);
+        self.numbers(&strides);
     }
 
     /// The number of bytes of the block, then these.
     pub fn block(&mut self, buffer: &[u8]) {
         let block = block(buffer);
-        self.numbers(&[block.len() as u32]);
+        self.lengths([block.len()]);
         self.0.extend(block);
     }
 }
 
 /// The shortest block that makes the buffer if it is repeated: byte i of the buffer is byte
-/// i mod n of a block of n bytes. It has at least one byte.
+/// i mod n of a block of n bytes.
 fn block(buffer: &[u8]) -> &[u8] {
     if buffer.is_empty() {
-        return &[0];
+        return buffer;
     }
     // border[i]: the longest proper prefix of the first i + 1 bytes that they also end with.
     let mut border = vec![0; buffer.len()];
@@ -83,4 +84,18 @@ fn block(buffer: &[u8]) -> &[u8] {
 /// A buffer of this length made of a block.
 pub fn repeated(block: &[u8], length: usize) -> Vec<u8> {
     block.iter().copied().cycle().take(length).collect()
+}
+
+/// The CRC-32 of zlib and PNG.
+fn crc32(bytes: &[u8]) -> u32 {
+    !bytes.iter().fold(!0, |crc, byte| {
+        (0..8).fold(crc ^ u32::from(*byte), |crc, _| {
+            (crc >> 1) ^ (if crc & 1 == 1 { 0xedb8_8320 } else { 0 })
+        })
+    })
+}
+
+/// ` y=89abcdef`: the name of a buffer and its digest, as they are printed.
+pub fn digest(name: &str, buffer: &[u8]) -> String {
+    format!(" {name}={:08x}", crc32(buffer))
 }

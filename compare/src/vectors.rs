@@ -4,16 +4,15 @@
 use crate::calls::{Call, calls};
 use crate::check::{Converters, checked, frame_of};
 use crate::mistakes::{MISTAKES, Mistake, convert};
-use crate::request::{FrameRequest, answer_text, frame_combination, frame_text};
-use crate::stored::Stored;
+use crate::request::{FrameRequest, Lent, answer_text, frame_combination, frame_text};
+use crate::stored::{Stored, digest};
 use model::{Answer, Frame};
 use std::collections::{BTreeMap, BTreeSet};
 use std::fmt::Write;
 use std::path::Path;
 
-/// The longest buffer that the replaying program can lend, and the longest list that it can read.
+/// The longest buffer that the replaying program can lend.
 const LONGEST_BUFFER: usize = 65_536;
-const LONGEST_LIST: usize = 524_288;
 
 /// A call with the answer and the buffers after it. They are the Rust's where it has that answer,
 /// else the model's; `by` says whose.
@@ -119,7 +118,9 @@ fn mistake_lines(vectors: &[Vector]) -> Result<Vec<String>, String> {
     let caught = |mistake: Mistake| -> Vec<usize> {
         (vectors.iter().zip(1..))
             .filter(|(vector, _)| number(vector) == 0)
-            .filter(|(vector, _)| convert(mistake, &vector.call.request) != vector.after.lent)
+            .filter(|(vector, _)| {
+                digests(&convert(mistake, &vector.call.request)) != digests(&vector.after.lent)
+            })
             .map(|(_, place)| place)
             .collect()
     };
@@ -145,18 +146,33 @@ fn mistake_lines(vectors: &[Vector]) -> Result<Vec<String>, String> {
 
 fn stored(vectors: &[Vector]) -> Vec<u8> {
     let mut stored = Stored::default();
+    stored.lengths([vectors.len()]);
     for vector in vectors {
         let request = &vector.call.request;
-        stored.numbers(&[request.frame.w, request.frame.h]);
-        stored.settings(&request.frame.settings);
-        stored.numbers(&request.strides());
-        stored.numbers(&request.lent.each_ref().map(|bytes| bytes.len() as u32));
-        stored.answer(&vector.answer);
-        for buffer in request.lent.iter().chain(&vector.after.lent[1..]) {
+        let Frame { w, h, settings, .. } = &request.frame;
+        let [source_stride, strides @ ..] = request.strides();
+        stored.lengths(request.lent.each_ref().map(Vec::len));
+        stored.frame(*w, *h, settings, strides);
+        stored.numbers(&[source_stride]);
+        for buffer in &request.lent {
             stored.block(buffer);
         }
     }
     stored.0
+}
+
+fn digests([_, y, u, v]: &Lent) -> String {
+    [digest("y", y), digest("u", u), digest("v", v)].concat()
+}
+
+/// A line for each call: what it answers, and the digests of the planes that it leaves.
+fn expected(vectors: &[Vector]) -> String {
+    let mut text = String::new();
+    for (vector, place) in vectors.iter().zip(1..) {
+        let (answer, digests) = (answer_text(&vector.answer), digests(&vector.after.lent));
+        let _ = writeln!(text, "{place} {answer}{digests}");
+    }
+    text
 }
 
 /// A line for each call, without the bytes.
@@ -213,31 +229,22 @@ fn index(vectors: &[Vector], bytes: usize) -> String {
 }
 
 /// The files of the repository that are made here, with their bytes.
-fn files(vectors: &[Vector]) -> Result<Vec<(&'static str, Vec<u8>)>, String> {
+fn files(vectors: &[Vector]) -> [(&'static str, Vec<u8>); 3] {
     let stored = stored(vectors);
-    if stored.len() >= LONGEST_LIST {
-        return Err(format!(
-            "a list of {} bytes is too long to be replayed",
-            stored.len()
-        ));
-    }
-    let count = vectors.len();
-    Ok(vec![
-        (
-            "vectors/frames.txt",
-            index(vectors, stored.len()).into_bytes(),
-        ),
+    let index = index(vectors, stored.len());
+    [
+        ("vectors/frames.txt", index.into_bytes()),
         (
             "crates/replay_frames/stdout",
-            format!("{count} vectors, {count} equal\n").into_bytes(),
+            expected(vectors).into_bytes(),
         ),
         ("crates/replay_frames/stdin", stored),
-    ])
+    ]
 }
 
 pub fn write(root: &Path, converters: &Converters) -> Result<String, String> {
     let vectors = vectors(converters)?;
-    for (file, bytes) in files(&vectors)? {
+    for (file, bytes) in files(&vectors) {
         std::fs::write(root.join(file), bytes).map_err(|error| format!("{file}: {error}"))?;
     }
     Ok(format!("{} vectors written", vectors.len()))
@@ -248,7 +255,7 @@ pub fn check(root: &Path, converters: &Converters) -> Result<String, String> {
     let vectors = vectors(converters)?;
     let read =
         |file: &str| std::fs::read(root.join(file)).map_err(|error| format!("{file}: {error}"));
-    for (file, bytes) in files(&vectors)? {
+    for (file, bytes) in files(&vectors) {
         if read(file)? != bytes {
             return Err(format!("{file} is not what is made"));
         }

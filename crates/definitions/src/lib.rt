@@ -23,3 +23,11 @@ pub struct FrameDescription {
     pub u_stride: u32,
     pub v_stride: u32,
 }
+
+// A band of a frame: `rows` rows after the first `done`, `stride` bytes apart in their source.
+pub struct Band {
+    pub frame: FrameDescription,
+    pub done: u32,
+    pub rows: u32,
+    pub stride: u32,
+}

@@ -20,12 +20,12 @@ use Rattle.yuv_error.proofs.Numbers.{is-finished}
 use Rattle.yuv_error.proofs.Lowest.{first-is-lowest}
 use Rattle.sharp_gamma.proofs.Meaning.{linear-means, gamma-means}
 use Rattle.definitions.specs.declared.FrameDescription.{FrameDescription}
-use Rattle.sharp_row.proofs.Painted.{painted-same}
-use Rattle.sharp_planes.specs.Known.{Sized}
-use Rattle.sharp_planes.proofs.Planes.{plane-at, plane-to}
-use Rattle.sharp_planes.proofs.Finished.{finished-none, finished-last}
+use Rattle.definitions.proofs.Painted.{painted-same}
+use Rattle.band_planes.specs.Known.{Sized}
+use Rattle.definitions.proofs.Planes.{plane-at, plane-to}
+use Rattle.definitions.proofs.Finished.{finished-none, finished-last}
 use Rattle.sharp_rgba_to_yuv.specs.Frame.{openingRules, frameRules, taken, FramePost}
-use Rattle.sharp_rgba_to_yuv.proofs.Accepted.{Lent, accepted}
+use Rattle.sharp_rgba_to_yuv.proofs.Accepted.{Buffers, accepted}
 use Rattle.sharp_rgba_to_yuv.proofs.Post as frame
 use Rattle.sharp_bands.specs.Band.{OpenPost, bandRules}
 use Rattle.sharp_bands.proofs.Accepts.{frame-passes}
@@ -88,7 +88,7 @@ module _ {d : FrameDescription} {stride : ℕ} {source y u v : List ℕ} where
   sized : WholeFrame d stride source y u v → Sized d
   sized w = record { width-least = w .width-least; width-most = w .width-most; height-least = w .height-least; height-most = w .height-most; matrix = subst T (sym (w .matrix)) tt }
 
-  lent : WholeFrame d stride source y u v → Lent d (d .height) stride source y u v
+  lent : WholeFrame d stride source y u v → Buffers d (d .height) stride (length source) (length y) (length u) (length v)
   lent w = record {
     source-row = w .source-rows .row;
     source-size = w .source-rows .size;
@@ -101,7 +101,7 @@ module _ {d : FrameDescription} {stride : ℕ} {source y u v : List ℕ} where
 
     whole : answer ≡ Finished → WholeFrame d stride source y u v
     whole is =
-        let o = accepted d stride source y u v is (p .answered) in
+        let o = accepted d stride (length source) (length y) (length u) (length v) is (p .answered) .lent in
         record {
           width-least = o .sized .width-least;
           width-most = o .sized .width-most;
@@ -117,8 +117,8 @@ module _ {d : FrameDescription} {stride : ℕ} {source y u v : List ℕ} where
     bytes : WholeFrame d stride source y u v → FrameBytes d stride source y u v y′ u′ v′
     bytes w =
         let x = rw (finishes w) at (p .planes) in
-        let start = finished-none (d .settings .sampling) (d .height) (w .height-least) in
-        let end = finished-last (d .settings .sampling) (d .height) in
+        let start = finished-none d (w .height-least) in
+        let end = finished-last d in
         record {
           luma = λ r i l m. plane-at _ _ _ _ _ _ _ (w .y-rows .row) (x .luma) r i (omega arith) l m;
           cb = λ k j l m. plane-at _ _ _ _ _ _ _ (w .u-rows .row) (x .cb) k j (omega arith) (omega arith) m;

@@ -9,8 +9,6 @@ use mathlib.Core.List.{List}
 use mathlib.Core.Logic.{_↔_}
 use lib.Dec.{T}
 use lib.ListN.{length, getD, take}
-use Rattle.yuv_support.specs.Channels.{channelsCount}
-use Rattle.yuv_support.specs.Sampling.{chromaWidth, chromaHeight}
 use Rattle.yuv_support.specs.Matrix.{accepted}
 use Rattle.yuv_error.specs.declared.YuvAnswer.{YuvAnswer}
 use Rattle.yuv_error.specs.declared.YuvAnswer.the-variants.{Finished}
@@ -22,7 +20,7 @@ use Rattle.sharp_gamma.specs.Fraction.{_over_}
 use Rattle.sharp_gamma.specs.Curve.{curveOf, underCurve, underInverse}
 use Rattle.sharp_gamma.specs.Entry.{linearEntry, gammaEntry}
 use Rattle.definitions.specs.declared.FrameDescription.{FrameDescription}
-use Rattle.definitions.specs.Image.{sourceImage, lumaAt, cbAt, crAt}
+use Rattle.definitions.specs.Image.{sourceImage, rowSize, chromaSize, chromaRows, lumaAt, cbAt, crAt}
 use Rattle.sharp_rgba_to_yuv.specs.Frame.{openingRules, frameRules, FramePost}
 use Rattle.sharp_bands.specs.declared.FrameAnswer.{FrameAnswer}
 use Rattle.sharp_bands.specs.Band.{OpenPost, bandRules}
@@ -83,21 +81,21 @@ pub record WholeFrame (d : FrameDescription) (stride : ℕ) (source y u v : List
   pub height-least : 1 ≤ d .height
   pub height-most : d .height ≤ 16384
   pub matrix : accepted (d .settings .matrix) ≡ true
-  pub source-rows : WholeRows (d .width * channelsCount (d .settings .channels)) (d .height) stride source
+  pub source-rows : WholeRows (rowSize d) (d .height) stride source
   pub y-rows : WholeRows (d .width) (d .height) (d .«y_stride») y
-  pub u-rows : WholeRows (chromaWidth (d .width)) (chromaHeight (d .settings .sampling) (d .height)) (d .«u_stride») u
-  pub v-rows : WholeRows (chromaWidth (d .width)) (chromaHeight (d .settings .sampling) (d .height)) (d .«v_stride») v
+  pub u-rows : WholeRows (chromaSize d) (chromaRows d) (d .«u_stride») u
+  pub v-rows : WholeRows (chromaSize d) (chromaRows d) (d .«v_stride») v
 
 -- every byte of the planes: those of the rows by the definition, which the Rust over these tables is run against, the others as they were
 pub record FrameBytes (d : FrameDescription) (stride : ℕ) (source y u v y′ u′ v′ : List ℕ) : Type 0 where
-  pub luma : (r x : ℕ) → r < d .height → x < d .width → getD y′ (r * d .«y_stride» + x) 0 ≡ lumaAt (d .settings) (sourceImage (d .settings) (d .width) stride source) r x
-  pub cb : (k j : ℕ) → k < chromaHeight (d .settings .sampling) (d .height) → j < chromaWidth (d .width)
-      → getD u′ (k * d .«u_stride» + j) 0 ≡ cbAt (d .settings) (d .width) (d .height) (sourceImage (d .settings) (d .width) stride source) k j
-  pub cr : (k j : ℕ) → k < chromaHeight (d .settings .sampling) (d .height) → j < chromaWidth (d .width)
-      → getD v′ (k * d .«v_stride» + j) 0 ≡ crAt (d .settings) (d .width) (d .height) (sourceImage (d .settings) (d .width) stride source) k j
+  pub luma : (r x : ℕ) → r < d .height → x < d .width → getD y′ (r * d .«y_stride» + x) 0 ≡ lumaAt d (sourceImage d stride source) r x
+  pub cb : (k j : ℕ) → k < chromaRows d → j < chromaSize d
+      → getD u′ (k * d .«u_stride» + j) 0 ≡ cbAt d (sourceImage d stride source) k j
+  pub cr : (k j : ℕ) → k < chromaRows d → j < chromaSize d
+      → getD v′ (k * d .«v_stride» + j) 0 ≡ crAt d (sourceImage d stride source) k j
   pub y-padding : OthersEqual (d .height) (d .width) (d .«y_stride») y′ y
-  pub u-padding : OthersEqual (chromaHeight (d .settings .sampling) (d .height)) (chromaWidth (d .width)) (d .«u_stride») u′ u
-  pub v-padding : OthersEqual (chromaHeight (d .settings .sampling) (d .height)) (chromaWidth (d .width)) (d .«v_stride») v′ v
+  pub u-padding : OthersEqual (chromaRows d) (chromaSize d) (d .«u_stride») u′ u
+  pub v-padding : OthersEqual (chromaRows d) (chromaSize d) (d .«v_stride») v′ v
 
 pub record Demand2 : Type 0 where
   -- every such frame is answered with finished work, and no other is

@@ -20,7 +20,7 @@ use Rattle.yuv_error.proofs.Accepted.{neither}
 use Rattle.yuv_error.proofs.Lowest.{first-is-lowest}
 use Rattle.setting_codes.specs.Codes.{matrixCodes}
 use Rattle.definitions.specs.declared.FrameDescription.{FrameDescription}
-use Rattle.sharp_planes.proofs.Numbers.{chroma-rows}
+use Rattle.definitions.proofs.Numbers.{chroma-rows}
 use Rattle.sharp_rgba_to_yuv.specs.Frame.{sourceOf, yOf, uOf, vOf}
 use Rattle.frame_request.specs.Request.{settingsOf, frameOf, sourceStride, lumaSize, chromaSize, malformed, bufferRules, requestRules}
 

@@ -14,11 +14,11 @@ use Rattle.yuv_error.specs.declared.YuvAnswer.the-variants.{Finished, Refused}
 use Rattle.yuv_error.specs.Numbers.{numbersOf}
 use Rattle.yuv_error.specs.Rules.{firstOf}
 use Rattle.definitions.specs.Painted.{Painted}
-use Rattle.sharp_row.proofs.Painted.{painted-none}
+use Rattle.definitions.proofs.Painted.{painted-none}
 use Rattle.definitions.specs.declared.FrameDescription.{FrameDescription}
 use Rattle.definitions.specs.Image.{Image, sourceImage}
 use Rattle.definitions.specs.Bands.{Sharpened}
-use Rattle.sharp_planes.proofs.Planes.{plane-same}
+use Rattle.definitions.proofs.Planes.{plane-same}
 use Rattle.sharp_rgba_to_yuv.specs.Frame.{frameRules, taken, FramePost}
 use Rattle.frame_request.specs.declared.PlaneSizes.{PlaneSizes}
 use Rattle.frame_request.specs.Request.{lumaSize, chromaSize, outputAt, outputSize}
@@ -46,7 +46,7 @@ module _ (d : FrameDescription) (sizes : PlaneSizes) (stride : ℕ) (source outp
     (packed : Packed d sizes) (room : 49152 ≤ length output) (urest : 16384 ≡ length u) (vrest : 16384 ≡ length v)
     (post : PlanesPost d stride source sizes output u v a output′ u′ v′) where
   abbrev image : Image
-  image = sourceImage (d .settings) (d .width) stride source
+  image = sourceImage d stride source
 
   ysize : length (take (sizes .luma) output) ≡ sizes .luma
   ysize = first-size (sizes .luma) output (omega (arith, packed))
@@ -65,7 +65,7 @@ module _ (d : FrameDescription) (sizes : PlaneSizes) (stride : ℕ) (source outp
   call-answered = rw (ysize, usize, vsize, packed .luma, packed .chroma) at (post .called .answered)
 
   pub call-refused : {e : YuvError} → a ≡ Refused e
-      → Painted (taken a (outputSize d)) (outputAt d (sourceImage (d .settings) (d .width) stride source)) output output′
+      → Painted (taken a (outputSize d)) (outputAt d (sourceImage d stride source)) output output′
   call-refused is =
       let same = plane-same 0 0 _ _ _ (take (sizes .luma) output) (take (sizes .luma) output′) (le-refl 0) (rw is at (post .called .planes .luma)) in
       let whole = output-is ∙ ap (λ (xs : List ℕ). putMid 0 (sizes .luma) output xs) same ∙ put-same 0 (sizes .luma) output in
@@ -73,7 +73,7 @@ module _ (d : FrameDescription) (sizes : PlaneSizes) (stride : ℕ) (source outp
 
   pub call-finished : a ≡ Finished → (o o′ : List ℕ)
       → o ≡ putMid (sizes .luma) (sizes .chroma) output′ (take (sizes .chroma) u′) → o′ ≡ putMid (sizes .luma + sizes .chroma) (sizes .chroma) o (take (sizes .chroma) v′)
-      → Painted (taken a (outputSize d)) (outputAt d (sourceImage (d .settings) (d .width) stride source)) output o′
+      → Painted (taken a (outputSize d)) (outputAt d (sourceImage d stride source)) output o′
   call-finished is o o′ first second =
       let y″ = take (sizes .luma) output′ in
       let u″ = take (sizes .chroma) u′ in

@@ -12,7 +12,7 @@ use lib.ListN.{length, drop}
 use Rattle.yuv_error.specs.Rules.{Rule, firstOf, sizeRules}
 use Rattle.yuv_error.proofs.First.{numbered, first-append, append-finished}
 use Rattle.yuv_error.proofs.Accepted.{none-holds, neither}
-use Rattle.sharp_planes.proofs.Numbers.{chroma-rows}
+use Rattle.definitions.proofs.Numbers.{chroma-rows}
 use Rattle.sharp_rgba_to_yuv.specs.Frame.{frameRules}
 use Rattle.frame_request.specs.declared.PlaneSizes.{PlaneSizes}
 use Rattle.frame_request.specs.Request.{frameOf, sourceStride, lumaSize, chromaSize, malformed, headerRules, areaRules, openingRules, bufferRules, requestRules}

@@ -10,15 +10,15 @@ use borrow.Author.Tests.{lt-ltb, le-ltb}
 use borrow.Rule.Slice.PartMut.{putMid}
 use lib.ListN.{length, getD, take, drop, length-take, length-drop, List·getD-eq-default}
 use Rattle.yuv_support.specs.declared.YuvChromaSubsampling.{YuvChromaSubsampling}
-use Rattle.yuv_support.specs.Sampling.{chromaWidth, chromaHeight}
+use Rattle.yuv_support.specs.Sampling.{chromaWidth}
 use Rattle.definitions.specs.Painted.{Painted}
-use Rattle.sharp_row.proofs.Painted.{painted, painted-at, painted-none, painted-join}
+use Rattle.definitions.proofs.Painted.{painted, painted-at, painted-none, painted-join}
 use Rattle.definitions.specs.declared.FrameDescription.{FrameDescription}
-use Rattle.definitions.specs.Image.{Image, lumaAt, cbAt, crAt, finishedOf}
+use Rattle.definitions.specs.Image.{Image, lumaAt, cbAt, crAt, chromaRows, finishedOf}
 use Rattle.definitions.specs.Plane.{PlaneIs}
 use Rattle.definitions.specs.Bands.{Sharpened}
-use Rattle.sharp_planes.proofs.Planes.{written-in, plane-other}
-use Rattle.sharp_planes.proofs.Finished.{finished-none, finished-last}
+use Rattle.definitions.proofs.Planes.{written-in, plane-other, plane-between}
+use Rattle.definitions.proofs.Finished.{finished-none, finished-last}
 use Rattle.frame_request.specs.declared.PlaneSizes.{PlaneSizes}
 use Rattle.frame_request.specs.Request.{byteIn, outputAt, outputSize, lumaSize, chromaSize}
 use Rattle.frame_request.specs.Packed.{Packed}
@@ -36,10 +36,10 @@ plane-painted rows n f d e some h = painted (h .size) within past
     past : (p : ℕ) → n * rows ≤ p → getD e p 0 ≡ getD d p 0
     past p l = plane-other 0 rows n n f d e h p (λ i. omega (arith, div-lt-iff-lt-mul {k = n} {x = p} {y = rows} some .0 (i .row-most), mul-comm n rows))
 
-chroma-painted : (s : YuvChromaSubsampling) (h stride n : ℕ) (f : ℕ → ℕ → ℕ) (d e : List ℕ) → 1 ≤ h → 1 ≤ n → stride ≡ n
-    → PlaneIs (finishedOf s h 0) (finishedOf s h h) stride n f d e → Painted (n * chromaHeight s h) (byteIn f n) d e
-chroma-painted s h stride n f d e tall wide packed p =
-    plane-painted (chromaHeight s h) n f d e wide (rw (finished-none s h tall, finished-last s h, packed) at p)
+chroma-painted : (d : FrameDescription) (stride n : ℕ) (f : ℕ → ℕ → ℕ) (x x′ : List ℕ) → 1 ≤ d .height → 1 ≤ n → stride ≡ n
+    → PlaneIs (finishedOf d 0) (finishedOf d (d .height)) stride n f x x′ → Painted (n * chromaRows d) (byteIn f n) x x′
+chroma-painted d stride n f x x′ tall wide packed p =
+    plane-painted (chromaRows d) n f x x′ wide (subst (λ (m : ℕ). PlaneIs 0 (chromaRows d) m n f x x′) packed (plane-between (finished-none d tall) (finished-last d) p))
 
 -- ---- a run of bytes
 
@@ -57,18 +57,18 @@ painted-put n m f d e part size room byte p =
 -- ---- the output
 
 module _ (d : FrameDescription) (image : Image) where
-  luma-byte : (p : ℕ) → p < lumaSize d → outputAt d image p ≡ byteIn (lumaAt (d .settings) image) (d .width) p
+  luma-byte : (p : ℕ) → p < lumaSize d → outputAt d image p ≡ byteIn (lumaAt d image) (d .width) p
   unfolding outputAt
   luma-byte p l = rw (lt-ltb p (lumaSize d) l)
 
-  cb-byte : (q : ℕ) → q < chromaSize d → outputAt d image (lumaSize d + q) ≡ byteIn (cbAt (d .settings) (d .width) (d .height) image) (chromaWidth (d .width)) q
+  cb-byte : (q : ℕ) → q < chromaSize d → outputAt d image (lumaSize d + q) ≡ byteIn (cbAt d image) (chromaWidth (d .width)) q
   unfolding outputAt
   cb-byte q l =
       let at : lumaSize d + q - lumaSize d ≡ q = omega arith in
       rw (le-ltb (lumaSize d + q) (lumaSize d) (omega arith), lt-ltb (lumaSize d + q) (lumaSize d + chromaSize d) (omega arith), at)
 
   cr-byte : (q : ℕ) → q < chromaSize d
-      → outputAt d image (lumaSize d + chromaSize d + q) ≡ byteIn (crAt (d .settings) (d .width) (d .height) image) (chromaWidth (d .width)) q
+      → outputAt d image (lumaSize d + chromaSize d + q) ≡ byteIn (crAt d image) (chromaWidth (d .width)) q
   unfolding outputAt
   cr-byte q l =
       let at : lumaSize d + chromaSize d + q - (lumaSize d + chromaSize d) ≡ q = omega arith in
@@ -87,14 +87,15 @@ output-painted d sizes image output y u v y′ u′ v′ packed room ysize usize
     narrow : 1 ≤ chromaWidth (d .width)
     narrow = omega (arith, packed .width-least)
 
-    luma : Painted (lumaSize d) (byteIn (lumaAt (d .settings) image) (d .width)) y y′
-    luma = plane-painted (d .height) (d .width) (lumaAt (d .settings) image) y y′ (packed .width-least) (rw (packed .y-stride) at (planes .luma))
+    luma : Painted (lumaSize d) (byteIn (lumaAt d image) (d .width)) y y′
+    luma = plane-painted (d .height) (d .width) (lumaAt d image) y y′ (packed .width-least)
+        (subst (λ (m : ℕ). PlaneIs 0 (d .height) m (d .width) (lumaAt d image) y y′) (packed .y-stride) (planes .luma))
 
-    cb : Painted (chromaSize d) (byteIn (cbAt (d .settings) (d .width) (d .height) image) (chromaWidth (d .width))) u u′
-    cb = chroma-painted (d .settings .sampling) (d .height) (d .«u_stride») (chromaWidth (d .width)) _ u u′ (packed .height-least) narrow (packed .u-stride) (planes .cb)
+    cb : Painted (chromaSize d) (byteIn (cbAt d image) (chromaWidth (d .width))) u u′
+    cb = chroma-painted d (d .«u_stride») (chromaWidth (d .width)) _ u u′ (packed .height-least) narrow (packed .u-stride) (planes .cb)
 
-    cr : Painted (chromaSize d) (byteIn (crAt (d .settings) (d .width) (d .height) image) (chromaWidth (d .width))) v v′
-    cr = chroma-painted (d .settings .sampling) (d .height) (d .«v_stride») (chromaWidth (d .width)) _ v v′ (packed .height-least) narrow (packed .v-stride) (planes .cr)
+    cr : Painted (chromaSize d) (byteIn (crAt d image) (chromaWidth (d .width))) v v′
+    cr = chroma-painted d (d .«v_stride») (chromaWidth (d .width)) _ v v′ (packed .height-least) narrow (packed .v-stride) (planes .cr)
 
     first : Painted (sizes .luma) f output (putMid 0 (length y′) output y′)
     first = painted-put 0 (sizes .luma) f output output y′ (omega arith) (omega (arith, packed))

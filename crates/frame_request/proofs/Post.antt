@@ -11,7 +11,7 @@ use Rattle.yuv_error.specs.Numbers.{Numbers, numbersOf}
 use Rattle.yuv_error.specs.Rules.{firstOf}
 use Rattle.yuv_error.proofs.First.{after-refused, append-finished}
 use Rattle.definitions.specs.Painted.{Painted}
-use Rattle.sharp_row.proofs.Painted.{painted-none}
+use Rattle.definitions.proofs.Painted.{painted-none}
 use Rattle.definitions.specs.declared.FrameDescription.{FrameDescription}
 use Rattle.definitions.specs.Image.{sourceImage}
 use Rattle.sharp_rgba_to_yuv.specs.Frame.{frameRules, taken}
@@ -37,7 +37,7 @@ pub record Called (input output : List ℕ) (a : YuvAnswer) (output′ : List �
 pub called : (input output output′ : List ℕ) (d : FrameDescription) (stride : ℕ) (source : List ℕ) (a : YuvAnswer)
     → d ≡ frameOf input → stride ≡ sourceStride (frameOf input) → source ≡ drop 9 input → firstOf (openingRules input) .number ≡ 0
     → numbersOf a ≡ firstOf (frameRules d stride (length source) (lumaSize d) (chromaSize d) (chromaSize d))
-    → Painted (taken a (outputSize d)) (outputAt d (sourceImage (d .settings) (d .width) stride source)) output output′
+    → Painted (taken a (outputSize d)) (outputAt d (sourceImage d stride source)) output output′
     → Called input output a output′
 called input output output′ d stride source a frame row rows opened n w = record {
   answered = rw (frame, row, rows) at n ∙ frame-asks input opened;

@@ -17,8 +17,8 @@ use Rattle.yuv_error.specs.Rules.{firstOf, matrixRules}
 use Rattle.yuv_error.proofs.First.{append-finished}
 use Rattle.yuv_error.proofs.Accepted.{accepted-buffers}
 use Rattle.definitions.specs.declared.FrameDescription.{FrameDescription}
-use Rattle.sharp_planes.proofs.Planes.{below?}
-use Rattle.sharp_planes.proofs.Numbers.{three-or-four}
+use Rattle.definitions.proofs.Planes.{below?}
+use Rattle.definitions.proofs.Numbers.{three-or-four}
 use Rattle.sharp_rgba_to_yuv.specs.Frame.{sourceOf, yOf, uOf, vOf, lentRules}
 use Rattle.frame_request.specs.Request.{settingsOf, frameOf, sourceStride, lumaSize, chromaSize, malformed, openingRules, bufferRules, requestRules}
 use Rattle.frame_request.proofs.Checked.{checked}

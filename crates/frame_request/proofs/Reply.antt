@@ -15,8 +15,8 @@ use Rattle.yuv_error.specs.Numbers.{Numbers, numbers, sized, errorNumbers}
 use Rattle.yuv_error.specs.Rules.{firstOf}
 use Rattle.yuv_error.proofs.Numbers.{refused-number}
 use Rattle.definitions.specs.Painted.{Painted}
-use Rattle.sharp_row.proofs.Painted.{by-place, painted-at, painted-other, painted-same}
-use Rattle.sharp_planes.proofs.Planes.{below?}
+use Rattle.definitions.proofs.Painted.{by-place, painted-at, painted-other, painted-same}
+use Rattle.definitions.proofs.Planes.{below?}
 use Rattle.frame_request.specs.declared.Response.{Response}
 use Rattle.frame_request.specs.declared.Response.the-variants.{Planes, Refused}
 use Rattle.frame_request.specs.Request.{frameOf, malformed, lumaSize, requestRules, responseNumbers, outputSize, answerAt, RequestPost}

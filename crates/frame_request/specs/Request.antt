@@ -118,17 +118,16 @@ byteIn rows n p = rows (p / n) (p % n)
 -- "Output: Y, U, V without padding": byte p
 unfoldable pub outputAt : FrameDescription → Image → (p : ℕ) → ℕ
 outputAt d image p =
-    let s = d .settings in
-    cond (ltb p (lumaSize d)) (byteIn (lumaAt s image) (d .width) p)
-    (cond (ltb p (lumaSize d + chromaSize d)) (byteIn (cbAt s (d .width) (d .height) image) (chromaWidth (d .width)) (p - lumaSize d))
-    (byteIn (crAt s (d .width) (d .height) image) (chromaWidth (d .width)) (p - (lumaSize d + chromaSize d))))
+    cond (ltb p (lumaSize d)) (byteIn (lumaAt d image) (d .width) p)
+    (cond (ltb p (lumaSize d + chromaSize d)) (byteIn (cbAt d image) (chromaWidth (d .width)) (p - lumaSize d))
+    (byteIn (crAt d image) (chromaWidth (d .width)) (p - (lumaSize d + chromaSize d))))
 
 abbrev pub outputSize : FrameDescription → ℕ
 outputSize d = lumaSize d + 2 * chromaSize d
 
 -- the bytes that answer a request
 abbrev pub answerAt : List ℕ → (p : ℕ) → ℕ
-answerAt input = let d = frameOf input in outputAt d (sourceImage (d .settings) (d .width) (sourceStride d) (drop 9 input))
+answerAt input = let d = frameOf input in outputAt d (sourceImage d (sourceStride d) (drop 9 input))
 
 -- everything of a request: its bytes, the answer, and the output as it was left
 pub record RequestPost (input output : List ℕ) (response : Response) (output′ : List ℕ) : Type 0 where

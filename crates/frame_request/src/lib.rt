@@ -207,7 +207,7 @@ fn convert_into(
     requires { ⌜ Packed frame sizes ⌝ }
     requires { ⌜ 49152 ≤ length (now output) ⌝ }
     ensures { λ a. ⌜ numbersOf a ≡ firstOf (frameRules frame stride (length (now (source .entry))) (lumaSize frame) (chromaSize frame) (chromaSize frame)) ⌝ }
-    ensures { λ a. ⌜ Painted (taken a (outputSize frame)) (outputAt frame (sourceImage (frame .settings) (frame .width) stride (now (source .entry)))) (now (output .entry)) (now (output .exit)) ⌝ }
+    ensures { λ a. ⌜ Painted (taken a (outputSize frame)) (outputAt frame (sourceImage frame stride (now (source .entry)))) (now (output .entry)) (now (output .exit)) ⌝ }
 {
     let mut u = plane();
     let mut v = plane();

@@ -1,49 +1,54 @@
-// Stored lists of calls: reading one, and holding what a call answered and left to what stands in it. vectors/README.md has the
-// form of a list: numbers with their low byte first, settings as codes, buffers as blocks that are repeated.
+// What the programs that replay stored calls share: the parts of a list, read from standard input one after the other, and what is
+// printed of a call. The gate compares. vectors/README.md has the form of a list and of what is printed.
+use definitions::FrameDescription;
 use definitions::YuvSettings;
+use libc::STDIN_FILENO;
+use libc::STDOUT_FILENO;
 use yuv_error::YuvAnswer;
 use yuv_support::YuvStandardMatrix;
-ghost use mathlib.Core.Path.{_≡_};
-ghost use mathlib.Core.Bool.{true};
-ghost use Prim.Native.Nat.{_+_, _*_, _<_, _≤_};
-ghost use lib.ListN.{length, getD};
-ghost use lib.Ieee.{ofBits, binary32};
-ghost use Rattle.yuv_error.specs.Numbers.{numbersOf};
-ghost use Rattle.replay.specs.Number.{number32, number64};
-ghost use Rattle.replay.specs.Block.{byteOf, Repeats, Agrees, Held, blockOf, afterBlock, BlockAt};
-ghost use Rattle.replay.specs.Settings.{matrixOf, settingsAt, knownAt};
-ghost use Rattle.replay.specs.Answer.{answerAt};
+ghost use Rattle.io.specs.Counts.{Counts};
 
-fn pair(low: u8, high: u8) -> u32
-    ensures { λ r. ⌜ (r ≡ low + 256 * high) × (r < 65536) ⌝ }
-{
-    low as u32 + 256 * (high as u32)
+fn number_of(a: u8, b: u8, c: u8, d: u8) -> u32 {
+    a as u32 + 256 * (b as u32) + 65536 * (c as u32) + 16777216 * (d as u32)
 }
 
-// The number of four bytes that stands at a place of the list.
-pub fn u32_at(list: &[u8], at: usize) -> u32
-    requires { ⌜ at + 4 ≤ length (now list) ⌝ }
-    ensures { λ r. ⌜ r ≡ number32 (now (list .entry)) at ⌝ }
-{
-    let low = pair(list[at], list[at + 1]);
-    let high = pair(list[at + 2], list[at + 3]);
-    low + 65536 * high
+// The next number: four bytes, low byte first. Past the list's end it is 0.
+pub fn read_number() -> u32 {
+    let mut bytes = [0u8; 4];
+    io::read_full(STDIN_FILENO, &mut bytes);
+    number_of(bytes[0], bytes[1], bytes[2], bytes[3])
 }
 
-// The number of eight bytes that stands at a place of the list.
-fn usize_at(list: &[u8], at: usize) -> usize
-    requires { ⌜ at + 8 ≤ length (now list) ⌝ }
-    ensures { λ r. ⌜ r ≡ number64 (now (list .entry)) at ⌝ }
+// The next number as a length: all of the buffer where it is more.
+pub fn read_length(buffer: &[u8]) -> usize
+    ensures { λ r. ⌜ Counts r (now (buffer .entry)) ⌝ }
 {
-    let low = u32_at(list, at) as usize;
-    let high = u32_at(list, at + 4) as usize;
-    low + 4294967296 * high
+    io::count(read_number() as isize, buffer)
+}
+
+fn repeat(buffer: &mut [u8], block: usize) {
+    let mut k = block;
+    while k < buffer.len() {
+        buffer[k] = buffer[k - block];
+        k += 1;
+    }
+}
+
+// Fills a buffer with the next block, which is repeated.
+pub fn fill(buffer: &mut [u8]) {
+    let block = read_length(buffer);
+    io::read_full(STDIN_FILENO, &mut buffer[..block]);
+    repeat(buffer, block);
+}
+
+pub fn fill_planes(y: &mut [u8], u: &mut [u8], v: &mut [u8]) {
+    fill(y);
+    fill(u);
+    fill(v);
 }
 
 // The float of these bits. Above the bits of infinity, the sign aside, are those of the NaNs: they give a NaN.
-fn f32_of(bits: u32) -> f32
-    ensures { λ r. ⌜ r ≡ ofBits binary32 bits ⌝ }
-{
+fn f32_of(bits: u32) -> f32 {
     if bits % 0x8000_0000 > 0x7f80_0000 {
         let zero: f32 = 0.0;
         return zero / zero;
@@ -51,175 +56,92 @@ fn f32_of(bits: u32) -> f32
     f32::from_bits(bits)
 }
 
-// Where a block's bytes start and end, and the place after it.
-struct Block {
-    start: usize,
-    end: usize,
-    next: usize,
-}
-
-fn block_at(list: &[u8], at: usize) -> Block
-    ensures { λ r. ⌜ BlockAt (now (list .entry)) at r ⌝ }
-{
-    let len = list.len();
-    let missing = Block {
-        start: 0,
-        end: 0,
-        next: len + 1,
-    };
-    if len < 4 {
-        return missing;
-    }
-    if len - 4 < at {
-        return missing;
-    }
-    let start = at + 4;
-    let count = u32_at(list, at) as usize;
-    if len - start < count {
-        return missing;
-    }
-    let end = start + count;
-    Block {
-        start,
-        end,
-        next: end,
-    }
-}
-
-fn byte_of(block: &[u8], k: usize) -> u8
-    ensures { λ r. ⌜ r ≡ byteOf (now (block .entry)) k ⌝ }
-{
-    let count = block.len();
-    if count == 0 {
-        return 0;
-    }
-    block[k % count]
-}
-
-fn repeat_into(block: &[u8], buffer: &mut [u8])
-    ensures { λ _. ⌜ Repeats (now (block .entry)) (now (buffer .exit)) ⌝ }
-{
-    let mut k = 0;
-    while k < buffer.len() {
-        buffer[k] = byte_of(block, k);
-        k += 1;
-    }
-}
-
-// Fills a buffer with the block that stands at a place of the list, and answers the place after it: one past the list's end
-// where no whole block stands there.
-pub fn fill(list: &[u8], at: usize, buffer: &mut [u8]) -> usize
-    ensures { λ r. ⌜ (r ≡ afterBlock (now (list .entry)) at) × Repeats (blockOf (now (list .entry)) at) (now (buffer .exit)) ⌝ }
-{
-    let block = block_at(list, at);
-    let start = block.start;
-    let end = block.end;
-    repeat_into(&list[start..end], buffer);
-    block.next
-}
-
-fn same_bytes(block: &[u8], buffer: &[u8]) -> usize
-    ensures { λ r. ⌜ Agrees (now (block .entry)) (now (buffer .entry)) r ⌝ }
-{
-    let mut k = 0;
-    while k < buffer.len() {
-        if buffer[k] != byte_of(block, k) {
-            return k;
-        }
-        k += 1;
-    }
-    k
-}
-
-// Whether a buffer is the repeated block, how many bytes at its start agree with it, and the place after the block.
-pub struct Compared {
-    pub is_same: bool,
-    pub same: usize,
-    pub next: usize,
-}
-
-// Holds a buffer to the block that stands at a place of the list: `is_same` exactly where every byte agrees.
-pub fn compare(list: &[u8], at: usize, buffer: &[u8]) -> Compared
-    ensures { λ r. ⌜ (r .next ≡ afterBlock (now (list .entry)) at) × Held (blockOf (now (list .entry)) at) (now (buffer .entry)) r ⌝ }
-{
-    let block = block_at(list, at);
-    let start = block.start;
-    let end = block.end;
-    let same = same_bytes(&list[start..end], buffer);
-    Compared {
-        is_same: same == buffer.len(),
-        same,
-        next: block.next,
-    }
-}
-
-// The code that stands at a place of the list.
-fn code_at(list: &[u8], at: usize) -> u32
-    requires { ⌜ at < length (now list) ⌝ }
-    ensures { λ r. ⌜ r ≡ getD (now (list .entry)) at 0 ⌝ }
-{
-    list[at] as u32
-}
-
-fn matrix_of(code: u32, kr: u32, kb: u32) -> YuvStandardMatrix
-    ensures { λ r. ⌜ r ≡ matrixOf code kr kb ⌝ }
-{
+// A code, then the bits of kr and kb; 6 is Custom.
+fn read_matrix() -> YuvStandardMatrix {
+    let code = read_number();
+    let kr = f32_of(read_number());
+    let kb = f32_of(read_number());
     if code == 6 {
-        YuvStandardMatrix::Custom(f32_of(kr), f32_of(kb))
+        YuvStandardMatrix::Custom(kr, kb)
     } else {
         setting_codes::matrix_of(code)
     }
 }
 
-// The settings that stand at a place of the list: five codes, then the bits of kr and kb. A code without a meaning is taken for
-// the first that has one; `are_known` tells.
-pub fn settings_at(list: &[u8], at: usize) -> YuvSettings
-    requires { ⌜ at + 13 ≤ length (now list) ⌝ }
-    ensures { λ r. ⌜ r ≡ settingsAt (now (list .entry)) at ⌝ }
-{
-    let kr = u32_at(list, at + 5);
-    let kb = u32_at(list, at + 9);
+fn read_settings() -> YuvSettings {
     YuvSettings {
-        channels: setting_codes::channels_of(code_at(list, at)),
-        sampling: setting_codes::sampling_of(code_at(list, at + 1)),
-        range: setting_codes::range_of(code_at(list, at + 2)),
-        matrix: matrix_of(code_at(list, at + 3), kr, kb),
-        transfer: setting_codes::transfer_of(code_at(list, at + 4)),
+        channels: setting_codes::channels_of(read_number()),
+        sampling: setting_codes::sampling_of(read_number()),
+        range: setting_codes::range_of(read_number()),
+        matrix: read_matrix(),
+        transfer: setting_codes::transfer_of(read_number()),
     }
 }
 
-// Whether each of five codes has a meaning.
-pub fn are_known(list: &[u8], at: usize) -> bool
-    requires { ⌜ at + 5 ≤ length (now list) ⌝ }
-    ensures { λ r. ⌜ r ≡ knownAt (now (list .entry)) at ⌝ }
-{
-    if list[at] >= 4 {
-        return false;
+pub fn read_frame() -> FrameDescription {
+    FrameDescription {
+        width: read_number(),
+        height: read_number(),
+        settings: read_settings(),
+        y_stride: read_number(),
+        u_stride: read_number(),
+        v_stride: read_number(),
     }
-    if list[at + 1] >= 2 {
-        return false;
-    }
-    if list[at + 2] >= 2 {
-        return false;
-    }
-    if list[at + 3] >= 7 {
-        return false;
-    }
-    list[at + 4] < 4
 }
 
-// Whether an answer is the one that stands at a place of the list: its number, then expected and received.
-pub fn same_answer(list: &[u8], at: usize, answer: YuvAnswer) -> bool
-    requires { ⌜ at + 17 ≤ length (now list) ⌝ }
-    ensures { λ r. ⌜ (r ≡ true → numbersOf answer ≡ answerAt (now (list .entry)) at) × (numbersOf answer ≡ answerAt (now (list .entry)) at → r ≡ true) ⌝ }
-{
+fn crc32_of_bit(crc: u32) -> u32 {
+    if crc % 2 == 1 {
+        crc / 2 ^ 0xEDB8_8320
+    } else {
+        crc / 2
+    }
+}
+
+fn crc32_of_four(crc: u32) -> u32 {
+    crc32_of_bit(crc32_of_bit(crc32_of_bit(crc32_of_bit(crc))))
+}
+
+fn crc32_of_byte(crc: u32, byte: u8) -> u32 {
+    crc32_of_four(crc32_of_four(crc ^ byte as u32))
+}
+
+// The CRC-32 of zlib and PNG.
+pub fn crc32(bytes: &[u8]) -> u32 {
+    let mut crc = 0xFFFF_FFFF;
+    for i in 0..bytes.len() {
+        crc = crc32_of_byte(crc, bytes[i]);
+    }
+    crc ^ 0xFFFF_FFFF
+}
+
+pub fn print(text: &[u8]) {
+    io::write_all(STDOUT_FILENO, text);
+}
+
+pub fn print_number(number: usize) {
+    io::print_decimal(STDOUT_FILENO, number as u64);
+}
+
+// Number, expected and received, each after a space.
+pub fn print_answer(answer: YuvAnswer) {
     let numbers = error_numbers::answer_numbers(answer);
     let size = numbers.size;
-    if numbers.number != list[at] as u32 {
-        return false;
-    }
-    if size.expected != usize_at(list, at + 1) {
-        return false;
-    }
-    size.received == usize_at(list, at + 9)
+    print(b" ");
+    print_number(numbers.number as usize);
+    print(b" ");
+    print_number(size.expected);
+    print(b" ");
+    print_number(size.received);
+}
+
+// What a buffer is called, and its digest.
+pub fn print_buffer(name: &[u8], buffer: &[u8]) {
+    print(name);
+    io::print_hex(STDOUT_FILENO, crc32(buffer) as u64, 8);
+}
+
+pub fn print_planes(y: &[u8], u: &[u8], v: &[u8]) {
+    print_buffer(b" y=", y);
+    print_buffer(b" u=", u);
+    print_buffer(b" v=", v);
 }

@@ -16,26 +16,6 @@ ghost use lib.ListN.{length};
 use libc::STDIN_FILENO;
 use libc::STDOUT_FILENO;
 
-fn crc32_of_byte(crc: u32, byte: u8) -> u32 {
-    let mut c = crc ^ byte as u32;
-    for _ in 0..8u8 {
-        if c % 2 == 1 {
-            c = c / 2 ^ 0xEDB8_8320;
-        } else {
-            c = c / 2;
-        }
-    }
-    c
-}
-
-fn crc32(bytes: &[u8]) -> u32 {
-    let mut crc = 0xFFFF_FFFF;
-    for i in 0..bytes.len() {
-        crc = crc32_of_byte(crc, bytes[i]);
-    }
-    crc ^ 0xFFFF_FFFF
-}
-
 fn print_bytes(bytes: &[u8]) {
     for i in 0..bytes.len() {
         io::print_hex(STDOUT_FILENO, bytes[i] as u64, 2);
@@ -49,7 +29,7 @@ fn print_reply(reply: &[u8]) {
         print_bytes(reply);
     } else {
         io::write_all(STDOUT_FILENO, b" bytes, CRC-32 ");
-        io::print_hex(STDOUT_FILENO, crc32(reply) as u64, 8);
+        io::print_hex(STDOUT_FILENO, replay::crc32(reply) as u64, 8);
     }
 }
 

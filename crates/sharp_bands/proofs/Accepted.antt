@@ -1,7 +1,7 @@
 -- What a band call that was not refused was given and lent: no rule of its list holds. A call is refused or not by its arguments alone, so its
 -- answer is known from them.
 -- Assumes nothing.
-use Prim.Native.Nat.{ℕ, _+_, _-_, _≤_}
+use Prim.Native.Nat.{ℕ, _+_, _*_, _-_, _≤_}
 use mathlib.Core.Logic.{_↔_}
 use mathlib.Core.Path.{_≡_, refl, ap, _∙_}
 use mathlib.Core.Bool.{true, false, true≢false}
@@ -19,11 +19,11 @@ use Rattle.yuv_error.proofs.Numbers.{is-finished}
 use Rattle.yuv_error.proofs.Lowest.{first-is-lowest}
 use Rattle.yuv_error.proofs.First.{append-finished}
 use Rattle.yuv_error.proofs.Accepted.{neither, none-holds}
-use Rattle.sharp_planes.specs.Known.{Sized, Given, Whole}
+use Rattle.band_planes.specs.Known.{Sized, Given, Whole}
 use Rattle.sharp_rgba_to_yuv.specs.Frame.{openingRules, lentRules, taken}
-use Rattle.sharp_rgba_to_yuv.proofs.Accepted.{opened, lent}
+use Rattle.sharp_rgba_to_yuv.proofs.Accepted.{opened, buffers}
 use Rattle.sharp_bands.specs.declared.FrameState.{FrameState}
-use Rattle.sharp_bands.specs.Band.{rowRules, carriedRules, bandRules}
+use Rattle.sharp_bands.specs.Band.{bandOf, rowRules, carriedRules, bandRules}
 use Rattle.sharp_bands.specs.Calls.{BandCall, Met, isAccepted}
 
 -- 5: how many rows the band has
@@ -36,21 +36,22 @@ rows-given h done rows e =
 
 pub record AcceptedBand (s : FrameState) (rows stride : ℕ) (source y u v carried : List ℕ) : Type 0 where
   pub sized : Sized (s .frame)
-  pub given : Given (s .frame) (s .done) rows stride source carried
-  pub whole : Whole (s .frame) y u v
+  pub given : Given (bandOf s rows stride) (length source)
+  pub whole : Whole (s .frame) (length y) (length u) (length v)
+  pub carried-size : 3 * s .frame .width ≤ length carried
 
 pub accepted-band : (s : FrameState) (rows stride : ℕ) (source y u v carried : List ℕ)
     → firstOf (bandRules s rows stride (length source) (length y) (length u) (length v) (length carried)) .number ≡ 0 → AcceptedBand s rows stride source y u v carried
 accepted-band s rows stride source y u v carried e =
     let opening = openingRules (s .frame) in
     let row = rowRules (s .frame .height) (s .done) rows in
-    let buffers = lentRules (s .frame) rows stride (length source) (length y) (length u) (length v) in
+    let lent = lentRules (s .frame) rows stride (length source) (length y) (length u) (length v) in
     let last = carriedRules (s .frame .width) (length carried) in
-    let a = append-finished (opening ++ row ++ buffers) last refl e in
-    let b = append-finished (opening ++ row) buffers refl (a .0) in
+    let a = append-finished (opening ++ row ++ lent) last refl e in
+    let b = append-finished (opening ++ row) lent refl (a .0) in
     let c = append-finished opening row refl (b .0) in
     let r = rows-given (s .frame .height) (s .done) rows (c .1) in
-    let l = lent (s .frame) rows stride source y u v (b .1) in
+    let l = buffers (s .frame) rows stride (length source) (length y) (length u) (length v) (b .1) in
     record {
       sized = opened (s .frame) (c .0);
       given = record {
@@ -58,9 +59,9 @@ accepted-band s rows stride source y u v carried e =
         rows-most = r .1;
         source-row = l .source-row;
         source-size = l .source-size;
-        carried-size = ltb-false _ _ (neither _ _ (none-holds last refl (a .1) 13) .0);
       };
       whole = l .planes;
+      carried-size = ltb-false _ _ (neither _ _ (none-holds last refl (a .1) 13) .0);
     }
 
 -- the rules of a band call stand by number, whatever they are asked of: the first that holds has the lowest number

@@ -14,10 +14,10 @@ use Rattle.yuv_error.specs.Rules.{Rule, firstOf}
 use Rattle.yuv_error.proofs.First.{numbered, after-finished}
 use Rattle.yuv_error.proofs.Accepts.{accepts-frame, accepts-buffers}
 use Rattle.definitions.specs.declared.FrameDescription.{FrameDescription}
-use Rattle.sharp_planes.specs.Known.{Sized}
-use Rattle.sharp_planes.proofs.Numbers.{chroma-rows}
+use Rattle.band_planes.specs.Known.{Sized}
+use Rattle.definitions.proofs.Numbers.{chroma-rows}
 use Rattle.sharp_rgba_to_yuv.specs.Frame.{openingRules, lentRules, frameRules}
-use Rattle.sharp_rgba_to_yuv.proofs.Accepted.{Lent}
+use Rattle.sharp_rgba_to_yuv.proofs.Accepted.{Buffers}
 use Rattle.sharp_bands.specs.declared.FrameState.{FrameState}
 use Rattle.sharp_bands.specs.Band.{rowRules, carriedRules, bandRules}
 use Rattle.sharp_bands.proofs.Accepted.{AcceptedBand}
@@ -33,8 +33,7 @@ is-true false h = absurd h
 pub opening-passes : {d : FrameDescription} → Sized d → firstOf (openingRules d) ≡ numbers 0 0 0
 opening-passes {d} s = accepts-frame {m = d .settings .matrix} (record { w-least = s .width-least; w-most = s .width-most; h-least = s .height-least; h-most = s .height-most; matrix = is-true _ (s .matrix) })
 
-lent-passes : {d : FrameDescription} {rows stride : ℕ} {source y u v : List ℕ} → Sized d → 1 ≤ rows → Lent d rows stride source y u v
-    → firstOf (lentRules d rows stride (length source) (length y) (length u) (length v)) ≡ numbers 0 0 0
+lent-passes : {d : FrameDescription} {rows stride source y u v : ℕ} → Sized d → 1 ≤ rows → Buffers d rows stride source y u v → firstOf (lentRules d rows stride source y u v) ≡ numbers 0 0 0
 lent-passes {d} s some l =
     let c = chroma-rows (d .settings .sampling) (d .height) (s .height-least) in
     accepts-buffers some (s .height-least) (c .0) (c .0) (record {
@@ -44,10 +43,9 @@ lent-passes {d} s some l =
       v-whole = record { wide = l .planes .v-row; exact = l .planes .v-size };
     })
 
-pub frame-passes : {d : FrameDescription} {stride : ℕ} {source y u v : List ℕ} → Sized d → Lent d (d .height) stride source y u v
-    → firstOf (frameRules d stride (length source) (length y) (length u) (length v)) ≡ numbers 0 0 0
+pub frame-passes : {d : FrameDescription} {stride source y u v : ℕ} → Sized d → Buffers d (d .height) stride source y u v → firstOf (frameRules d stride source y u v) ≡ numbers 0 0 0
 frame-passes {d} {stride} {source} {y} {u} {v} s l =
-    both-pass (openingRules d) (lentRules d (d .height) stride (length source) (length y) (length u) (length v)) refl (opening-passes s) (lent-passes s (s .height-least) l)
+    both-pass (openingRules d) (lentRules d (d .height) stride source y u v) refl (opening-passes s) (lent-passes s (s .height-least) l)
 
 pub band-passes : {s : FrameState} {rows stride : ℕ} {source y u v carried : List ℕ} → AcceptedBand s rows stride source y u v carried
     → firstOf (bandRules s rows stride (length source) (length y) (length u) (length v) (length carried)) ≡ numbers 0 0 0
@@ -56,7 +54,7 @@ band-passes {s} {rows} {stride} {source} {y} {u} {v} {carried} a =
     let row = rowRules (s .frame .height) (s .done) rows in
     let buffers = lentRules (s .frame) rows stride (length source) (length y) (length u) (length v) in
     let few : firstOf row ≡ numbers 0 0 0 = rw (ne-eqb rows 0 (λ e. omega (arith, a .given)), le-ltb (s .frame .height - s .done) rows (omega (arith, a .given))) in
-    let lent : Lent (s .frame) rows stride source y u v = record { source-row = a .given .source-row; source-size = a .given .source-size; planes = a .whole } in
+    let lent : Buffers (s .frame) rows stride (length source) (length y) (length u) (length v) = record { source-row = a .given .source-row; source-size = a .given .source-size; planes = a .whole } in
     both-pass (opening ++ row ++ buffers) (carriedRules (s .frame .width) (length carried)) refl
     (both-pass (opening ++ row) buffers refl (both-pass opening row refl (opening-passes (a .sized)) few) (lent-passes (a .sized) (a .given .rows-least) lent))
-    (rw (le-ltb (length carried) (3 * s .frame .width) (a .given .carried-size)))
+    (rw (le-ltb (length carried) (3 * s .frame .width) (a .carried-size)))

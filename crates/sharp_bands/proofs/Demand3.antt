@@ -4,15 +4,16 @@ use mathlib.Core.Path.{refl}
 use mathlib.Core.List.{[]}
 use native.Mathlib.Nat.{le-refl}
 use lib.ListN.{getD}
-use Rattle.yuv_support.specs.Channels.{channelsCount}
 use Rattle.yuv_error.proofs.First.{finished-number}
 use Rattle.definitions.specs.Row.{pixelsOf}
+use Rattle.definitions.specs.Image.{pixelSize}
 use Rattle.definitions.specs.declared.FrameDescription.{FrameDescription}
-use Rattle.sharp_planes.specs.Known.{Sized}
-use Rattle.sharp_planes.proofs.Planes.{rows-equal}
-use Rattle.sharp_planes.proofs.Finished.{finished-rise, finished-none}
+use Rattle.band_planes.specs.Known.{Sized}
+use Rattle.definitions.proofs.Planes.{rows-equal}
+use Rattle.definitions.proofs.Finished.{finished-rise, finished-none}
 use Rattle.sharp_rgba_to_yuv.specs.Frame.{openingRules}
 use Rattle.sharp_rgba_to_yuv.proofs.Accepted.{opened}
+use Rattle.sharp_rgba_to_yuv.proofs.Strides.{luma-strides, cb-strides, cr-strides}
 use Rattle.sharp_bands.specs.declared.FrameAnswer.{FrameAnswer}
 use Rattle.sharp_bands.specs.Calls.{Fresh, BandCall, Tally, Left, After, Demand3}
 use Rattle.sharp_bands.proofs.Untouched.{refused-untouched}
@@ -24,18 +25,22 @@ opening-sized d opening fresh = opened d (finished-number (openingRules d) (fres
 
 left : (d : FrameDescription) → Sized d → (t : Tally) (i j : BandCall) → Run d t i j → Left d t i j
 left d sized t i j run =
-    let start = finished-none (d .settings .sampling) (d .height) (sized .height-least) in
-    let fewer = finished-rise (d .settings .sampling) (d .height) (t .n) (d .height) (run .fits .most) (le-refl _) in
-    let own = run .kept (λ r. pixelsOf (channelsCount (d .settings .channels)) (getD (t .rows) r [])) (λ r l. refl) .planes in
+    let start = finished-none d (sized .height-least) in
+    let fewer = finished-rise d (run .fits .most) (le-refl _) in
+    let own = run .kept (λ r. pixelsOf (pixelSize d) (getD (t .rows) r [])) (λ r l. refl) .planes in
     record {
       state = run .state;
       planes = λ f same.
           let p = run .kept (frameImage d f) (frame-begins same) .planes in
           let q = frame-planes same in
+          let image = frameImage d f in
+          let ys = f .frame .«y_stride» in
+          let us = f .frame .«u_stride» in
+          let vs = f .frame .«v_stride» in
           record {
-            y-rows = rows-equal refl (run .fits .most) (run .whole .y-row) (frame-whole same .y-row) (p .luma) (q .luma);
-            u-rows = rows-equal start fewer (run .whole .u-row) (frame-whole same .u-row) (p .cb) (q .cb);
-            v-rows = rows-equal start fewer (run .whole .v-row) (frame-whole same .v-row) (p .cr) (q .cr);
+            y-rows = rows-equal refl (run .fits .most) (run .whole .y-row) (frame-whole same .y-row) (p .luma) (luma-strides d ys us vs image (q .luma));
+            u-rows = rows-equal start fewer (run .whole .u-row) (frame-whole same .u-row) (p .cb) (cb-strides d ys us vs image (q .cb));
+            v-rows = rows-equal start fewer (run .whole .v-row) (frame-whole same .v-row) (p .cr) (cr-strides d ys us vs image (q .cr));
           };
       y-others = others-equal refl (own .luma);
       u-others = others-equal start (own .cb);

@@ -11,3 +11,4 @@ pub mod Demand3
 pub mod Repainted
 pub mod NotEmpty
 pub mod SameBands
+pub mod Own

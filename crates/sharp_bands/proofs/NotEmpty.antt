@@ -9,20 +9,18 @@ use native.Mathlib.Nat.{le-refl, le-trans, mul-comm, mul-sub, mul-le-mul-left}
 use native.Mathlib.Omega.{arith}
 use lib.ListN.{length, getD, take, drop, length-take, length-drop, replicate, length-replicate}
 use lib.Seq.{ext-getD, getD-take, getD-drop}
-use Rattle.yuv_support.specs.Channels.{channelsCount}
-use Rattle.yuv_support.specs.Sampling.{chromaWidth, chromaHeight}
 use Rattle.yuv_error.specs.declared.YuvAnswer.the-variants.{Finished, Refused}
 use Rattle.yuv_error.specs.declared.YuvError.the-variants.{ZeroBaseSize}
 use Rattle.definitions.specs.declared.FrameDescription.{FrameDescription}
-use Rattle.definitions.specs.Image.{rowBytes, sourceImage}
+use Rattle.definitions.specs.Image.{rowBytes, rowSize, chromaSize, chromaRows, sourceImage}
 use Rattle.definitions.specs.Bands.{ownRows, bandImage}
-use Rattle.sharp_planes.specs.Known.{Sized, Given, Whole}
-use Rattle.sharp_planes.proofs.Numbers.{row-end}
-use Rattle.sharp_planes.proofs.Planes.{row-of}
-use Rattle.sharp_rgba_to_yuv.proofs.Accepted.{Lent, Accepted}
+use Rattle.band_planes.specs.Known.{Sized, Given, Whole}
+use Rattle.definitions.proofs.Numbers.{row-end}
+use Rattle.definitions.proofs.Planes.{row-of}
+use Rattle.sharp_rgba_to_yuv.proofs.Accepted.{Buffers, Accepted}
 use Rattle.sharp_bands.specs.declared.FrameState.{FrameState}
 use Rattle.sharp_bands.specs.declared.FrameAnswer.{FrameAnswer}
-use Rattle.sharp_bands.specs.Band.{stateOf, BandPost}
+use Rattle.sharp_bands.specs.Band.{stateOf, bandOf, BandPost}
 use Rattle.sharp_bands.specs.Calls.{Fresh, BandCall, Met, AllMet, isAccepted, Tally, tabulate, noRows, tallyOf, none, Chained, FrameCall, SameRows}
 use Rattle.sharp_bands.proofs.Accepted.{AcceptedBand}
 use Rattle.sharp_bands.proofs.Accepts.{opening-passes, frame-passes, band-passes}
@@ -54,23 +52,20 @@ laid-row size h row r l e = ext-getD 0 _ _ (long ∙ sym e) (λ i m. byte i (ome
         let w = row-of r size i (r * size + i) m refl in
         getD-take size _ i 0 m ∙ getD-drop (r * size) (laid size h row) i 0 ∙ getD-tabulate (size * h) _ (r * size + i) 0 (omega (arith, inside)) ∙ rw (w .0, w .1)
 
-abbrev rowSize : FrameDescription → ℕ
-rowSize d = d .width * channelsCount (d .settings .channels)
-
 abbrev sourceWith : FrameDescription → Tally → List ℕ
 sourceWith d t = laid (rowSize d) (d .height) (λ r. getD (t .rows) r [])
 
 abbrev unpadded : FrameDescription → FrameDescription
-unpadded d = record { width = d .width; height = d .height; settings = d .settings; «y_stride» = d .width; «u_stride» = chromaWidth (d .width); «v_stride» = chromaWidth (d .width) }
+unpadded d = record { width = d .width; height = d .height; settings = d .settings; «y_stride» = d .width; «u_stride» = chromaSize d; «v_stride» = chromaSize d }
 
 abbrev lumaZeros : FrameDescription → List ℕ
 lumaZeros d = replicate (d .width * d .height) 0
 
 abbrev chromaZeros : FrameDescription → List ℕ
-chromaZeros d = replicate (chromaWidth (d .width) * chromaHeight (d .settings .sampling) (d .height)) 0
+chromaZeros d = replicate (chromaSize d * chromaRows d) 0
 
 module _ (d : FrameDescription) (sized : Sized d) (t : Tally) (fits : Fits d t) where
-  lent : Lent (unpadded d) (d .height) (rowSize d) (sourceWith d t) (lumaZeros d) (chromaZeros d) (chromaZeros d)
+  lent : Buffers (unpadded d) (d .height) (rowSize d) (length (sourceWith d t)) (length (lumaZeros d)) (length (chromaZeros d)) (length (chromaZeros d))
   lent = record {
     source-row = le-refl (rowSize d);
     source-size = length-tabulate (rowSize d * d .height) _;
@@ -80,7 +75,7 @@ module _ (d : FrameDescription) (sized : Sized d) (t : Tally) (fits : Fits d t) 
   pub some-frame : (f : FrameCall) × SameRows d t f
   some-frame =
       let same : Sized (unpadded d) = record { width-least = sized .width-least; width-most = sized .width-most; height-least = sized .height-least; height-most = sized .height-most; matrix = sized .matrix } in
-      let p = can-sharpen 0 (sourceImage (d .settings) (d .width) (rowSize d) (sourceWith d t)) (lent .planes) (le-refl (d .height)) in (
+      let p = can-sharpen 0 (sourceImage (unpadded d) (rowSize d) (sourceWith d t)) (lent .planes) (le-refl (d .height)) in (
         record { frame = unpadded d; stride = rowSize d; source = sourceWith d t; y = lumaZeros d; u = chromaZeros d; v = chromaZeros d; result = Finished; y′ = p .0; u′ = p .1; v′ = p .2 },
         record { met = record { answered = sym (frame-passes same lent); planes = p .3 }; accepted = refl; width = refl; height = refl; settings = refl; rows = λ r l. laid-row (rowSize d) (d .height) (λ r. getD (t .rows) r []) r (omega (arith, fits .most)) (fits .long r l) },
       )
@@ -113,9 +108,9 @@ pub record Taken (s : FrameState) (rows stride : ℕ) (source y u v carried : Li
 
 taken : {s : FrameState} {rows stride : ℕ} {source y u v carried : List ℕ} → AcceptedBand s rows stride source y u v carried → Taken s rows stride source y u v carried
 taken {s} {rows} {stride} {source} {y} {u} {v} {carried} a =
-    let p = can-sharpen (s .done) (bandImage (s .frame .settings) (s .frame .width) (s .done) stride source carried) (a .whole) (a .given .rows-most) in
-    let few = le-trans (carried-few (s .frame .settings .sampling) (s .frame .width) (s .frame .height) (s .done + rows)) (a .given .carried-size) in
-    let c = can-paint _ (λ q. ownRows (s .frame .settings) (s .frame .width) (s .done) stride source (s .done + rows - 1) (q / 3) (q % 3)) carried few in
+    let p = can-sharpen (s .done) (bandImage (bandOf s rows stride) source carried) (a .whole) (a .given .rows-most) in
+    let few = le-trans (carried-few (s .frame) (s .done + rows)) (a .carried-size) in
+    let c = can-paint _ (λ q. ownRows (bandOf s rows stride) source (s .done + rows - 1) (q / 3) (q % 3)) carried few in
     record { y′ = p .0; u′ = p .1; v′ = p .2; carried′ = c .0; met = finished s rows stride source y u v carried Finished (sym (band-passes a)) refl (p .3) (c .1) }
 
 abbrev callOf : {s : FrameState} {rows stride : ℕ} {source y u v carried : List ℕ} → Taken s rows stride source y u v carried → BandCall
@@ -138,40 +133,38 @@ pub record Handed (d : FrameDescription) (calls : List BandCall) : Type 0 where
   pub chained : Chained (opening .state) none calls
 
 -- m rows of the frame in one band, and the others in the next
-module _ {d : FrameDescription} {stride : ℕ} {source y u v : List ℕ} (a : Accepted d stride source y u v) {m : ℕ} (some : 1 ≤ m) (fewer : m < d .height) (carried : List ℕ) (long : 3 * d .width ≤ length carried) where
-  first-given : Given d 0 m stride (take (stride * m) source) carried
+module _ (d : FrameDescription) (stride : ℕ) (source y u v : List ℕ) (a : Accepted d stride (length source) (length y) (length u) (length v)) (m : ℕ) (some : 1 ≤ m) (fewer : m < d .height) (carried : List ℕ) (long : 3 * d .width ≤ length carried) where
+  first-given : Given (bandOf (stateOf d 0) m stride) (length (take (stride * m) source))
   first-given = record {
     rows-least = some;
     rows-most = omega arith;
-    source-row = a .given .source-row;
-    source-size = simp length-take (omega (arith, a .given .source-size, mul-le-mul-left {m = m} {n = d .height} stride (omega arith)));
-    carried-size = long;
+    source-row = a .lent .given .source-row;
+    source-size = simp length-take (omega (arith, a .lent .given .source-size, mul-le-mul-left {m = m} {n = d .height} stride (omega arith)));
   }
 
-  second-given : (c : List ℕ) → length c ≡ length carried → Given d (0 + m) (d .height - m) stride (drop (stride * m) source) c
-  second-given c e = record {
+  second-given : Given (bandOf (stateOf d (0 + m)) (d .height - m) stride) (length (drop (stride * m) source))
+  second-given = record {
     rows-least = omega arith;
     rows-most = omega arith;
-    source-row = a .given .source-row;
-    source-size = simp length-drop (omega (arith, a .given .source-size, mul-sub stride (d .height) m));
-    carried-size = omega arith;
+    source-row = a .lent .given .source-row;
+    source-size = simp length-drop (omega (arith, a .lent .given .source-size, mul-sub stride (d .height) m));
   }
 
   pub in-two-bands : (calls : List BandCall) × Handed d calls × (map isAccepted calls ≡ false ∷ true ∷ false ∷ true ∷ []) × (tallyOf d noRows calls .n ≡ d .height)
   in-two-bands =
-      let a₁ : AcceptedBand (stateOf d 0) m stride (take (stride * m) source) y u v carried = record { sized = a .sized; given = first-given; whole = a .whole } in
+      let a₁ : AcceptedBand (stateOf d 0) m stride (take (stride * m) source) y u v carried = record { sized = a .lent .sized; given = first-given; whole = a .lent .whole; carried-size = long } in
       let k₁ = taken a₁ in
       let p = k₁ .met .planes in
-      let whole : Whole d (k₁ .y′) (k₁ .u′) (k₁ .v′) = record {
-        y-row = a .whole .y-row;
-        y-size = p .luma .size ∙ a .whole .y-size;
-        u-row = a .whole .u-row;
-        u-size = p .cb .size ∙ a .whole .u-size;
-        v-row = a .whole .v-row;
-        v-size = p .cr .size ∙ a .whole .v-size;
+      let whole : Whole d (length (k₁ .y′)) (length (k₁ .u′)) (length (k₁ .v′)) = record {
+        y-row = a .lent .whole .y-row;
+        y-size = p .luma .size ∙ a .lent .whole .y-size;
+        u-row = a .lent .whole .u-row;
+        u-size = p .cb .size ∙ a .lent .whole .u-size;
+        v-row = a .lent .whole .v-row;
+        v-size = p .cr .size ∙ a .lent .whole .v-size;
       } in
       let a₂ : AcceptedBand (stateOf d (0 + m)) (d .height - m) stride (drop (stride * m) source) (k₁ .y′) (k₁ .u′) (k₁ .v′) (k₁ .carried′) =
-      record { sized = a .sized; given = second-given (k₁ .carried′) (k₁ .met .carry .size); whole = whole } in
+      record { sized = a .lent .sized; given = second-given; whole = whole; carried-size = omega (arith, long, k₁ .met .carry .size) } in
       let k₂ = taken a₂ in
       let no₁ = is-refused d in
       let yes₁ = is-accepted k₁ a₁ in
@@ -179,7 +172,7 @@ module _ {d : FrameDescription} {stride : ℕ} {source y u v : List ℕ} (a : Ac
         turnedAway d ∷ callOf k₁ ∷ turnedAway d ∷ callOf k₂ ∷ [],
         record {
           opening = record { state = stateOf d 0; answer = Finished };
-          fresh = record { met = record { answered = sym (opening-passes (a .sized)); state = refl }; accepted = refl };
+          fresh = record { met = record { answered = sym (opening-passes (a .lent .sized)); state = refl }; accepted = refl };
           met = (turned-away-met d, (k₁ .met, (turned-away-met d, (k₂ .met, tt))));
           chained = rw (no₁, yes₁, yes₂) (refl, ((refl, refl, refl, refl, refl), tt));
         },

@@ -12,15 +12,15 @@ use Rattle.yuv_error.specs.declared.YuvAnswer.the-variants.{Finished, Refused}
 use Rattle.yuv_error.specs.Numbers.{numbersOf}
 use Rattle.yuv_error.specs.Rules.{firstOf}
 use Rattle.definitions.specs.Painted.{Painted}
-use Rattle.sharp_row.proofs.Painted.{painted-none, painted-same}
+use Rattle.definitions.proofs.Painted.{painted-none, painted-same}
 use Rattle.definitions.specs.Image.{finishedOf}
 use Rattle.definitions.specs.Bands.{ownRows, bandImage, Sharpened}
-use Rattle.sharp_planes.proofs.Planes.{plane-same}
-use Rattle.sharp_planes.proofs.Sharpened.{sharpened-none}
+use Rattle.definitions.proofs.Planes.{plane-same}
+use Rattle.definitions.proofs.Bands.{sharpened-none}
 use Rattle.sharp_rgba_to_yuv.specs.Frame.{taken}
 use Rattle.sharp_bands.specs.declared.FrameState.{FrameState}
 use Rattle.sharp_bands.specs.declared.FrameAnswer.{FrameAnswer}
-use Rattle.sharp_bands.specs.Band.{stateOf, bandRules, carriedBytes, BandPost}
+use Rattle.sharp_bands.specs.Band.{stateOf, bandOf, bandRules, carriedBytes, BandPost}
 
 module _ (s : FrameState) (rows stride : ℕ) (source y u v carried : List ℕ) (answer : YuvAnswer)
     (numbers : numbersOf answer ≡ firstOf (bandRules s rows stride (length source) (length y) (length u) (length v) (length carried))) where
@@ -31,14 +31,14 @@ module _ (s : FrameState) (rows stride : ℕ) (source y u v carried : List ℕ) 
       record {
         answered = numbers;
         state = rw none (ap (stateOf (s .frame)) stays);
-        planes = rw none (subst (λ (n : ℕ). Sharpened (s .frame) (s .done) n (bandImage (s .frame .settings) (s .frame .width) (s .done) stride source carried) y u v y u v) stays (sharpened-none (s .frame) (s .done) _ y u v));
+        planes = rw none (subst (λ (n : ℕ). Sharpened (s .frame) (s .done) n (bandImage (bandOf s rows stride) source carried) y u v y u v) stays (sharpened-none (s .frame) (s .done) _ y u v));
         carry = rw none (painted-none _ carried);
       }
 
   pub finished : {y′ u′ v′ carried′ : List ℕ} → answer ≡ Finished
-      → Sharpened (s .frame) (s .done) (s .done + rows) (bandImage (s .frame .settings) (s .frame .width) (s .done) stride source carried) y u v y′ u′ v′
-      → Painted (carriedBytes (s .frame .settings .sampling) (s .frame .width) (s .frame .height) (s .done + rows))
-      (λ q. ownRows (s .frame .settings) (s .frame .width) (s .done) stride source (s .done + rows - 1) (q / 3) (q % 3)) carried carried′
+      → Sharpened (s .frame) (s .done) (s .done + rows) (bandImage (bandOf s rows stride) source carried) y u v y′ u′ v′
+      → Painted (carriedBytes (s .frame) (s .done + rows))
+      (λ q. ownRows (bandOf s rows stride) source (s .done + rows - 1) (q / 3) (q % 3)) carried carried′
       → BandPost s rows stride source y u v carried (record { state = stateOf (s .frame) (s .done + rows); answer = answer }) y′ u′ v′ carried′
   finished is planes carry = record { answered = numbers; state = rw is; planes = rw is planes; carry = rw is carry }
 
@@ -47,7 +47,7 @@ pub refused-writes-nothing : {s : FrameState} {rows stride : ℕ} {source y u v 
     → BandPost s rows stride source y u v carried r y′ u′ v′ carried′ → (r .state ≡ s) × (y′ ≡ y) × (u′ ≡ u) × (v′ ≡ v) × (carried′ ≡ carried)
 refused-writes-nothing {s} none p =
     let stays = add-zero (s .done) in
-    let rows = le-of-eq (ap (finishedOf (s .frame .settings .sampling) (s .frame .height)) stays) in
+    let rows = le-of-eq (ap (finishedOf (s .frame)) stays) in
     let planes = rw none at (p .planes) in (
       (rw none at (p .state)) ∙ ap (stateOf (s .frame)) stays,
       plane-same _ _ _ _ _ _ _ (le-of-eq stays) (planes .luma),

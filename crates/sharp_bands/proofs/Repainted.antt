@@ -14,12 +14,17 @@ use Rattle.definitions.specs.declared.FrameDescription.{FrameDescription}
 use Rattle.definitions.specs.Image.{Image, lumaAt, cbAt, crAt, finishedOf}
 use Rattle.definitions.specs.Plane.{written, PlaneIs}
 use Rattle.definitions.specs.Bands.{Sharpened}
-use Rattle.sharp_planes.specs.Known.{Room, Whole}
-use Rattle.sharp_planes.proofs.Numbers.{row-end}
-use Rattle.sharp_planes.proofs.Planes.{below?, inside?}
-use Rattle.sharp_planes.proofs.Finished.{finished-most}
+use Rattle.band_planes.specs.Known.{Whole}
+use Rattle.definitions.proofs.Numbers.{row-end}
+use Rattle.definitions.proofs.Planes.{below?, inside?}
+use Rattle.definitions.proofs.Finished.{finished-most}
 use Rattle.sharp_bands.specs.Calls.{tabulate}
 use Rattle.sharp_bands.proofs.Tally.{length-tabulate, getD-tabulate}
+
+-- a plane has room for so many rows of n bytes
+record Room (rows stride n : ℕ) (plane : List ℕ) : Type 0 where
+  row : n ≤ stride
+  size : rows * stride ≤ length plane
 
 -- f p where w p, the row's own byte elsewhere
 repaint : (w : ℕ → Bool) (f : ℕ → ℕ) → List ℕ → List ℕ
@@ -57,11 +62,11 @@ can-write from to stride n f x room = (
 room : {stride rows fewer n : ℕ} {x : List ℕ} → n ≤ stride → length x ≡ stride * rows → fewer ≤ rows → Room fewer stride n x
 room {stride} {rows} {fewer} wide exact l = record { row = wide; size = omega (arith, mul-le-mul-right {m = fewer} {n = rows} stride l, mul-comm stride rows) }
 
-pub can-sharpen : {d : FrameDescription} {end : ℕ} {y u v : List ℕ} (done : ℕ) (image : Image) → Whole d y u v → end ≤ d .height
+pub can-sharpen : {d : FrameDescription} {end : ℕ} {y u v : List ℕ} (done : ℕ) (image : Image) → Whole d (length y) (length u) (length v) → end ≤ d .height
     → (y′ : List ℕ) × (u′ : List ℕ) × (v′ : List ℕ) × Sharpened d done end image y u v y′ u′ v′
 can-sharpen {d} {end} {y} {u} {v} done image w most =
-    let rows = finished-most (d .settings .sampling) (d .height) end most in
-    let luma = can-write done end _ _ (lumaAt (d .settings) image) y (room (w .y-row) (w .y-size) most) in
-    let cb = can-write (finishedOf (d .settings .sampling) (d .height) done) _ _ _ (cbAt (d .settings) (d .width) (d .height) image) u (room (w .u-row) (w .u-size) rows) in
-    let cr = can-write (finishedOf (d .settings .sampling) (d .height) done) _ _ _ (crAt (d .settings) (d .width) (d .height) image) v (room (w .v-row) (w .v-size) rows) in
+    let rows = finished-most d most in
+    let luma = can-write done end _ _ (lumaAt d image) y (room (w .y-row) (w .y-size) most) in
+    let cb = can-write (finishedOf d done) _ _ _ (cbAt d image) u (room (w .u-row) (w .u-size) rows) in
+    let cr = can-write (finishedOf d done) _ _ _ (crAt d image) v (room (w .v-row) (w .v-size) rows) in
     (luma .0, cb .0, cr .0, record { luma = luma .1; cb = cb .1; cr = cr .1 })

@@ -4,10 +4,11 @@
 use mathlib.Core.Path.{_≡_, refl, ap, subst, _∙_}
 use mathlib.Core.Bool.{true, false}
 use mathlib.Core.List.{List, [], _∷_}
+use lib.ListN.{length}
 use Rattle.definitions.specs.Row.{Pixels}
 use Rattle.definitions.specs.declared.FrameDescription.{FrameDescription}
 use Rattle.definitions.specs.Image.{Image}
-use Rattle.sharp_planes.specs.Known.{Whole}
+use Rattle.band_planes.specs.Known.{Whole}
 use Rattle.sharp_bands.specs.declared.FrameState.{FrameState}
 use Rattle.sharp_bands.specs.Band.{stateOf, BandPost}
 use Rattle.sharp_bands.specs.Calls.{BandCall, Met, AllMet, isAccepted, Tally, noRows, counted, tallyOf, Accepted, none, call, lastCall, firstCall, Chained}
@@ -18,7 +19,7 @@ use Rattle.sharp_bands.proofs.Tally.{Fits, fits-none, fits-counted, Beg
 -- i was the first accepted call so far, j the last
 pub record Run (d : FrameDescription) (t : Tally) (i j : BandCall) : Type 0 where
   pub state : j .result .state ≡ stateOf d (t .n)
-  pub whole : Whole d (j .y) (j .u) (j .v)
+  pub whole : Whole d (length (j .y)) (length (j .u)) (length (j .v))
   pub fits : Fits d t
   pub kept : (image : Image) → Begins d t image → Kept d image (t .n) (i .y) (i .u) (i .v) (j .y′) (j .u′) (j .v′) (j .carried′)
 
@@ -33,7 +34,7 @@ run-more d t i k e met handed fits kept =
       state = rw all at (post .state);
       whole = a .whole;
       fits = fits-counted d t k fits (a .given);
-      kept = λ image begins. kept-band (a .given) (λ r l m x b _ _. ap (λ (row : Pixels). row x b) (begins-own d t k fits begins r l m))
+      kept = λ image begins. kept-band (k .source) (k .carried) (a .given) (λ r l m x b _ _. ap (λ (row : Pixels). row x b) (begins-own d t k fits begins r l m))
           (kept image (begins-before d t k fits begins)) (rw all at (post .planes)) (rw all at (post .carry));
     }
 

@@ -14,32 +14,32 @@ use Rattle.yuv_error.proofs.Numbers.{same-answer}
 use Rattle.yuv_error.proofs.First.{finished-number}
 use Rattle.definitions.specs.Painted.{Painted}
 use Rattle.definitions.specs.Row.{Pixels}
-use Rattle.sharp_row.proofs.Painted.{painted-like}
-use Rattle.sharp_row.proofs.SamePixels.{SameColours}
+use Rattle.definitions.proofs.Painted.{painted-like}
+use Rattle.definitions.proofs.SameRows.{SameColours}
 use Rattle.definitions.specs.declared.FrameDescription.{FrameDescription}
 use Rattle.definitions.specs.Bands.{ownRows, bandImage}
-use Rattle.sharp_planes.proofs.Planes.{plane-unique}
-use Rattle.sharp_planes.proofs.Rows.{band-own-rows, band-carried}
-use Rattle.sharp_planes.proofs.SamePixels.{SameSeen, sharpened-like}
+use Rattle.definitions.proofs.Planes.{plane-unique}
+use Rattle.definitions.proofs.Bands.{band-own-rows, band-carried}
+use Rattle.definitions.proofs.SameImages.{SameSeen, sharpened-like}
 use Rattle.sharp_rgba_to_yuv.specs.Frame.{taken}
 use Rattle.sharp_bands.specs.declared.FrameAnswer.{FrameAnswer}
-use Rattle.sharp_bands.specs.Band.{stateOf, bandRules, BandPost}
+use Rattle.sharp_bands.specs.Band.{stateOf, bandOf, bandRules, BandPost}
 use Rattle.sharp_bands.specs.Same.{SameColourBytes, AlphaAndPadding}
 use Rattle.sharp_bands.proofs.Accepted.{accepted-band}
 use Rattle.sharp_bands.proofs.Kept.{carried-few}
 use Rattle.sharp_bands.proofs.Post.{refused-writes-nothing}
 
 module _ (d : FrameDescription) (done rows stride : ℕ) (source source′ carried : List ℕ) (same : SameColourBytes d rows stride source source′) where
-  own : (r : ℕ) → done ≤ r → r < done + rows → SameColours (d .width) (ownRows (d .settings) (d .width) done stride source r) (ownRows (d .settings) (d .width) done stride source′ r)
+  own : (r : ℕ) → done ≤ r → r < done + rows → SameColours (d .width) (ownRows (bandOf (stateOf d done) rows stride) source r) (ownRows (bandOf (stateOf d done) rows stride) source′ r)
   unfolding ownRows
   own r l m x i = same (r - done) x i (omega arith)
 
   -- a band sees its own rows, and the carried row, which is the same for both
-  seen : SameSeen d done (done + rows) (bandImage (d .settings) (d .width) done stride source carried) (bandImage (d .settings) (d .width) done stride source′ carried)
+  seen : SameSeen d done (done + rows) (bandImage (bandOf (stateOf d done) rows stride) source carried) (bandImage (bandOf (stateOf d done) rows stride) source′ carried)
   seen = record {
-    own = λ r l m x i h k. ap (λ (row : Pixels). row x i) (sym (band-own-rows (d .settings) (d .width) done stride source carried r l)) ∙ own r l m x i h k
-        ∙ ap (λ (row : Pixels). row x i) (band-own-rows (d .settings) (d .width) done stride source′ carried r l);
-    above = λ k f l x i _ _. ap (λ (row : Pixels). row x i) (sym (band-carried (d .settings) (d .width) done stride source carried _ l) ∙ band-carried (d .settings) (d .width) done stride source′ carried _ l);
+    own = λ r l m x i h k. ap (λ (row : Pixels). row x i) (sym (band-own-rows (bandOf (stateOf d done) rows stride) source carried r l)) ∙ own r l m x i h k
+        ∙ ap (λ (row : Pixels). row x i) (band-own-rows (bandOf (stateOf d done) rows stride) source′ carried r l);
+    above = λ k f l x i _ _. ap (λ (row : Pixels). row x i) (sym (band-carried (bandOf (stateOf d done) rows stride) source carried _ l) ∙ band-carried (bandOf (stateOf d done) rows stride) source′ carried _ l);
   }
 
 painted-unique : {n : ℕ} {f : ℕ → ℕ} {d e e′ : List ℕ} → Painted n f d e → Painted n f d e′ → e ≡ e′
@@ -59,7 +59,7 @@ alpha-and-padding s rows stride source source′ y u v carried r r′ y₁ u₁ 
         let g = a .given in
         let x = sharpened-like (omega (arith, g)) (g .rows-most) (seen (s .frame) (s .done) rows stride source source′ carried same) (rw is at (p .planes)) in
         let z = rw is at (q .planes) in
-        let few = carried-few (s .frame .settings .sampling) (s .frame .width) (s .frame .height) (s .done + rows) in
+        let few = carried-few (s .frame) (s .done + rows) in
         let c = painted-like (λ k l. own (s .frame) (s .done) rows stride source source′ carried same (s .done + rows - 1) (omega (arith, g)) (omega (arith, g)) (k / 3) (k % 3) (omega arith) (omega arith)) (rw is at (p .carry)) in
         (plane-unique (x .luma) (z .luma), plane-unique (x .cb) (z .cb), plane-unique (x .cr) (z .cr), painted-unique c (rw is at (q .carry)))
     left (Refused e) is q =

@@ -3,12 +3,13 @@
 use Prim.Native.Nat.{ℕ}
 use mathlib.Core.Path.{_≡_, ap, subst, _∙_}
 use mathlib.Core.List.{List}
+use lib.ListN.{length}
 use Rattle.definitions.specs.Row.{pixelsOf}
 use Rattle.definitions.specs.declared.FrameDescription.{FrameDescription}
 use Rattle.definitions.specs.Image.{Image, sourceImage}
 use Rattle.definitions.specs.Plane.{PlaneIs}
 use Rattle.definitions.specs.Bands.{Sharpened}
-use Rattle.sharp_planes.specs.Known.{Whole}
+use Rattle.band_planes.specs.Known.{Whole}
 use Rattle.sharp_rgba_to_yuv.specs.Frame.{FramePost}
 use Rattle.sharp_rgba_to_yuv.specs.Same.{withStrides}
 use Rattle.sharp_rgba_to_yuv.proofs.Accepted.{accepted}
@@ -20,7 +21,7 @@ abbrev alike : FrameDescription → FrameCall → FrameDescription
 alike d f = withStrides d (f .frame .«y_stride») (f .frame .«u_stride») (f .frame .«v_stride»)
 
 abbrev pub frameImage : FrameDescription → FrameCall → Image
-frameImage d f = sourceImage (d .settings) (d .width) (f .stride) (f .source)
+frameImage d f = sourceImage d (f .stride) (f .source)
 
 module _ {d : FrameDescription} {t : Tally} {f : FrameCall} (same : SameRows d t f) where
   met : FramePost (alike d f) (f .stride) (f .source) (f .y) (f .u) (f .v) (f .result) (f .y′) (f .u′) (f .v′)
@@ -29,10 +30,11 @@ module _ {d : FrameDescription} {t : Tally} {f : FrameCall} (same : SameRows d t
       subst (λ (e : FrameDescription). FramePost e (f .stride) (f .source) (f .y) (f .u) (f .v) (f .result) (f .y′) (f .u′) (f .v′)) is (same .met)
 
   pub frame-planes : Sharpened (alike d f) 0 (d .height) (frameImage d f) (f .y) (f .u) (f .v) (f .y′) (f .u′) (f .v′)
+  unfolding sourceImage
   frame-planes = rw (same .accepted) at (met .planes)
 
-  pub frame-whole : Whole (alike d f) (f .y) (f .u) (f .v)
-  frame-whole = accepted (alike d f) (f .stride) (f .source) (f .y) (f .u) (f .v) (same .accepted) (met .answered) .whole
+  pub frame-whole : Whole (alike d f) (length (f .y)) (length (f .u)) (length (f .v))
+  frame-whole = accepted (alike d f) (f .stride) (length (f .source)) (length (f .y)) (length (f .u)) (length (f .v)) (same .accepted) (met .answered) .lent .whole
 
   pub frame-begins : Begins d t (frameImage d f)
   unfolding sourceImage

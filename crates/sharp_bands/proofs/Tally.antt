@@ -7,14 +7,14 @@ use native.Mathlib.Nat.{mul-comm}
 use native.Mathlib.Omega.{arith}
 use lib.ListN.{length, getD, length-append, length-take, length-drop, List·getD-append}
 use lib.Seq.{getD-append-add, getD-at}
-use Rattle.yuv_support.specs.Channels.{channelsCount}
 use Rattle.definitions.specs.Row.{pixelsOf}
 use Rattle.definitions.specs.declared.FrameDescription.{FrameDescription}
-use Rattle.definitions.specs.Image.{Image, rowBytes, sourceImage}
+use Rattle.definitions.specs.Image.{Image, rowBytes, pixelSize, rowSize, sourceImage}
 use Rattle.definitions.specs.Bands.{ownRows}
-use Rattle.sharp_planes.specs.Known.{Given}
-use Rattle.sharp_planes.proofs.Numbers.{row-end}
-use Rattle.sharp_planes.proofs.Planes.{below?}
+use Rattle.band_planes.specs.Known.{Given}
+use Rattle.definitions.proofs.Numbers.{row-end}
+use Rattle.definitions.proofs.Planes.{below?}
+use Rattle.sharp_bands.specs.Band.{stateOf, bandOf}
 use Rattle.sharp_bands.specs.Calls.{BandCall, Tally, noRows, tabulate, counted}
 
 pub length-tabulate : {A : Type 0} (m : ℕ) (f : ℕ → A) → length (tabulate m f) ≡ m
@@ -32,18 +32,18 @@ getD-tabulate (suc m) f i a l =
 pub record Fits (d : FrameDescription) (t : Tally) : Type 0 where
   pub most : t .n ≤ d .height
   pub count : length (t .rows) ≡ t .n
-  pub long : (r : ℕ) → r < t .n → length (getD (t .rows) r []) ≡ d .width * channelsCount (d .settings .channels)
+  pub long : (r : ℕ) → r < t .n → length (getD (t .rows) r []) ≡ rowSize d
 
 pub fits-none : (d : FrameDescription) → Fits d noRows
 fits-none d = record { most = omega arith; count = refl; long = λ r l. absurd (omega arith) }
 
 -- the image begins with the tally's rows
 abbrev pub Begins : FrameDescription → Tally → Image → Type 0
-Begins d t image = (r : ℕ) → r < t .n → image r ≡ pixelsOf (channelsCount (d .settings .channels)) (getD (t .rows) r [])
+Begins d t image = (r : ℕ) → r < t .n → image r ≡ pixelsOf (pixelSize d) (getD (t .rows) r [])
 
 -- row r of a call's own
 abbrev rowOf : FrameDescription → BandCall → ℕ → List ℕ
-rowOf d k = rowBytes (d .width * channelsCount (d .settings .channels)) (k .stride) (k .source)
+rowOf d k = rowBytes (rowSize d) (k .stride) (k .source)
 
 -- an accepted call's rows behind the tally's
 module _ (d : FrameDescription) (t : Tally) (k : BandCall) (fits : Fits d t) where
@@ -54,7 +54,7 @@ module _ (d : FrameDescription) (t : Tally) (k : BandCall) (fits : Fits d t) whe
   row-own r l m =
       ap (λ (p : ℕ). getD (counted d k t .rows) p []) (omega (arith, fits .count)) ∙ getD-append-add (t .rows) (tabulate (k .rows) (rowOf d k)) (r - t .n) [] ∙ getD-tabulate (k .rows) (rowOf d k) (r - t .n) [] (omega arith)
 
-  pub fits-counted : {carried : List ℕ} → Given d (t .n) (k .rows) (k .stride) (k .source) carried → Fits d (counted d k t)
+  pub fits-counted : Given (bandOf (stateOf d (t .n)) (k .rows) (k .stride)) (length (k .source)) → Fits d (counted d k t)
   unfolding rowBytes
   fits-counted given = record {
     most = given .rows-most;
@@ -62,13 +62,13 @@ module _ (d : FrameDescription) (t : Tally) (k : BandCall) (fits : Fits d t) whe
     long = λ r l. below? r (t .n) (λ m. ap length (row-before r m) ∙ fits .long r m) (λ m. ap length (row-own r m l) ∙ long (r - t .n) (omega arith));
   }
     where
-      long : (r : ℕ) → r < k .rows → length (rowOf d k r) ≡ d .width * channelsCount (d .settings .channels)
+      long : (r : ℕ) → r < k .rows → length (rowOf d k r) ≡ rowSize d
       long r l = simp (length-take, length-drop) (omega (arith, given, row-end r (k .rows) (k .stride) l, mul-comm (k .stride) (k .rows)))
 
   pub begins-before : {image : Image} → Begins d (counted d k t) image → Begins d t image
   begins-before begins r l = begins r (omega arith) ∙ ap (pixelsOf _) (row-before r l)
 
   pub begins-own : {image : Image} → Begins d (counted d k t) image → (r : ℕ) → t .n ≤ r → r < t .n + k .rows
-      → ownRows (d .settings) (d .width) (t .n) (k .stride) (k .source) r ≡ image r
+      → ownRows (bandOf (stateOf d (t .n)) (k .rows) (k .stride)) (k .source) r ≡ image r
   unfolding ownRows sourceImage
   begins-own begins r l m = sym (begins r m ∙ ap (pixelsOf _) (row-own r l m))

@@ -12,6 +12,7 @@ use Rattle.yuv_error.specs.Numbers.{numbersOf}
 use Rattle.yuv_error.specs.Rules.{Rule, rule, firstOf}
 use Rattle.definitions.specs.Painted.{Painted}
 use Rattle.definitions.specs.declared.FrameDescription.{FrameDescription}
+use Rattle.definitions.specs.declared.Band.{Band}
 use Rattle.definitions.specs.Bands.{ownRows, bandImage, Sharpened}
 use Rattle.sharp_rgba_to_yuv.specs.Frame.{openingRules, lentRules, taken}
 use Rattle.sharp_bands.specs.declared.FrameState.{FrameState}
@@ -19,6 +20,10 @@ use Rattle.sharp_bands.specs.declared.FrameAnswer.{FrameAnswer}
 
 abbrev pub stateOf : FrameDescription → (done : ℕ) → FrameState
 stateOf d n = record { frame = d; done = n }
+
+-- the band that a call is given
+abbrev pub bandOf : FrameState → (rows stride : ℕ) → Band
+bandOf s rows stride = record { frame = s .frame; done = s .done; rows = rows; stride = stride }
 
 -- "Opening fixes w, h, settings and plane strides, and answers 2, 3, 4."; a fresh state has 0 rows done. What a refused opening hands back is
 -- left free: it is this state too.
@@ -46,13 +51,13 @@ abbrev pub isCarried : YuvChromaSubsampling → (h end : ℕ) → Bool
 isCarried Yuv420 h end = eqb ((end - 1) % 2) 0 && not (eqb end h)
 isCarried Yuv422 h end = false
 
-abbrev pub carriedBytes : YuvChromaSubsampling → (w h end : ℕ) → ℕ
-carriedBytes s w h end = cond (isCarried s h end) (3 * w) 0
+abbrev pub carriedBytes : FrameDescription → (end : ℕ) → ℕ
+carriedBytes d end = cond (isCarried (d .settings .sampling) (d .height) end) (3 * d .width) 0
 
 -- everything of a band call: what it was given, what it handed back, and what it was lent as it left it
 pub record BandPost (s : FrameState) (rows stride : ℕ) (source y u v carried : List ℕ) (r : FrameAnswer) (y′ u′ v′ carried′ : List ℕ) : Type 0 where
   pub answered : numbersOf (r .answer) ≡ firstOf (bandRules s rows stride (length source) (length y) (length u) (length v) (length carried))
   pub state : r .state ≡ stateOf (s .frame) (s .done + taken (r .answer) rows)
-  pub planes : Sharpened (s .frame) (s .done) (s .done + taken (r .answer) rows) (bandImage (s .frame .settings) (s .frame .width) (s .done) stride source carried) y u v y′ u′ v′
-  pub carry : Painted (taken (r .answer) (carriedBytes (s .frame .settings .sampling) (s .frame .width) (s .frame .height) (s .done + rows)))
-      (λ q. ownRows (s .frame .settings) (s .frame .width) (s .done) stride source (s .done + rows - 1) (q / 3) (q % 3)) carried carried′
+  pub planes : Sharpened (s .frame) (s .done) (s .done + taken (r .answer) rows) (bandImage (bandOf s rows stride) source carried) y u v y′ u′ v′
+  pub carry : Painted (taken (r .answer) (carriedBytes (s .frame) (s .done + rows)))
+      (λ q. ownRows (bandOf s rows stride) source (s .done + rows - 1) (q / 3) (q % 3)) carried carried′

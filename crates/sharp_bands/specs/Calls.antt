@@ -6,13 +6,11 @@ use mathlib.Core.Bool.{Bool, true, false, cond}
 use mathlib.Core.List.{List, [], _∷_, _++_}
 use lib.Dec.{eqb}
 use lib.ListN.{length, getD}
-use Rattle.yuv_support.specs.Channels.{channelsCount}
-use Rattle.yuv_support.specs.Sampling.{chromaWidth}
 use Rattle.yuv_error.specs.declared.YuvAnswer.{YuvAnswer}
 use Rattle.yuv_error.specs.declared.YuvAnswer.the-variants.{Finished}
 use Rattle.yuv_error.specs.Rules.{firstOf}
 use Rattle.definitions.specs.declared.FrameDescription.{FrameDescription}
-use Rattle.definitions.specs.Image.{rowBytes, finishedOf}
+use Rattle.definitions.specs.Image.{rowBytes, rowSize, chromaSize, finishedOf}
 use Rattle.definitions.specs.Plane.{written, RowsEqual}
 use Rattle.sharp_rgba_to_yuv.specs.Frame.{FramePost}
 use Rattle.sharp_bands.specs.declared.FrameState.{FrameState}
@@ -67,7 +65,7 @@ tabulate (suc m) f = tabulate m f ++ (f m ∷ [])
 
 -- "An accepted band of m rows adds m to n and puts the w pixels (w × c bytes) of each of its rows behind the list, first row first."
 abbrev pub counted : FrameDescription → BandCall → Tally → Tally
-counted d k t = record { n = t .n + k .rows; rows = t .rows ++ tabulate (k .rows) (rowBytes (d .width * channelsCount (d .settings .channels)) (k .stride) (k .source)) }
+counted d k t = record { n = t .n + k .rows; rows = t .rows ++ tabulate (k .rows) (rowBytes (rowSize d) (k .stride) (k .source)) }
 
 -- "A refused call changes neither."
 abbrev pub tallyOf : FrameDescription → Tally → List BandCall → Tally
@@ -122,7 +120,7 @@ pub record SameRows (d : FrameDescription) (t : Tally) (f : FrameCall) : Type 0 
   pub width : f .frame .width ≡ d .width
   pub height : f .frame .height ≡ d .height
   pub settings : f .frame .settings ≡ d .settings
-  pub rows : (r : ℕ) → r < t .n → rowBytes (d .width * channelsCount (d .settings .channels)) (f .stride) (f .source) r ≡ getD (t .rows) r []
+  pub rows : (r : ℕ) → r < t .n → rowBytes (rowSize d) (f .stride) (f .source) r ≡ getD (t .rows) r []
 
 -- every byte but the first n of the first `rows` rows
 abbrev pub OthersEqual : (rows n stride : ℕ) → (plane plane′ : List ℕ) → Type 0
@@ -132,8 +130,8 @@ OthersEqual rows n stride plane plane′ = (length plane ≡ length plane′) ×
 -- a frame call
 pub record PlanesAgree (d : FrameDescription) (n : ℕ) (j : BandCall) (f : FrameCall) : Type 0 where
   pub y-rows : RowsEqual n (d .width) (d .«y_stride») (f .frame .«y_stride») (j .y′) (f .y′)
-  pub u-rows : RowsEqual (finishedOf (d .settings .sampling) (d .height) n) (chromaWidth (d .width)) (d .«u_stride») (f .frame .«u_stride») (j .u′) (f .u′)
-  pub v-rows : RowsEqual (finishedOf (d .settings .sampling) (d .height) n) (chromaWidth (d .width)) (d .«v_stride») (f .frame .«v_stride») (j .v′) (f .v′)
+  pub u-rows : RowsEqual (finishedOf d n) (chromaSize d) (d .«u_stride») (f .frame .«u_stride») (j .u′) (f .u′)
+  pub v-rows : RowsEqual (finishedOf d n) (chromaSize d) (d .«v_stride») (f .frame .«v_stride») (j .v′) (f .v′)
 
 -- "After the calls, .. the state that the last accepted one returned .. has n rows done and all that the opening fixed unchanged.", the planes, and
 -- "Every other byte of the planes lent to the accepted calls is as the first of these found it.": i was the first accepted call, j the last
@@ -141,8 +139,8 @@ pub record Left (d : FrameDescription) (t : Tally) (i j : BandCall) : Type 0 whe
   pub state : j .result .state ≡ stateOf d (t .n)
   pub planes : (f : FrameCall) → SameRows d t f → PlanesAgree d (t .n) j f
   pub y-others : OthersEqual (t .n) (d .width) (d .«y_stride») (j .y′) (i .y)
-  pub u-others : OthersEqual (finishedOf (d .settings .sampling) (d .height) (t .n)) (chromaWidth (d .width)) (d .«u_stride») (j .u′) (i .u)
-  pub v-others : OthersEqual (finishedOf (d .settings .sampling) (d .height) (t .n)) (chromaWidth (d .width)) (d .«v_stride») (j .v′) (i .v)
+  pub u-others : OthersEqual (finishedOf d (t .n)) (chromaSize d) (d .«u_stride») (j .u′) (i .u)
+  pub v-others : OthersEqual (finishedOf d (t .n)) (chromaSize d) (d .«v_stride») (j .v′) (i .v)
 
 -- "(the opening's if none)": with no call accepted n is 0, as are the rows done in the opening's state
 abbrev pub After : FrameDescription → FrameState → Tally → (first last : Accepted) → Type 0

@@ -13,7 +13,7 @@ use Rattle.sharp_bands.specs.Band.{BandPost}
 -- two sources agree on the colour bytes, the first three of each pixel, of a band's rows of w pixels
 abbrev pub SameColourBytes : FrameDescription → (rows stride : ℕ) → (source source′ : List ℕ) → Type 0
 SameColourBytes d rows stride source source′ =
-    (r x i : ℕ) → r < rows → x < d .width → i < 3 → sourceImage (d .settings) (d .width) stride source r x i ≡ sourceImage (d .settings) (d .width) stride source′ r x i
+    (r x i : ℕ) → r < rows → x < d .width → i < 3 → sourceImage d stride source r x i ≡ sourceImage d stride source′ r x i
 
 -- two calls that differ in alpha and padding alone give the same answer and state, and leave the same planes and carried row, byte for byte
 abbrev pub AlphaAndPadding : Type 0

@@ -1,4 +1,5 @@
 // Band calls: a frame converted in bands of rows, between which its state goes in by value and comes back.
+use definitions::Band;
 use definitions::FrameDescription;
 use yuv_error::MismatchedSize;
 use yuv_error::YuvAnswer;
@@ -12,9 +13,9 @@ ghost use Rattle.yuv_error.specs.Rules.{firstOf};
 ghost use Rattle.definitions.specs.Painted.{Painted};
 ghost use Rattle.definitions.specs.Row.{pixelsOf};
 ghost use Rattle.definitions.specs.Bands.{ownRows};
-ghost use Rattle.sharp_planes.specs.Known.{Sized, Given, RowLent};
+ghost use Rattle.band_planes.specs.Known.{Sized, Given};
 ghost use Rattle.sharp_rgba_to_yuv.specs.Frame.{openingRules};
-ghost use Rattle.sharp_bands.specs.Band.{OpenPost, rowRules, carriedRules, bandRules, isCarried, carriedBytes, BandPost};
+ghost use Rattle.sharp_bands.specs.Band.{stateOf, bandOf, OpenPost, rowRules, carriedRules, bandRules, isCarried, carriedBytes, BandPost};
 
 // A frame that is being converted: what its opening fixed, and how many of its rows are done.
 pub struct FrameState {
@@ -110,7 +111,7 @@ fn is_carried(sampling: YuvChromaSubsampling, height: u32, end: u32) -> bool
 
 // The first three bytes of each of a row's `width` pixels, one pixel after another.
 fn carry_row(row: &[u8], count: usize, width: usize, carried: &mut [u8])
-    requires { ⌜ RowLent width count (now row) ⌝ }
+    requires { ⌜ (3 ≤ count) × (width * count ≤ length (now row)) ⌝ }
     requires { ⌜ 3 * width ≤ length (now carried) ⌝ }
     ensures { λ _. ⌜ Painted (3 * width) (λ q. pixelsOf count (now (row .entry)) (q / 3) (q % 3)) (now (carried .entry)) (now (carried .exit)) ⌝ }
 {
@@ -137,8 +138,11 @@ fn carry_band(
     carried: &mut [u8],
 )
     requires { ⌜ Sized frame ⌝ }
-    requires { ⌜ Given frame done rows stride (now source) (now carried) ⌝ }
-    ensures { λ _. ⌜ Painted (carriedBytes (frame .settings .sampling) (frame .width) (frame .height) (done + rows)) (λ q. ownRows (frame .settings) (frame .width) done stride (now (source .entry)) (done + rows - 1) (q / 3) (q % 3)) (now (carried .entry)) (now (carried .exit)) ⌝ }
+    requires { ⌜ Given (bandOf (stateOf frame done) rows stride) (length (now source)) ⌝ }
+    requires { ⌜ 3 * frame .width ≤ length (now carried) ⌝ }
+    ensures { λ _. ⌜ Painted (carriedBytes frame (done + rows))
+        (λ q. ownRows (bandOf (stateOf frame done) rows stride) (now (source .entry)) (done + rows - 1) (q / 3) (q % 3))
+        (now (carried .entry)) (now (carried .exit)) ⌝ }
 {
     let settings = frame.settings;
     let sampling = settings.sampling;
@@ -199,18 +203,14 @@ impl FrameState {
         }
         let frame = self.frame;
         let done = self.done;
-        // the carried row is read before this band's last row takes its place
-        sharpen_band::sharpen_band(
+        let band = Band {
             frame,
-            done as usize,
-            rows as usize,
-            source,
-            stride as usize,
-            carried,
-            y,
-            u,
-            v,
-        );
+            done,
+            rows,
+            stride,
+        };
+        // the carried row is read before this band's last row takes its place
+        band_planes::sharpen_band(band, source, carried, y, u, v);
         carry_band(frame, done, rows, source, stride as usize, carried);
         FrameAnswer {
             state: FrameState {

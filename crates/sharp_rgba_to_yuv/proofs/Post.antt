@@ -14,24 +14,25 @@ use Rattle.yuv_error.specs.Rules.{firstOf}
 use Rattle.definitions.specs.declared.FrameDescription.{FrameDescription}
 use Rattle.definitions.specs.Image.{Image, sourceImage}
 use Rattle.definitions.specs.Bands.{bandImage, Sharpened}
-use Rattle.sharp_planes.proofs.Planes.{plane-same}
-use Rattle.sharp_planes.proofs.Sharpened.{sharpened-none, whole-image}
+use Rattle.definitions.proofs.Planes.{plane-same}
+use Rattle.definitions.proofs.Bands.{sharpened-none, whole-image}
+use Rattle.sharp_rgba_to_yuv.proofs.Accepted.{allRows}
 use Rattle.sharp_rgba_to_yuv.specs.Frame.{frameRules, taken, FramePost}
 
 module _ (d : FrameDescription) (stride : ℕ) (source y u v : List ℕ) (answer : YuvAnswer) where
   pub refused : {e : YuvError} → answer ≡ Refused e → numbersOf answer ≡ firstOf (frameRules d stride (length source) (length y) (length u) (length v)) → FramePost d stride source y u v answer y u v
   refused is numbers = record {
     answered = numbers;
-    planes = subst (λ (a : YuvAnswer). Sharpened d 0 (taken a (d .height)) (sourceImage (d .settings) (d .width) stride source) y u v y u v) (sym is) (sharpened-none d 0 _ y u v);
+    planes = subst (λ (a : YuvAnswer). Sharpened d 0 (taken a (d .height)) (sourceImage d stride source) y u v y u v) (sym is) (sharpened-none d 0 _ y u v);
   }
 
   pub finished : answer ≡ Finished → numbersOf answer ≡ firstOf (frameRules d stride (length source) (length y) (length u) (length v)) → (y′ u′ v′ : List ℕ)
-      → Sharpened d 0 (0 + d .height) (bandImage (d .settings) (d .width) 0 stride source source) y u v y′ u′ v′ → FramePost d stride source y u v answer y′ u′ v′
+      → Sharpened d 0 (0 + d .height) (bandImage (allRows d stride) source source) y u v y′ u′ v′ → FramePost d stride source y u v answer y′ u′ v′
   finished is numbers y′ u′ v′ h = record {
     answered = numbers;
-    planes = subst (λ (a : YuvAnswer). Sharpened d 0 (taken a (d .height)) (sourceImage (d .settings) (d .width) stride source) y u v y′ u′ v′) (sym is)
-        (subst (λ (n : ℕ). Sharpened d 0 n (sourceImage (d .settings) (d .width) stride source) y u v y′ u′ v′) (let e : 0 + d .height ≡ d .height = omega arith in e)
-        (subst (λ (image : Image). Sharpened d 0 (0 + d .height) image y u v y′ u′ v′) (whole-image (d .settings) (d .width) stride source source) h));
+    planes = subst (λ (a : YuvAnswer). Sharpened d 0 (taken a (d .height)) (sourceImage d stride source) y u v y′ u′ v′) (sym is)
+        (subst (λ (n : ℕ). Sharpened d 0 n (sourceImage d stride source) y u v y′ u′ v′) (let e : 0 + d .height ≡ d .height = omega arith in e)
+        (subst (λ (image : Image). Sharpened d 0 (0 + d .height) image y u v y′ u′ v′) (whole-image (allRows d stride) source source refl) h));
   }
 
 -- "a refusal writes no byte"

@@ -4,18 +4,17 @@ use Prim.Native.Nat.{ℕ, _<_}
 use mathlib.Core.Path.{_≡_}
 use mathlib.Core.List.{List}
 use lib.ListN.{length}
-use Rattle.yuv_support.specs.Sampling.{chromaWidth, chromaHeight}
 use Rattle.yuv_error.specs.declared.YuvAnswer.{YuvAnswer}
 use Rattle.yuv_error.specs.declared.YuvAnswer.the-variants.{Finished}
 use Rattle.definitions.specs.declared.FrameDescription.{FrameDescription}
-use Rattle.definitions.specs.Image.{sourceImage}
+use Rattle.definitions.specs.Image.{sourceImage, chromaSize, chromaRows}
 use Rattle.definitions.specs.Plane.{RowsEqual}
 use Rattle.sharp_rgba_to_yuv.specs.Frame.{FramePost}
 
 -- two sources agree on the colour bytes, the first three of each pixel, of the frame's w × h pixels
 abbrev pub SameColourBytes : FrameDescription → (stride stride′ : ℕ) → (source source′ : List ℕ) → Type 0
 SameColourBytes d stride stride′ source source′ =
-    (r x i : ℕ) → r < d .height → x < d .width → i < 3 → sourceImage (d .settings) (d .width) stride source r x i ≡ sourceImage (d .settings) (d .width) stride′ source′ r x i
+    (r x i : ℕ) → r < d .height → x < d .width → i < 3 → sourceImage d stride source r x i ≡ sourceImage d stride′ source′ r x i
 
 -- two calls that differ in alpha and padding alone give the same answer and leave the same planes, byte for byte
 abbrev pub AlphaAndPadding : Type 0
@@ -36,5 +35,5 @@ StridesAndBuffers =
     → a ≡ Finished → a′ ≡ Finished → SameColourBytes d stride stride′ source source′
     → FramePost d stride source y u v a y₁ u₁ v₁ → FramePost (withStrides d ys us vs) stride′ source′ y′ u′ v′ a′ y₂ u₂ v₂
     → RowsEqual (d .height) (d .width) (d .«y_stride») ys y₁ y₂
-    × RowsEqual (chromaHeight (d .settings .sampling) (d .height)) (chromaWidth (d .width)) (d .«u_stride») us u₁ u₂
-    × RowsEqual (chromaHeight (d .settings .sampling) (d .height)) (chromaWidth (d .width)) (d .«v_stride») vs v₁ v₂
+    × RowsEqual (chromaRows d) (chromaSize d) (d .«u_stride») us u₁ u₂
+    × RowsEqual (chromaRows d) (chromaSize d) (d .«v_stride») vs v₁ v₂

@@ -1,4 +1,5 @@
 // The frame call: the Rust's rgbx_to_sharp_yuv, over lent slices beside a plain description.
+use definitions::Band;
 use definitions::FrameDescription;
 use yuv_error::LentBuffer;
 use yuv_error::YuvAnswer;
@@ -6,7 +7,7 @@ ghost use mathlib.Core.Path.{_≡_};
 ghost use Prim.Native.Nat.{_≤_};
 ghost use Rattle.yuv_error.specs.Numbers.{numbersOf};
 ghost use Rattle.yuv_error.specs.Rules.{firstOf};
-ghost use Rattle.sharp_planes.specs.Known.{Sized};
+ghost use Rattle.band_planes.specs.Known.{Sized};
 ghost use Rattle.sharp_rgba_to_yuv.specs.Frame.{lentRules, frameRules, FramePost};
 
 // Refusals 6 to 12, for a source of `rows` rows.
@@ -99,17 +100,13 @@ pub fn rgbx_to_sharp_yuv(
         }
         YuvAnswer::Finished => {}
     }
-    // no row is above the first, so what stands for the carried row is never read
-    sharpen_band::sharpen_band(
+    let band = Band {
         frame,
-        0,
-        frame.height as usize,
-        source,
-        stride as usize,
-        source,
-        y,
-        u,
-        v,
-    );
+        done: 0,
+        rows: frame.height,
+        stride,
+    };
+    // no row is above the first, so what stands for the carried row is never read
+    band_planes::sharpen_band(band, source, source, y, u, v);
     answer
 }

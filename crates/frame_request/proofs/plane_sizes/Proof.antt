@@ -3,7 +3,7 @@
 use mathlib.Core.Path.{refl}
 use native.Mathlib.Nat.{mul-le-mul}
 use native.Mathlib.Omega.{arith}
-use Rattle.sharp_planes.proofs.Numbers.{chroma-rows}
+use Rattle.definitions.proofs.Numbers.{chroma-rows}
 use borrow.Author.Needs.{needs}
 use Rattle.frame_request.proofs.plane_sizes.Statement.{statement}
 use Rattle.frame_request.proofs.plane_sizes.Tie as tie

@@ -3,7 +3,7 @@
 use Prim.Native.Nat.{ℕ, _*_}
 use mathlib.Core.Path.{ap}
 use native.Mathlib.Omega.{arith}
-use Rattle.sharp_planes.proofs.Numbers.{three-or-four, size-small}
+use Rattle.definitions.proofs.Numbers.{three-or-four, size-small}
 use borrow.Author.Needs.{needs}
 use Rattle.frame_request.proofs.source_stride.Statement.{statement}
 use Rattle.frame_request.proofs.source_stride.Tie as tie

@@ -7,9 +7,10 @@ use native.Mathlib.Omega.{arith}
 use borrow.Author.Needs.{needs}
 use lib.ListN.{length, take, drop, length-take, length-drop}
 use Rattle.definitions.specs.Row.{Pixels, pixelsOf}
-use Rattle.sharp_row.proofs.Painted.{painted-none, painted-like}
-use Rattle.sharp_planes.proofs.Numbers.{row-end, three-or-four}
-use Rattle.sharp_planes.proofs.Rows.{own-row}
+use Rattle.definitions.proofs.Painted.{painted-none, painted-like}
+use Rattle.definitions.proofs.Numbers.{row-end, three-or-four}
+use Rattle.sharp_bands.specs.Band.{stateOf, bandOf}
+use Rattle.sharp_bands.proofs.Own.{own-row}
 use Rattle.sharp_bands.proofs.carry_band.Statement.{statement}
 use Rattle.sharp_bands.proofs.carry_band.Tie as tie
 
@@ -21,7 +22,7 @@ last-row : (c : tie.After-struct-known) → let a = Start c .args in
     (3 ≤ c .before .get-channels-count .result) × (a .frame .width * c .before .get-channels-count .result ≤ a .stride) × ((a .rows - 1) * a .stride + a .stride ≤ length (a .source .now))
 last-row c =
     let a = Start c .args in
-    let g = Start c .pre .1 in
+    let g = Start c .pre .1 .0 in
     let n = c .before .get-channels-count .ensures in (
       omega (arith, n, three-or-four (a .frame .settings .channels)),
       omega (arith, g .source-row, ap (λ (m : ℕ). a .frame .width * m) n),
@@ -65,7 +66,7 @@ carry-row-requires : tie.Need-carry-row-requires
 carry-row-requires c κs =
     let k = c .before .before in
     let l = last-row k in
-    (record { least = l .0; size = simp (length-take, length-drop) (omega (arith, l)) }, omega (arith, Start k .pre .1))
+    ((l .0, simp (length-take, length-drop) (omega (arith, l))), Start k .pre .1 .1)
 
 same-length : tie.Need-same-length
 same-length c = search needs
@@ -78,7 +79,7 @@ returns c =
     let n = k .before .get-channels-count .ensures in
     let at : a .rows - 1 ≡ a .done + a .rows - 1 - a .done = omega arith in
     let row = ap (λ (m : ℕ). pixelsOf m (take ((a .rows - 1) * a .stride + a .frame .width * k .before .get-channels-count .result - (a .rows - 1) * a .stride) (drop ((a .rows - 1) * a .stride) (a .source .now)))) n
-    ∙ own-row (a .frame .settings) (a .frame .width) (a .done) (a .stride) (a .source .now) (a .done + a .rows - 1) _ _ (ap (λ (m : ℕ). m * a .stride) at) (ap (λ (m : ℕ). a .frame .width * m) n) in
+    ∙ own-row (bandOf (stateOf (a .frame) (a .done)) (a .rows) (a .stride)) (a .source .now) (a .done + a .rows - 1) _ _ (ap (λ (m : ℕ). m * a .stride) at) (ap (λ (m : ℕ). a .frame .width * m) n) in
     rw (sym (k .before .before .before .is-carried .ensures) ∙ k .before .before .if1 .taken) (painted-like (λ q _. ap (λ (p : Pixels). p (q / 3) (q % 3)) row) (r .carry-row .ensures))
 
 returns-2 : tie.Need-returns-2

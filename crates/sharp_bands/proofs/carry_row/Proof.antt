@@ -7,8 +7,8 @@ use native.Mathlib.Omega.{arith}
 use lib.ListN.{length, getD, set, length-set}
 use Rattle.definitions.specs.Painted.{Painted}
 use Rattle.definitions.specs.Row.{pixelsOf}
-use Rattle.sharp_row.proofs.Painted.{painted-none, painted-more}
-use Rattle.sharp_planes.proofs.Numbers.{row-end, next-row}
+use Rattle.definitions.proofs.Painted.{painted-none, painted-more}
+use Rattle.definitions.proofs.Numbers.{row-end, next-row}
 use Rattle.sharp_bands.proofs.carry_row.Statement.{statement}
 use Rattle.sharp_bands.proofs.carry_row.Tie as tie
 
@@ -29,7 +29,7 @@ room c =
     let a = c .before .before .args in
     let p = c .before .before .pre in
     let v = c .before .loop .inv in
-    (p .0 .least, omega (arith, p .0, v .1, row-end (c .before .loop .x) (a .width) (a .count) (c .loop-test .taken)), omega (arith, p .1, v .2, v .3 .size, c .loop-test .taken))
+    (p .0 .0, omega (arith, p .0 .1, v .1, row-end (c .before .loop .x) (a .width) (a .count) (c .loop-test .taken)), omega (arith, p .1, v .2, v .3 .size, c .loop-test .taken))
 
 -- byte i of pixel x, and where it is to stand
 is-byte : (row : List ℕ) (count x i at to : ℕ) → i < 3 → at ≡ x * count + i → to ≡ 3 * x + i → getD row at 0 ≡ pixelsOf count row (to / 3) (to % 3)

@@ -4,7 +4,7 @@ use mathlib.Core.Path.{refl, sym, _∙_}
 use mathlib.Core.List.{List}
 use Rattle.yuv_error.specs.Rules.{Rule}
 use Rattle.yuv_error.proofs.First.{after-refused, after-finished, finished-number}
-use Rattle.sharp_planes.specs.Known.{Sized}
+use Rattle.band_planes.specs.Known.{Sized}
 use Rattle.sharp_rgba_to_yuv.specs.Frame.{openingRules, lentRules}
 use Rattle.sharp_rgba_to_yuv.proofs.Accepted.{opened}
 use borrow.Author.Needs.{needs}

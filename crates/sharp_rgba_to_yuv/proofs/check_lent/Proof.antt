@@ -7,7 +7,7 @@ use Rattle.yuv_support.specs.Channels.{channelsCount}
 use Rattle.yuv_support.specs.Sampling.{chromaWidth}
 use Rattle.yuv_error.specs.Numbers.{Numbers}
 use Rattle.yuv_error.specs.Rules.{firstOf, bufferRules}
-use Rattle.sharp_planes.proofs.Numbers.{three-or-four, size-small, chroma-rows}
+use Rattle.definitions.proofs.Numbers.{three-or-four, size-small, chroma-rows}
 use Rattle.sharp_rgba_to_yuv.specs.Frame.{yOf}
 use borrow.Author.Needs.{needs}
 use Rattle.sharp_rgba_to_yuv.proofs.check_lent.Statement.{statement}

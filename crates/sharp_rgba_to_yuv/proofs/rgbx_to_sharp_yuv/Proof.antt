@@ -1,5 +1,6 @@
 -- `rgbx_to_sharp_yuv` meets its contract: the check decides, and the work of an accepted frame is that of a band of all its rows.
 -- Assumes nothing.
+use lib.ListN.{length}
 use Rattle.sharp_rgba_to_yuv.proofs.Accepted.{Accepted, accepted}
 use Rattle.sharp_rgba_to_yuv.proofs.Post.{refused, finished}
 use borrow.Author.Needs.{needs}
@@ -9,11 +10,11 @@ use Rattle.sharp_rgba_to_yuv.proofs.rgbx_to_sharp_yuv.Tie as tie
 abbrev Start : tie.After-check-frame → tie.Start
 Start c = c .before .before .before .before .before
 
-facts : (c : tie.After-enum-told2) → let a = Start (c .before .before) .args in Accepted (a .frame) (a .stride) (a .source .now) (a .y .now) (a .u .now) (a .v .now)
+facts : (c : tie.After-enum-told2) → let a = Start (c .before .before) .args in Accepted (a .frame) (a .stride) (length (a .source .now)) (length (a .y .now)) (length (a .u .now)) (length (a .v .now))
 facts c =
     let k = c .before .before in
     let a = Start k .args in
-    accepted (a .frame) (a .stride) (a .source .now) (a .y .now) (a .u .now) (a .v .now) (c .enum-told2 .given .1) (k .check-frame .ensures)
+    accepted (a .frame) (a .stride) (length (a .source .now)) (length (a .y .now)) (length (a .u .now)) (length (a .v .now)) (c .enum-told2 .given .1) (k .check-frame .ensures)
 
 check-frame-requires : tie.Need-check-frame-requires
 check-frame-requires c κs = search needs
@@ -30,13 +31,10 @@ returns c =
 enum-told-2 : tie.Need-enum-told-2
 enum-told-2 c = search needs
 
-cast-sharpen-band : tie.Need-cast-sharpen-band
-cast-sharpen-band c = search needs
-
 sharpen-band-requires : tie.Need-sharpen-band-requires
 sharpen-band-requires c κs =
-    let f = facts (c .before .before .before .before) in
-    (f .sized, (f .given, f .whole))
+    let f = facts (c .before .before .before) in
+    (f .lent, f .carried)
 
 same-length : tie.Need-same-length
 same-length c = search needs
@@ -50,7 +48,7 @@ same-length-3 c = search needs
 returns-2 : tie.Need-returns-2
 returns-2 c =
     let r = c .before .before .before .before .before .before in
-    let e = r .before .before .before .before .before in
+    let e = r .before .before .before .before in
     let k = e .before .before in
     let a = Start k .args in
     finished (a .frame) (a .stride) (a .source .now) (a .y .now) (a .u .now) (a .v .now) (k .check-frame .result) (e .enum-told2 .given .1) (k .check-frame .ensures) _ _ _ (r .sharpen-band .ensures)
@@ -63,7 +61,6 @@ rgbx-to-sharp-yuv-spec =
     enum-told
     returns
     enum-told-2
-    cast-sharpen-band
     sharpen-band-requires
     same-length
     same-length-2

@@ -39,21 +39,18 @@ returns c =
 enum-told-2 : tie.Need-enum-told-2
 enum-told-2 c = search needs
 
-cast-sharpen-band : tie.Need-cast-sharpen-band
-cast-sharpen-band c = search needs
-
 sharpen-band-requires : tie.Need-sharpen-band-requires
 sharpen-band-requires c κs =
     let f = facts (c .before .before .before .before .before) in
-    (f .sized, (f .given, f .whole))
+    (record { sized = f .sized; given = f .given; whole = f .whole }, f .carried-size)
 
 carry-band-requires : tie.Need-carry-band-requires
 carry-band-requires c κs =
     let f = facts (Accepted (c .before .before .before .before .before .before .before)) in
-    (f .sized, f .given)
+    (f .sized, (f .given, f .carried-size))
 
-add-t28 : tie.Need-add-t28
-add-t28 c =
+add-t29 : tie.Need-add-t29
+add-t29 c =
     let f = facts (Accepted (c .before .before .before .before .before .before .before .before .before .before)) in
     omega (arith, f .given, f .sized)
 
@@ -87,10 +84,9 @@ band-spec =
     enum-told
     returns
     enum-told-2
-    cast-sharpen-band
     sharpen-band-requires
     carry-band-requires
-    add-t28
+    add-t29
     same-length
     same-length-2
     same-length-3

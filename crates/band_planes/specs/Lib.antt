@@ -1,0 +1,3 @@
+-- What serves the contracts of a band's steps: the meaning stands in definitions.
+pub mod Known
+pub mod Steps

@@ -1,2 +1,0 @@
--- What the replay says of a call.
-pub mod Verdict

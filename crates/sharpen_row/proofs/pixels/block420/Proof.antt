@@ -1,0 +1,83 @@
+-- `block420` meets its contract: the sums of its pixels, in sixteenths, are the definition's input, whether there is a pixel to the right or not.
+-- Assumes nothing.
+use mathlib.Core.Path.{ap, _∙_}
+use Prim.Native.Nat.{_*_, _<_}
+use native.Mathlib.Omega.{arith}
+use borrow.Author.Needs.{needs}
+use Rattle.definitions.specs.Row.{Pixels, pixelsOf, lumaRow}
+use Rattle.sharpen_row.specs.Rows.{putPair}
+use Rattle.sharpen_row.proofs.TwoRows.{length-pair}
+use Rattle.sharpen_row.proofs.Pairs.{over-ready, linears420-ready, chroma420-is}
+use Rattle.sharpen_row.proofs.pixels.block420.Statement.{statement}
+use Rattle.sharpen_row.proofs.pixels.block420.Tie as tie
+
+abbrev Start : tie.After-luma-pair-arg → tie.Start
+Start c = c .before .before .before .before .before .before .before
+
+-- the pair of the upper row, and of the lower one
+abbrev First : tie.After-luma-pair2 → tie.After-luma-pair
+First c = c .before .before .before .before
+
+abbrev Second : tie.After-slice-known3 → tie.After-luma-pair2
+Second c = c .before .before
+
+module _ (a : tie.Start) where
+  abbrev upper : Pixels
+  upper = pixelsOf (a .args .count) (a .args .this .now)
+
+  abbrev lower : Pixels
+  lower = pixelsOf (a .args .count) (a .args .below .now)
+
+  right : a .args .block .next < a .args .rows .frame .width
+  right = let i = a .pre .1 .1 .1 .0 in omega (arith, i .inside, i .next)
+
+luma-pair-requires : tie.Need-luma-pair-requires
+luma-pair-requires c κs =
+    let a = Start c in
+    let room = a .pre .1 .1 .1 .1 in
+    (a .pre .0 .summed, (a .pre .1 .0, ((a .pre .1 .1 .1 .0 .inside, right a), omega (arith, room .apart, room .size))))
+
+luma-pair-requires-2 : tie.Need-luma-pair-requires-2
+luma-pair-requires-2 c κs =
+    let first = c .before .before .before in
+    let a = Start (first .before) in
+    (a .pre .0 .summed, (a .pre .1 .1 .0, ((a .pre .1 .1 .1 .0 .inside, right a), rw (first .luma-pair .ensures .1) (rw length-pair (a .pre .1 .1 .1 .1 .size)))))
+
+sixteenths-requires : tie.Need-sixteenths-requires
+sixteenths-requires c κs =
+    let first = First (Second c) in
+    let a = Start (first .before) in
+    let i = a .pre .1 .1 .1 .0 in
+    over-ready (a .pre .0) (a .args .block .j) (a .args .block .next) (i .inside) (i .next) (upper a) (lower a) (first .luma-pair .ensures .0) (Second c .luma-pair2 .ensures .0)
+
+mixed-requires : tie.Need-mixed-requires
+mixed-requires c κs =
+    let second = Second (c .before) in
+    let first = First second in
+    let a = Start (first .before) in
+    let i = a .pre .1 .1 .1 .0 in
+    (a .pre .0 .summed .converts, linears420-ready (a .pre .0) (a .args .block .j) (a .args .block .next) (i .inside) (i .next) (upper a) (lower a) (first .luma-pair .ensures .0) (second .luma-pair2 .ensures .0) (c .sixteenths .ensures))
+
+returns : tie.Need-returns
+returns c =
+    let second = Second (c .before .before) in
+    let first = First second in
+    let a = Start (first .before) in
+    let i = a .pre .1 .1 .1 .0 in (
+      chroma420-is (a .pre .0) (a .args .block .j) (a .args .block .next) (i .inside) (i .next) (upper a) (lower a) (first .luma-pair .ensures .0) (second .luma-pair2 .ensures .0) (c .before .sixteenths .ensures) (c .mixed .ensures),
+      second .luma-pair2 .ensures .1
+          ∙ ap (putPair (a .args .rows .frame .«y_stride») (2 * a .args .block .j) (a .args .block .next) (lumaRow (a .args .rows .frame) (lower a))) (first .luma-pair .ensures .1),
+    )
+
+pub block420-spec : {M : Type 1} → statement M
+block420-spec =
+    tie.close
+    (tie.spec
+    (λ c. search needs)
+    (λ c. search needs)
+    luma-pair-requires
+    luma-pair-requires-2
+    sixteenths-requires
+    mixed-requires
+    (λ c. search needs)
+    returns)

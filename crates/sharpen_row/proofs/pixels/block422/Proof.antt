@@ -1,0 +1,79 @@
+-- `block422` meets its contract: the sums of its pixels, in quarters, are the definition's input; where pixel 2j has no neighbour, its own bytes are.
+-- Assumes nothing.
+use mathlib.Core.Path.{_≡_, _∙_}
+use Prim.Native.Nat.{ℕ, _+_, _*_, _≤_}
+use native.Mathlib.Omega.{arith}
+use borrow.Author.Needs.{needs}
+use Rattle.definitions.specs.Row.{Pixels, pixelsOf, input422}
+use Rattle.sharpen_row.specs.Pixels.{byteAt, firstThree}
+use Rattle.sharpen_row.proofs.Weights.{chroma-same}
+use Rattle.definitions.proofs.Inputs.{input422-last}
+use Rattle.sharpen_row.proofs.Entries.{by-three, in-row}
+use Rattle.sharpen_row.proofs.Pairs.{linears422-ready, chroma422-is}
+use Rattle.sharpen_row.proofs.pixels.block422.Statement.{statement}
+use Rattle.sharpen_row.proofs.pixels.block422.Tie as tie
+
+abbrev Start : tie.After-luma-pair-arg → tie.Start
+Start c = c .before .before .before .before
+
+abbrev Pair : tie.After-slice-known2 → tie.After-luma-pair
+Pair c = c .before .before
+
+abbrev row : tie.Start → Pixels
+row a = pixelsOf (a .args .count) (a .args .this .now)
+
+-- where there is a pixel to the right, it is the next one
+right : (c : tie.Else1) → let b = Start (Pair (c .before) .before) .args .block in b .next ≡ 2 * b .j + 1
+right c = let i = Start (Pair (c .before) .before) .pre .1 .1 .0 in omega (arith, c .if1 .left, i .inside, i .next)
+
+luma-pair-requires : tie.Need-luma-pair-requires
+luma-pair-requires c κs =
+    let a = Start c in
+    let i = a .pre .1 .1 .0 in
+    (a .pre .0 .summed, (a .pre .1 .0, ((i .inside, omega (arith, i .inside, i .next)), omega (arith, a .pre .1 .1 .1))))
+
+at-requires : tie.Need-at-requires
+at-requires c κs = let a = Start (Pair (c .before) .before) in in-row (a .pre .1 .0) (2 * a .args .block .j) (a .pre .1 .1 .0 .inside)
+
+mixed-requires : tie.Need-mixed-requires
+mixed-requires c κs =
+    let pair = Pair (c .before .before) in
+    let a = Start (pair .before) in
+    let i = a .pre .1 .1 .0 in
+    (a .pre .0 .summed .converts, linears422-ready (a .pre .0) (a .args .block .j) (a .args .block .next) (i .inside) (i .next) (row a) (pair .luma-pair .ensures .0) (right (c .before)) (c .quarters .ensures))
+
+returns : tie.Need-returns
+returns c =
+    let t = c .before .before in
+    let pair = Pair (t .before) in
+    let a = Start (pair .before) in
+    let i = a .pre .1 .1 .0 in
+    let d = a .args .rows .frame in
+    let j = a .args .block .j in
+    let last : d .width ≤ 2 * j + 1 = omega (arith, t .if1 .taken, i .inside, i .next) in
+    let own : (k : ℕ) → row a (2 * j) k ≡ input422 d (row a) j k = λ k. input422-last d (row a) j k last in
+    let same = by-three (λ k. byteAt (firstThree (row a (2 * j))) k ≡ input422 d (row a) j k) (own 0) (own 1) (own 2) in
+    (rw (c .before .at .ensures) at (c .chroma-of .ensures) ∙ chroma-same d same, pair .luma-pair .ensures .1)
+
+returns-2 : tie.Need-returns-2
+returns-2 c =
+    let e = c .before .before in
+    let pair = Pair (e .before) in
+    let a = Start (pair .before) in
+    let i = a .pre .1 .1 .0 in
+    (chroma422-is (a .pre .0) (a .args .block .j) (a .args .block .next) (i .inside) (i .next) (row a) (pair .luma-pair .ensures .0) (right e) (c .before .quarters .ensures) (c .mixed .ensures), pair .luma-pair .ensures .1)
+
+pub block422-spec : {M : Type 1} → statement M
+block422-spec =
+    tie.close
+    (tie.spec
+    (λ c. search needs)
+    luma-pair-requires
+    at-requires
+    (λ c κs. search needs)
+    (λ c κs. search needs)
+    mixed-requires
+    (λ c. search needs)
+    returns
+    (λ c. search needs)
+    returns-2)

@@ -1,0 +1,336 @@
+// Rows of luma and chroma, one pass over their pixels, two pixels to a sum.
+//
+// What a byte adds to sums is made once a call (tables.rt). An entry of the left table is, for a byte of the left pixel of a pair, 2^44 times
+// (3 * linear + 2) and what the byte adds to luma; of the right table, for a byte of the right pixel, 2^44 times linear and 2^21 times what it adds
+// to luma. The sums of a pair, byte by byte, hold both lumas and the linear values in quarters; three times those of a pair and the pair below it
+// hold them in sixteenths. Chroma of the corrected bytes is signed i32 weights, sums and a shift.
+//
+// Bounds: luma is below 2^21 before it is divided, so the two of a pair are below 2^42, and four pairs' below 2^44; 16 * 65,535 + 8 is below 2^20,
+// so no sum reaches 2^64. No accepted matrix takes luma or chroma out of the range that the definition holds them in, so nothing is held here.
+mod pixels; // pixels.rt: a pair of pixels
+pub mod tables; // tables.rt: weights and tables
+
+ghost use mathlib.Core.Path.{_≡_};
+ghost use Prim.Native.Nat.{_+_, _*_, _-_, _/_, _≤_, _<_, min};
+ghost use lib.ListN.{length};
+ghost use Rattle.definitions.specs.Painted.{Painted};
+ghost use Rattle.definitions.specs.Row.{pixelsOf, input420};
+ghost use Rattle.definitions.specs.Image.{pixelSize};
+ghost use Rattle.sharpen_row.specs.Tables.{Summed, Prepared};
+ghost use Rattle.sharpen_row.specs.Rows.{lumas, inputs420, inputs422, RowOf, LumaRoom, ChromaRoom, Lent420, Lent422};
+ghost use Rattle.sharpen_row.specs.Rows.{LumaWritten, LumasPainted, LumasWritten, ChromaPainted, ChromaWritten};
+use definitions::FrameDescription;
+use pixels::Block;
+use tables::Conversion;
+
+// Bytes of a pixel.
+fn pixel_size(frame: FrameDescription) -> usize
+    ensures { λ c. ⌜ (c ≡ pixelSize frame) × (3 ≤ c) × (c ≤ 4) ⌝ }
+{
+    let settings = frame.settings;
+    let channels = settings.channels;
+    channels.get_channels_count()
+}
+
+// The pixel to the right of x, or x where it is the last.
+fn right_of(x: usize, width: usize) -> usize
+    requires { ⌜ x < width ⌝ }
+    ensures { λ next. ⌜ next ≡ min (x + 1) (width - 1) ⌝ }
+{
+    if x + 1 < width { x + 1 } else { x }
+}
+
+// Luma of a source row.
+// Writes the first `width` bytes of `y`, and no other byte.
+pub fn luma_row(rows: Conversion, row: &[u8], y: &mut [u8], sums: &[u64; 1536])
+    requires { ⌜ Summed rows (now sums) ⌝ }
+    requires { ⌜ rows .frame .width * pixelSize (rows .frame) ≤ length (now row) ⌝ }
+    requires { ⌜ rows .frame .width ≤ length (now y) ⌝ }
+    ensures { λ _. ⌜ LumaWritten (rows .frame) (now (row .entry)) (now (y .entry)) (now (y .exit)) ⌝ }
+{
+    let frame = rows.frame;
+    let width = frame.width as usize;
+    let count = pixel_size(frame);
+    let mut x = 0;
+    while x < width {
+        let next = right_of(x, width);
+        pixels::luma_pair(rows, row, count, x, next, y, 0, sums);
+        x = next + 1;
+    }
+}
+
+// 4:2:0 chroma of a row and the source row below it. `this` may be a carried row: it has `count` bytes a pixel.
+// Writes the first `width / 2`, rounded up, bytes of `u` and of `v`, and no other byte.
+pub fn chroma_row420(
+    rows: Conversion,
+    this: &[u8],
+    count: usize,
+    below: &[u8],
+    u: &mut [u8],
+    v: &mut [u8],
+    sums: &[u64; 1536],
+    gamma: &[u8; 65536],
+)
+    requires { ⌜ Prepared rows (now sums) (now gamma) ⌝ }
+    requires { ⌜ RowOf (rows .frame) count (now this) ⌝ }
+    requires { ⌜ rows .frame .width * pixelSize (rows .frame) ≤ length (now below) ⌝ }
+    requires { ⌜ ChromaRoom (rows .frame) (now u) (now v) ⌝ }
+    ensures { λ _. ⌜ ChromaWritten (rows .frame)
+        (input420 (rows .frame) (pixelsOf count (now (this .entry))) (pixelsOf (pixelSize (rows .frame)) (now (below .entry))))
+        (now (u .entry)) (now (v .entry)) (now (u .exit)) (now (v .exit)) ⌝ }
+{
+    let frame = rows.frame;
+    let width = frame.width as usize;
+    let size = width / 2 + width % 2;
+    let under = pixel_size(frame);
+    let mut j = 0;
+    while j < size {
+        let x = 2 * j;
+        let next = right_of(x, width);
+        let a = pixels::pair(this, count, x, next, sums);
+        let b = pixels::pair(below, under, x, next, sums);
+        let c = pixels::mixed(rows, pixels::sixteenths(a, b), gamma);
+        u[j] = c.cb;
+        v[j] = c.cr;
+        j += 1;
+    }
+}
+
+// Two rows of 3 bytes a pixel, as far as their last whole pair. The bytes of a pixel are a number here: the loop is a tenth faster than with a
+// variable.
+fn rgb420(
+    rows: Conversion,
+    this: &[u8],
+    below: &[u8],
+    y: &mut [u8],
+    u: &mut [u8],
+    v: &mut [u8],
+    sums: &[u64; 1536],
+    gamma: &[u8; 65536],
+)
+    requires { ⌜ Prepared rows (now sums) (now gamma) ⌝ }
+    requires { ⌜ RowOf (rows .frame) 3 (now this) ⌝ }
+    requires { ⌜ RowOf (rows .frame) 3 (now below) ⌝ }
+    requires { ⌜ LumaRoom (rows .frame) (now y) ⌝ }
+    requires { ⌜ ChromaRoom (rows .frame) (now u) (now v) ⌝ }
+    ensures { λ _. ⌜ LumasPainted (rows .frame) 3 (now (this .entry)) (now (below .entry)) (2 * (rows .frame .width / 2)) (now (y .entry)) (now (y .exit)) ⌝ }
+    ensures { λ _. ⌜ ChromaPainted (rows .frame) (inputs420 (rows .frame) 3 (now (this .entry)) (now (below .entry)))
+        (rows .frame .width / 2) (now (u .entry)) (now (v .entry)) (now (u .exit)) (now (v .exit)) ⌝ }
+{
+    let frame = rows.frame;
+    let pairs = frame.width as usize / 2;
+    let mut j = 0;
+    while j < pairs {
+        let block = Block { j, next: 2 * j + 1 };
+        let c = pixels::block420(rows, this, below, 3, block, y, sums, gamma);
+        u[j] = c.cb;
+        v[j] = c.cr;
+        j += 1;
+    }
+}
+
+// Of 4 bytes a pixel.
+fn rgba420(
+    rows: Conversion,
+    this: &[u8],
+    below: &[u8],
+    y: &mut [u8],
+    u: &mut [u8],
+    v: &mut [u8],
+    sums: &[u64; 1536],
+    gamma: &[u8; 65536],
+)
+    requires { ⌜ Prepared rows (now sums) (now gamma) ⌝ }
+    requires { ⌜ RowOf (rows .frame) 4 (now this) ⌝ }
+    requires { ⌜ RowOf (rows .frame) 4 (now below) ⌝ }
+    requires { ⌜ LumaRoom (rows .frame) (now y) ⌝ }
+    requires { ⌜ ChromaRoom (rows .frame) (now u) (now v) ⌝ }
+    ensures { λ _. ⌜ LumasPainted (rows .frame) 4 (now (this .entry)) (now (below .entry)) (2 * (rows .frame .width / 2)) (now (y .entry)) (now (y .exit)) ⌝ }
+    ensures { λ _. ⌜ ChromaPainted (rows .frame) (inputs420 (rows .frame) 4 (now (this .entry)) (now (below .entry)))
+        (rows .frame .width / 2) (now (u .entry)) (now (v .entry)) (now (u .exit)) (now (v .exit)) ⌝ }
+{
+    let frame = rows.frame;
+    let pairs = frame.width as usize / 2;
+    let mut j = 0;
+    while j < pairs {
+        let block = Block { j, next: 2 * j + 1 };
+        let c = pixels::block420(rows, this, below, 4, block, y, sums, gamma);
+        u[j] = c.cb;
+        v[j] = c.cr;
+        j += 1;
+    }
+}
+
+// Two rows as far as their last whole pair.
+fn pairs420(
+    rows: Conversion,
+    this: &[u8],
+    below: &[u8],
+    y: &mut [u8],
+    u: &mut [u8],
+    v: &mut [u8],
+    sums: &[u64; 1536],
+    gamma: &[u8; 65536],
+)
+    requires { ⌜ Prepared rows (now sums) (now gamma) ⌝ }
+    requires { ⌜ Lent420 (rows .frame) (now this) (now below) (now y) (now u) (now v) ⌝ }
+    ensures { λ _. ⌜ LumasPainted (rows .frame) (pixelSize (rows .frame)) (now (this .entry)) (now (below .entry))
+        (2 * (rows .frame .width / 2)) (now (y .entry)) (now (y .exit)) ⌝ }
+    ensures { λ _. ⌜ ChromaPainted (rows .frame) (inputs420 (rows .frame) (pixelSize (rows .frame)) (now (this .entry)) (now (below .entry)))
+        (rows .frame .width / 2) (now (u .entry)) (now (v .entry)) (now (u .exit)) (now (v .exit)) ⌝ }
+{
+    let frame = rows.frame;
+    let count = pixel_size(frame);
+    if count == 3 {
+        rgb420(rows, this, below, y, u, v, sums, gamma);
+    } else {
+        rgba420(rows, this, below, y, u, v, sums, gamma);
+    }
+}
+
+// Luma of two source rows, and their 4:2:0 chroma. `y` begins with the upper luma row, and the lower one begins at the frame's Y stride.
+// Writes the first `width` bytes of both luma rows and the first `width / 2`, rounded up, bytes of `u` and of `v`, and no other byte.
+pub fn sharpen_rows420(
+    rows: Conversion,
+    this: &[u8],
+    below: &[u8],
+    y: &mut [u8],
+    u: &mut [u8],
+    v: &mut [u8],
+    sums: &[u64; 1536],
+    gamma: &[u8; 65536],
+)
+    requires { ⌜ Prepared rows (now sums) (now gamma) ⌝ }
+    requires { ⌜ Lent420 (rows .frame) (now this) (now below) (now y) (now u) (now v) ⌝ }
+    ensures { λ _. ⌜ LumasWritten (rows .frame) (now (this .entry)) (now (below .entry)) (now (y .entry)) (now (y .exit)) ⌝ }
+    ensures { λ _. ⌜ ChromaWritten (rows .frame) (inputs420 (rows .frame) (pixelSize (rows .frame)) (now (this .entry)) (now (below .entry)))
+        (now (u .entry)) (now (v .entry)) (now (u .exit)) (now (v .exit)) ⌝ }
+{
+    let frame = rows.frame;
+    let width = frame.width as usize;
+    let count = pixel_size(frame);
+    pairs420(rows, this, below, y, u, v, sums, gamma);
+    if width % 2 == 1 {
+        let j = width / 2;
+        let block = Block { j, next: 2 * j };
+        let c = pixels::block420(rows, this, below, count, block, y, sums, gamma);
+        u[j] = c.cb;
+        v[j] = c.cr;
+    }
+}
+
+// A row of 3 bytes a pixel, as far as its last whole pair.
+fn rgb422(
+    rows: Conversion,
+    this: &[u8],
+    y: &mut [u8],
+    u: &mut [u8],
+    v: &mut [u8],
+    sums: &[u64; 1536],
+    gamma: &[u8; 65536],
+)
+    requires { ⌜ Prepared rows (now sums) (now gamma) ⌝ }
+    requires { ⌜ RowOf (rows .frame) 3 (now this) ⌝ }
+    requires { ⌜ rows .frame .width ≤ length (now y) ⌝ }
+    requires { ⌜ ChromaRoom (rows .frame) (now u) (now v) ⌝ }
+    ensures { λ _. ⌜ Painted (2 * (rows .frame .width / 2)) (lumas (rows .frame) 3 (now (this .entry))) (now (y .entry)) (now (y .exit)) ⌝ }
+    ensures { λ _. ⌜ ChromaPainted (rows .frame) (inputs422 (rows .frame) 3 (now (this .entry)))
+        (rows .frame .width / 2) (now (u .entry)) (now (v .entry)) (now (u .exit)) (now (v .exit)) ⌝ }
+{
+    let frame = rows.frame;
+    let pairs = frame.width as usize / 2;
+    let mut j = 0;
+    while j < pairs {
+        let block = Block { j, next: 2 * j + 1 };
+        let c = pixels::block422(rows, this, 3, block, y, sums, gamma);
+        u[j] = c.cb;
+        v[j] = c.cr;
+        j += 1;
+    }
+}
+
+// Of 4 bytes a pixel.
+fn rgba422(
+    rows: Conversion,
+    this: &[u8],
+    y: &mut [u8],
+    u: &mut [u8],
+    v: &mut [u8],
+    sums: &[u64; 1536],
+    gamma: &[u8; 65536],
+)
+    requires { ⌜ Prepared rows (now sums) (now gamma) ⌝ }
+    requires { ⌜ RowOf (rows .frame) 4 (now this) ⌝ }
+    requires { ⌜ rows .frame .width ≤ length (now y) ⌝ }
+    requires { ⌜ ChromaRoom (rows .frame) (now u) (now v) ⌝ }
+    ensures { λ _. ⌜ Painted (2 * (rows .frame .width / 2)) (lumas (rows .frame) 4 (now (this .entry))) (now (y .entry)) (now (y .exit)) ⌝ }
+    ensures { λ _. ⌜ ChromaPainted (rows .frame) (inputs422 (rows .frame) 4 (now (this .entry)))
+        (rows .frame .width / 2) (now (u .entry)) (now (v .entry)) (now (u .exit)) (now (v .exit)) ⌝ }
+{
+    let frame = rows.frame;
+    let pairs = frame.width as usize / 2;
+    let mut j = 0;
+    while j < pairs {
+        let block = Block { j, next: 2 * j + 1 };
+        let c = pixels::block422(rows, this, 4, block, y, sums, gamma);
+        u[j] = c.cb;
+        v[j] = c.cr;
+        j += 1;
+    }
+}
+
+// A row as far as its last whole pair.
+fn pairs422(
+    rows: Conversion,
+    this: &[u8],
+    y: &mut [u8],
+    u: &mut [u8],
+    v: &mut [u8],
+    sums: &[u64; 1536],
+    gamma: &[u8; 65536],
+)
+    requires { ⌜ Prepared rows (now sums) (now gamma) ⌝ }
+    requires { ⌜ Lent422 (rows .frame) (now this) (now y) (now u) (now v) ⌝ }
+    ensures { λ _. ⌜ Painted (2 * (rows .frame .width / 2)) (lumas (rows .frame) (pixelSize (rows .frame)) (now (this .entry)))
+        (now (y .entry)) (now (y .exit)) ⌝ }
+    ensures { λ _. ⌜ ChromaPainted (rows .frame) (inputs422 (rows .frame) (pixelSize (rows .frame)) (now (this .entry)))
+        (rows .frame .width / 2) (now (u .entry)) (now (v .entry)) (now (u .exit)) (now (v .exit)) ⌝ }
+{
+    let frame = rows.frame;
+    let count = pixel_size(frame);
+    if count == 3 {
+        rgb422(rows, this, y, u, v, sums, gamma);
+    } else {
+        rgba422(rows, this, y, u, v, sums, gamma);
+    }
+}
+
+// Luma of a source row, and its 4:2:2 chroma.
+// Writes the first `width` bytes of `y` and the first `width / 2`, rounded up, bytes of `u` and of `v`, and no other byte.
+pub fn sharpen_row422(
+    rows: Conversion,
+    this: &[u8],
+    y: &mut [u8],
+    u: &mut [u8],
+    v: &mut [u8],
+    sums: &[u64; 1536],
+    gamma: &[u8; 65536],
+)
+    requires { ⌜ Prepared rows (now sums) (now gamma) ⌝ }
+    requires { ⌜ Lent422 (rows .frame) (now this) (now y) (now u) (now v) ⌝ }
+    ensures { λ _. ⌜ LumaWritten (rows .frame) (now (this .entry)) (now (y .entry)) (now (y .exit)) ⌝ }
+    ensures { λ _. ⌜ ChromaWritten (rows .frame) (inputs422 (rows .frame) (pixelSize (rows .frame)) (now (this .entry)))
+        (now (u .entry)) (now (v .entry)) (now (u .exit)) (now (v .exit)) ⌝ }
+{
+    let frame = rows.frame;
+    let width = frame.width as usize;
+    let count = pixel_size(frame);
+    pairs422(rows, this, y, u, v, sums, gamma);
+    if width % 2 == 1 {
+        let j = width / 2;
+        let block = Block { j, next: 2 * j };
+        let c = pixels::block422(rows, this, count, block, y, sums, gamma);
+        u[j] = c.cb;
+        v[j] = c.cr;
+    }
+}

@@ -1,0 +1,246 @@
+// A pair of pixels: its sums, its lumas, and chroma. lib.rt says what an entry is.
+ghost use mathlib.Core.Path.{_≡_};
+ghost use Prim.Native.Nat.{_+_, _*_, _≤_, _<_};
+ghost use lib.IntN.{pos};
+ghost use lib.ListN.{getD, length, set};
+ghost use Rattle.definitions.specs.Pixel.{weigh};
+ghost use Rattle.definitions.specs.Row.{pixelsOf};
+ghost use Rattle.sharpen_row.specs.Weights.{Converts, ByteWeights};
+ghost use Rattle.sharpen_row.specs.Tables.{Summed, Prepared};
+ghost use Rattle.sharpen_row.specs.Pixels.{firstThree, byteAt, Paired, Light, total, leftLuma, rightLuma};
+ghost use Rattle.sharpen_row.specs.Pixels.{sixteenthsOf, quartersOf, correctedBy, Over, Linears, chromaOf};
+ghost use Rattle.sharpen_row.specs.Rows.{lumas, inputs420, inputs422, RowOf, LumaRoom, InRow, putPair};
+use crate::tables::Conversion;
+use crate::tables::Weights;
+
+// Weights are in units of 1 / 8,192, which is 13 bits.
+const PRECISION: i32 = 13;
+
+// 128 * 8,192, and half of 8,192 less 1: what cb and cr start from.
+const CHROMA_BIAS: i32 = 1052671;
+
+// The first three bytes of a pixel: its colour, in the order of its channels.
+pub struct Bytes {
+    pub b0: u8,
+    pub b1: u8,
+    pub b2: u8,
+}
+
+// For each of them the entries of a pair of pixels, added.
+pub struct Sums {
+    pub e0: u64,
+    pub e1: u64,
+    pub e2: u64,
+}
+
+pub struct Chroma {
+    pub cb: u8,
+    pub cr: u8,
+}
+
+// Where chroma byte j comes from: pixel 2j, and `next`, its neighbour to the right.
+pub struct Block {
+    pub j: usize,
+    pub next: usize,
+}
+
+// Pixel x of a row.
+fn at(row: &[u8], count: usize, x: usize) -> Bytes
+    requires { ⌜ x * count + 2 < length (now row) ⌝ }
+    ensures { λ b. ⌜ b ≡ firstThree (pixelsOf count (now (row .entry)) x) ⌝ }
+{
+    let first = x * count;
+    let second = first + 1;
+    let third = first + 2;
+    Bytes {
+        b0: row[first],
+        b1: row[second],
+        b2: row[third],
+    }
+}
+
+// The entries of a left and of a right byte at one place of their pixels.
+fn entries(sums: &[u64; 1536], place: usize, left: u8, right: u8) -> u64
+    requires { ⌜ place ≤ 512 ⌝ }
+    requires { ⌜ Light (now sums) ⌝ }
+    ensures { λ e. ⌜ e ≡ getD (now (sums .entry)) (place + left) 0 + getD (now (sums .entry)) (768 + place + right) 0 ⌝ }
+{
+    let l = place + left as usize;
+    let r = 768 + place + right as usize;
+    sums[l] + sums[r]
+}
+
+// The sums of pixels x and next of a row.
+pub fn pair(row: &[u8], count: usize, x: usize, next: usize, sums: &[u64; 1536]) -> Sums
+    requires { ⌜ (x * count + 2 < length (now row)) × (next * count + 2 < length (now row)) ⌝ }
+    requires { ⌜ Light (now sums) ⌝ }
+    ensures { λ s. ⌜ Paired (now (sums .entry)) (pixelsOf count (now (row .entry)) x) (pixelsOf count (now (row .entry)) next) s ⌝ }
+{
+    let a = at(row, count, x);
+    let b = at(row, count, next);
+    Sums {
+        e0: entries(sums, 0, a.b0, b.b0),
+        e1: entries(sums, 256, a.b1, b.b1),
+        e2: entries(sums, 512, a.b2, b.b2),
+    }
+}
+
+// Both lumas of a pair, into the luma row that begins at `start`.
+fn put_luma(y: &mut [u8], start: usize, x: usize, next: usize, s: Sums)
+    requires { ⌜ (start + x < length (now y)) × (start + next < length (now y)) ⌝ }
+    requires { ⌜ total s < 18446744073709551616 ⌝ }
+    ensures { λ _. ⌜ now (y .exit) ≡ set (set (now (y .entry)) (start + x) (leftLuma s)) (start + next) (rightLuma s) ⌝ }
+{
+    let both = s.e0 + s.e1 + s.e2;
+    let left = start + x;
+    let right = start + next;
+    y[left] = (both / 8192 % 256) as u8;
+    y[right] = (both / 17179869184 % 256) as u8;
+}
+
+// Pixels x and next of a row: their lumas, into the luma row that begins at `start`, and their sums.
+pub fn luma_pair(
+    rows: Conversion,
+    row: &[u8],
+    count: usize,
+    x: usize,
+    next: usize,
+    y: &mut [u8],
+    start: usize,
+    sums: &[u64; 1536],
+) -> Sums
+    requires { ⌜ Summed rows (now sums) ⌝ }
+    requires { ⌜ RowOf (rows .frame) count (now row) ⌝ }
+    requires { ⌜ (x < rows .frame .width) × (next < rows .frame .width) ⌝ }
+    requires { ⌜ start + rows .frame .width ≤ length (now y) ⌝ }
+    ensures { λ s. ⌜ Paired (now (sums .entry)) (pixelsOf count (now (row .entry)) x) (pixelsOf count (now (row .entry)) next) s ⌝ }
+    ensures { λ _. ⌜ now (y .exit) ≡ putPair start x next (lumas (rows .frame) count (now (row .entry))) (now (y .entry)) ⌝ }
+{
+    let s = pair(row, count, x, next, sums);
+    put_luma(y, start, x, next, s);
+    s
+}
+
+// Three weighed bytes. The shift of a signed number rounds down.
+fn weigh(w: Weights, b: Bytes) -> u8
+    requires { ⌜ ByteWeights w ⌝ }
+    ensures { λ v. ⌜ pos v ≡ weigh (w .first) (w .second) (w .third) 128 (b .b0) (b .b1) (b .b2) ⌝ }
+{
+    ((b.b0 as i32 * w.first + b.b1 as i32 * w.second + b.b2 as i32 * w.third + CHROMA_BIAS)
+        >> PRECISION) as u8
+}
+
+// The chroma of a colour. No accepted matrix takes it out of the range that the definition holds it in.
+fn chroma_of(rows: Conversion, b: Bytes) -> Chroma
+    requires { ⌜ Converts rows ⌝ }
+    ensures { λ c. ⌜ c ≡ chromaOf (rows .frame) (byteAt b) ⌝ }
+{
+    let cb = rows.cb;
+    let cr = rows.cr;
+    Chroma {
+        cb: weigh(cb, b),
+        cr: weigh(cr, b),
+    }
+}
+
+fn corrected(gamma: &[u8; 65536], linear: u64) -> u8
+    requires { ⌜ linear < 65536 ⌝ }
+    ensures { λ v. ⌜ v ≡ getD (now (gamma .entry)) linear 0 ⌝ }
+{
+    let i = linear as usize;
+    gamma[i]
+}
+
+// The linear values of a pair over another: 9, 3, 3 and 1 sixteenths, and a half, rounded down.
+pub fn sixteenths(a: Sums, b: Sums) -> Sums
+    requires { ⌜ Over a b ⌝ }
+    ensures { λ l. ⌜ l ≡ sixteenthsOf a b ⌝ }
+{
+    Sums {
+        e0: (3 * a.e0 + b.e0) / 281474976710656,
+        e1: (3 * a.e1 + b.e1) / 281474976710656,
+        e2: (3 * a.e2 + b.e2) / 281474976710656,
+    }
+}
+
+// Of a pair alone: 3 and 1 quarters, and a half, rounded down.
+fn quarters(a: Sums) -> Sums
+    ensures { λ l. ⌜ l ≡ quartersOf a ⌝ }
+{
+    Sums {
+        e0: a.e0 / 70368744177664,
+        e1: a.e1 / 70368744177664,
+        e2: a.e2 / 70368744177664,
+    }
+}
+
+// The chroma of linear values.
+pub fn mixed(rows: Conversion, linear: Sums, gamma: &[u8; 65536]) -> Chroma
+    requires { ⌜ Converts rows ⌝ }
+    requires { ⌜ Linears linear ⌝ }
+    ensures { λ c. ⌜ c ≡ chromaOf (rows .frame) (correctedBy (now (gamma .entry)) linear) ⌝ }
+{
+    let colour = Bytes {
+        b0: corrected(gamma, linear.e0),
+        b1: corrected(gamma, linear.e1),
+        b2: corrected(gamma, linear.e2),
+    };
+    chroma_of(rows, colour)
+}
+
+// Chroma of 4:2:0 and the lumas of its pixels, in two rows. An odd last pixel is its own neighbour to the right: 9 + 3 is 12, and 3 + 1 is 4.
+pub fn block420(
+    rows: Conversion,
+    this: &[u8],
+    below: &[u8],
+    count: usize,
+    block: Block,
+    y: &mut [u8],
+    sums: &[u64; 1536],
+    gamma: &[u8; 65536],
+) -> Chroma
+    requires { ⌜ Prepared rows (now sums) (now gamma) ⌝ }
+    requires { ⌜ RowOf (rows .frame) count (now this) ⌝ }
+    requires { ⌜ RowOf (rows .frame) count (now below) ⌝ }
+    requires { ⌜ InRow (rows .frame) block ⌝ }
+    requires { ⌜ LumaRoom (rows .frame) (now y) ⌝ }
+    ensures { λ c. ⌜ c ≡ chromaOf (rows .frame) (inputs420 (rows .frame) count (now (this .entry)) (now (below .entry)) (block .j)) ⌝ }
+    ensures { λ _. ⌜ now (y .exit)
+        ≡ putPair (rows .frame .«y_stride») (2 * block .j) (block .next) (lumas (rows .frame) count (now (below .entry)))
+        (putPair 0 (2 * block .j) (block .next) (lumas (rows .frame) count (now (this .entry))) (now (y .entry))) ⌝ }
+{
+    let frame = rows.frame;
+    let lower = frame.y_stride as usize;
+    let x = 2 * block.j;
+    let next = block.next;
+    let a = luma_pair(rows, this, count, x, next, y, 0, sums);
+    let b = luma_pair(rows, below, count, x, next, y, lower, sums);
+    mixed(rows, sixteenths(a, b), gamma)
+}
+
+// Chroma of 4:2:2 and the lumas of its pixels. An odd last pixel's own bytes go through no table.
+pub fn block422(
+    rows: Conversion,
+    this: &[u8],
+    count: usize,
+    block: Block,
+    y: &mut [u8],
+    sums: &[u64; 1536],
+    gamma: &[u8; 65536],
+) -> Chroma
+    requires { ⌜ Prepared rows (now sums) (now gamma) ⌝ }
+    requires { ⌜ RowOf (rows .frame) count (now this) ⌝ }
+    requires { ⌜ InRow (rows .frame) block ⌝ }
+    requires { ⌜ rows .frame .width ≤ length (now y) ⌝ }
+    ensures { λ c. ⌜ c ≡ chromaOf (rows .frame) (inputs422 (rows .frame) count (now (this .entry)) (block .j)) ⌝ }
+    ensures { λ _. ⌜ now (y .exit) ≡ putPair 0 (2 * block .j) (block .next) (lumas (rows .frame) count (now (this .entry))) (now (y .entry)) ⌝ }
+{
+    let x = 2 * block.j;
+    let next = block.next;
+    let a = luma_pair(rows, this, count, x, next, y, 0, sums);
+    if next == x {
+        chroma_of(rows, at(this, count, x))
+    } else {
+        mixed(rows, quarters(a), gamma)
+    }
+}
