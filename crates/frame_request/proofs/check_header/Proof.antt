@@ -1,15 +1,23 @@
 -- `check_header` meets its contract: each `return` by the tests that led there.
 -- Assumes nothing.
-use mathlib.Core.Path.{sym, _∙_}
+use Prim.Native.Nat.{ℕ, _<_, _≤_}
+use mathlib.Core.Path.{_≡_, sym, _∙_}
+use mathlib.Core.Bool.{true}
+use native.Mathlib.Omega.{arith}
+use lib.Dec.{ltb}
 use borrow.Author.Tests.{lt-ltb, le-ltb}
 use Rattle.frame_request.specs.Request.{malformed}
 use borrow.Author.Needs.{needs}
 use Rattle.frame_request.proofs.check_header.Statement.{statement}
 use Rattle.frame_request.proofs.check_header.Tie as tie
 
+-- what is shorter than some part of a header is no header
+short : (n m : ℕ) → n < m → m ≤ 9 → ltb n 9 ≡ true
+short n m l b = lt-ltb n 9 (omega (arith, l, b))
+
 returns : tie.Need-returns
 unfolding malformed
-returns c = simp (lt-ltb _ _ (c .if1 .taken))
+returns c = simp (short _ _ (c .if1 .taken) (omega arith))
 
 has-unknown-requires : tie.Need-has-unknown-requires
 has-unknown-requires c κs = search needs
