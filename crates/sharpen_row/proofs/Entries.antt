@@ -20,7 +20,7 @@ use Rattle.sharpen_row.specs.Pixels.{AreBytes, sumAt, entriesAt, Paired,
 use Rattle.sharpen_row.specs.Rows.{TwoPainted, RowOf}
 use Rattle.definitions.proofs.Painted.{by-place}
 use Rattle.definitions.proofs.Inputs.{input420-pair, input420-last, input422-pair}
-use Rattle.sharpen_row.proofs.Weights.{luma-of}
+use Rattle.sharpen_row.proofs.Weights.{by-three, luma-of}
 
 -- ---- the tables, a place after the other
 
@@ -53,14 +53,6 @@ sixteenths l low h = omega arith
 
 quarters : (l low : ℕ) → low < 17592186044416 → (17592186044416 * l + low) / 70368744177664 ≡ l / 4
 quarters l low h = omega arith
-
--- ---- one of three places
-
-pub by-three : (P : ℕ → Type 0) → P 0 → P 1 → P 2 → (i : ℕ) → i < 3 → P i
-by-three P p q r zero h = p
-by-three P p q r (suc zero) h = q
-by-three P p q r (suc (suc zero)) h = r
-by-three P p q r (suc (suc (suc i))) h = absurd (omega arith)
 
 -- pixel x lies in a row of w pixels
 pub in-row : {d : FrameDescription} {count : ℕ} {row : List ℕ} → RowOf d count row → (x : ℕ) → x < d .width → x * count + 2 < length row

@@ -57,6 +57,9 @@ set-twice l i v h = ap (λ (x : ℕ). set (set l i v) i x) (sym (getD-set-same l
 pub length-pair : (start x next : ℕ) (f : ℕ → ℕ) (y : List ℕ) → length (putPair start x next f y) ≡ length y
 length-pair start x next f y = length-set (set y (start + x) (f x)) (start + next) (f next) ∙ length-set y (start + x) (f x)
 
+pub length-as : (y : List ℕ) {y′ l : List ℕ} → y′ ≡ l → length l ≡ length y → length y′ ≡ length y
+length-as y e h = ap length e ∙ h
+
 module _ {w n next : ℕ} (inside : n < w) (is : next ≡ min (n + 1) (w - 1)) {f : ℕ → ℕ} {d e : List ℕ} where
   -- the bytes of a pair more, of a row that begins at 0
   pub painted-pair : w ≤ length e → Painted n f d e → Painted (next + 1) f d (putPair 0 n next f e)

@@ -3,7 +3,7 @@
 -- the weights serves luma, cb and cr.
 -- Assumes nothing.
 use mathlib.Core.Path.{_≡_, refl, sym, ap, _∙_}
-use Prim.Native.Nat.{ℕ, _+_, _*_, _/_, _≤_, _<_}
+use Prim.Native.Nat.{ℕ, zero, suc, _+_, _*_, _/_, _≤_, _<_}
 use native.Mathlib.Omega.{arith}
 use borrow.Author.Tests.{le-ltb}
 use lib.Dec.{lit<, lit≤}
@@ -24,8 +24,17 @@ use Rattle.definitions.specs.Pixel.{floorDiv, weigh, atMost, heldBetween, weigh
 use Rattle.definitions.specs.Row.{ofColour}
 use Rattle.sharpen_row.specs.Weights.{byPlace, cbWeights, crWeights, InByte, ByteWeights}
 use Rattle.sharpen_row.specs.Tables.{partOf, lumaPart}
-use Rattle.sharpen_row.specs.Pixels.{AreBytes, chromaOf}
+use Rattle.sharpen_row.specs.declared.pixels.Bytes.{Bytes}
+use Rattle.sharpen_row.specs.Pixels.{AreBytes, firstThree, byteAt}
 use Rattle.sharpen_row.proofs.Signed.{kept, read-small}
+
+-- ---- one of three places
+
+pub by-three : (P : ℕ → Type 0) → P 0 → P 1 → P 2 → (i : ℕ) → i < 3 → P i
+by-three P p q r zero h = p
+by-three P p q r (suc zero) h = q
+by-three P p q r (suc (suc zero)) h = r
+by-three P p q r (suc (suc (suc i))) h = absurd (omega arith)
 
 -- ---- the order of a pixel's bytes
 
@@ -47,8 +56,12 @@ colour-same s f same =
     let o = offsets (s .channels) in
     rw (same (rOffset (s .channels)) (o .0), same (gOffset (s .channels)) (o .1), same (bOffset (s .channels)) (o .2))
 
-pub chroma-same : (d : FrameDescription) {p q : ℕ → ℕ} → ((i : ℕ) → i < 3 → p i ≡ q i) → chromaOf d p ≡ chromaOf d q
-chroma-same d same = rw (colour-same (d .settings) (cbOf (d .settings)) same, colour-same (d .settings) (crOf (d .settings)) same)
+pub three-same : {p q : ℕ → ℕ} → ((i : ℕ) → i < 3 → p i ≡ q i) → firstThree p ≡ firstThree q
+three-same same = rw (same 0 (lit< tt), same 1 (lit< tt), same 2 (lit< tt))
+
+-- bytes that are a pixel's first three are read as they stand in it
+pub colour-read : {b : Bytes} (f : ℕ → ℕ) → b ≡ firstThree f → (i : ℕ) → i < 3 → byteAt b i ≡ f i
+colour-read {b} f e = by-three (λ i. byteAt b i ≡ f i) (ap (λ (c : Bytes). c .b0) e) (ap (λ (c : Bytes). c .b1) e) (ap (λ (c : Bytes). c .b2) e)
 
 turned : (x y z : ℤ) → x +ℤ y +ℤ z ≡ z +ℤ y +ℤ x
 turned x y z = +ℤ-comm (x +ℤ y) z ∙ ap (λ (w : ℤ). z +ℤ w) (+ℤ-comm x y) ∙ sym (+ℤ-assoc z y x)

@@ -4,12 +4,8 @@ use mathlib.Core.Path.{_≡_}
 use mathlib.Core.List.{List}
 use Prim.Native.Nat.{ℕ, zero, suc, _+_, _*_, _/_, _%_, _<_}
 use lib.ListN.{getD}
-use Rattle.definitions.specs.declared.FrameDescription.{FrameDescription}
-use Rattle.definitions.specs.Pixel.{cbOf, crOf}
-use Rattle.definitions.specs.Row.{ofColour}
 use Rattle.sharpen_row.specs.declared.pixels.Bytes.{Bytes}
 use Rattle.sharpen_row.specs.declared.pixels.Sums.{Sums}
-use Rattle.sharpen_row.specs.declared.pixels.Chroma.{Chroma}
 
 -- the first three bytes of a pixel, and back
 abbrev pub firstThree : (ℕ → ℕ) → Bytes
@@ -77,7 +73,3 @@ pub record Linears (l : Sums) : Type 0 where
 
 abbrev pub correctedBy : (gamma : List ℕ) → Sums → ℕ → ℕ
 correctedBy gamma l i = getD gamma (sumAt l i) 0
-
--- both chroma bytes of a colour
-abbrev pub chromaOf : FrameDescription → (ℕ → ℕ) → Chroma
-chromaOf d f = record { cb = ofColour (d .settings) (cbOf (d .settings)) f; cr = ofColour (d .settings) (crOf (d .settings)) f }

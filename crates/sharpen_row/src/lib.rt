@@ -13,12 +13,11 @@ pub mod tables; // tables.rt: weights and tables
 ghost use mathlib.Core.Path.{_≡_};
 ghost use Prim.Native.Nat.{_+_, _*_, _-_, _/_, _≤_, _<_, min};
 ghost use lib.ListN.{length};
-ghost use Rattle.definitions.specs.Painted.{Painted};
 ghost use Rattle.definitions.specs.Row.{pixelsOf, input420};
-ghost use Rattle.definitions.specs.Image.{pixelSize};
+ghost use Rattle.definitions.specs.Image.{pixelSize, chromaSize};
 ghost use Rattle.sharpen_row.specs.Tables.{Summed, Prepared};
-ghost use Rattle.sharpen_row.specs.Rows.{lumas, inputs420, inputs422, RowOf, LumaRoom, ChromaRoom, Lent420, Lent422};
-ghost use Rattle.sharpen_row.specs.Rows.{LumaWritten, LumasPainted, LumasWritten, ChromaPainted, ChromaWritten};
+ghost use Rattle.sharpen_row.specs.Rows.{inputs420, inputs422, RowOf, ChromaRoom, Room420, Room422, Lent420, Lent422};
+ghost use Rattle.sharpen_row.specs.Rows.{LumaWritten, LumasWritten, ChromaWritten, Begun420, Begun422, Stepped};
 use definitions::FrameDescription;
 use pixels::Block;
 use tables::Conversion;
@@ -89,14 +88,13 @@ pub fn chroma_row420(
         let next = right_of(x, width);
         let a = pixels::pair(this, count, x, next, sums);
         let b = pixels::pair(below, under, x, next, sums);
-        let c = pixels::mixed(rows, pixels::sixteenths(a, b), gamma);
-        u[j] = c.cb;
-        v[j] = c.cr;
+        let c = pixels::mixed(pixels::sixteenths(a, b), gamma);
+        pixels::put_chroma(rows, c, j, u, v);
         j += 1;
     }
 }
 
-// Two rows of 3 bytes a pixel, as far as their last whole pair. The bytes of a pixel are a number here: the loop is a tenth faster than with a
+// Two rows of 3 bytes a pixel, as far as their last whole four. The bytes of a pixel are a number here: the loop is a tenth faster than with a
 // variable.
 fn rgb420(
     rows: Conversion,
@@ -109,23 +107,16 @@ fn rgb420(
     gamma: &[u8; 65536],
 )
     requires { ⌜ Prepared rows (now sums) (now gamma) ⌝ }
-    requires { ⌜ RowOf (rows .frame) 3 (now this) ⌝ }
-    requires { ⌜ RowOf (rows .frame) 3 (now below) ⌝ }
-    requires { ⌜ LumaRoom (rows .frame) (now y) ⌝ }
-    requires { ⌜ ChromaRoom (rows .frame) (now u) (now v) ⌝ }
-    ensures { λ _. ⌜ LumasPainted (rows .frame) 3 (now (this .entry)) (now (below .entry)) (2 * (rows .frame .width / 2)) (now (y .entry)) (now (y .exit)) ⌝ }
-    ensures { λ _. ⌜ ChromaPainted (rows .frame) (inputs420 (rows .frame) 3 (now (this .entry)) (now (below .entry)))
-        (rows .frame .width / 2) (now (u .entry)) (now (v .entry)) (now (u .exit)) (now (v .exit)) ⌝ }
+    requires { ⌜ Room420 (rows .frame) 3 (now this) (now below) (now y) (now u) (now v) ⌝ }
+    ensures { λ _. ⌜ Begun420 (rows .frame) 3 (now (this .entry)) (now (below .entry)) (2 * (rows .frame .width / 4))
+        (now (y .entry)) (now (u .entry)) (now (v .entry)) (now (y .exit)) (now (u .exit)) (now (v .exit)) ⌝ }
 {
     let frame = rows.frame;
-    let pairs = frame.width as usize / 2;
-    let mut j = 0;
-    while j < pairs {
-        let block = Block { j, next: 2 * j + 1 };
-        let c = pixels::block420(rows, this, below, 3, block, y, sums, gamma);
-        u[j] = c.cb;
-        v[j] = c.cr;
-        j += 1;
+    let turns = frame.width as usize / 4;
+    let mut k = 0;
+    while k < turns {
+        pixels::four420(rows, this, below, 3, 2 * k, y, u, v, sums, gamma);
+        k += 1;
     }
 }
 
@@ -141,31 +132,26 @@ fn rgba420(
     gamma: &[u8; 65536],
 )
     requires { ⌜ Prepared rows (now sums) (now gamma) ⌝ }
-    requires { ⌜ RowOf (rows .frame) 4 (now this) ⌝ }
-    requires { ⌜ RowOf (rows .frame) 4 (now below) ⌝ }
-    requires { ⌜ LumaRoom (rows .frame) (now y) ⌝ }
-    requires { ⌜ ChromaRoom (rows .frame) (now u) (now v) ⌝ }
-    ensures { λ _. ⌜ LumasPainted (rows .frame) 4 (now (this .entry)) (now (below .entry)) (2 * (rows .frame .width / 2)) (now (y .entry)) (now (y .exit)) ⌝ }
-    ensures { λ _. ⌜ ChromaPainted (rows .frame) (inputs420 (rows .frame) 4 (now (this .entry)) (now (below .entry)))
-        (rows .frame .width / 2) (now (u .entry)) (now (v .entry)) (now (u .exit)) (now (v .exit)) ⌝ }
+    requires { ⌜ Room420 (rows .frame) 4 (now this) (now below) (now y) (now u) (now v) ⌝ }
+    ensures { λ _. ⌜ Begun420 (rows .frame) 4 (now (this .entry)) (now (below .entry)) (2 * (rows .frame .width / 4))
+        (now (y .entry)) (now (u .entry)) (now (v .entry)) (now (y .exit)) (now (u .exit)) (now (v .exit)) ⌝ }
 {
     let frame = rows.frame;
-    let pairs = frame.width as usize / 2;
-    let mut j = 0;
-    while j < pairs {
-        let block = Block { j, next: 2 * j + 1 };
-        let c = pixels::block420(rows, this, below, 4, block, y, sums, gamma);
-        u[j] = c.cb;
-        v[j] = c.cr;
-        j += 1;
+    let turns = frame.width as usize / 4;
+    let mut k = 0;
+    while k < turns {
+        pixels::four420(rows, this, below, 4, 2 * k, y, u, v, sums, gamma);
+        k += 1;
     }
 }
 
-// Two rows as far as their last whole pair.
-fn pairs420(
+// Two rows, four pixels a turn, as far as the last whole four. A row without one returns first, so that neither loop is tested before its first
+// turn: with those tests there the compiler copies the whole gamma table once a call.
+fn fours420(
     rows: Conversion,
     this: &[u8],
     below: &[u8],
+    count: usize,
     y: &mut [u8],
     u: &mut [u8],
     v: &mut [u8],
@@ -173,18 +159,48 @@ fn pairs420(
     gamma: &[u8; 65536],
 )
     requires { ⌜ Prepared rows (now sums) (now gamma) ⌝ }
-    requires { ⌜ Lent420 (rows .frame) (now this) (now below) (now y) (now u) (now v) ⌝ }
-    ensures { λ _. ⌜ LumasPainted (rows .frame) (pixelSize (rows .frame)) (now (this .entry)) (now (below .entry))
-        (2 * (rows .frame .width / 2)) (now (y .entry)) (now (y .exit)) ⌝ }
-    ensures { λ _. ⌜ ChromaPainted (rows .frame) (inputs420 (rows .frame) (pixelSize (rows .frame)) (now (this .entry)) (now (below .entry)))
-        (rows .frame .width / 2) (now (u .entry)) (now (v .entry)) (now (u .exit)) (now (v .exit)) ⌝ }
+    requires { ⌜ Room420 (rows .frame) count (now this) (now below) (now y) (now u) (now v) ⌝ }
+    requires { ⌜ count ≤ 4 ⌝ }
+    ensures { λ _. ⌜ Begun420 (rows .frame) count (now (this .entry)) (now (below .entry)) (2 * (rows .frame .width / 4))
+        (now (y .entry)) (now (u .entry)) (now (v .entry)) (now (y .exit)) (now (u .exit)) (now (v .exit)) ⌝ }
 {
     let frame = rows.frame;
-    let count = pixel_size(frame);
+    if frame.width < 4 {
+        return;
+    }
     if count == 3 {
         rgb420(rows, this, below, y, u, v, sums, gamma);
     } else {
         rgba420(rows, this, below, y, u, v, sums, gamma);
+    }
+}
+
+// The pixels after the last whole four.
+fn rest420(
+    rows: Conversion,
+    this: &[u8],
+    below: &[u8],
+    count: usize,
+    y: &mut [u8],
+    u: &mut [u8],
+    v: &mut [u8],
+    sums: &[u64; 1536],
+    gamma: &[u8; 65536],
+)
+    requires { ⌜ Prepared rows (now sums) (now gamma) ⌝ }
+    requires { ⌜ Room420 (rows .frame) count (now this) (now below) (now y) (now u) (now v) ⌝ }
+    ensures { λ _. ⌜ Stepped (Begun420 (rows .frame) count (now (this .entry)) (now (below .entry))) (2 * (rows .frame .width / 4)) (chromaSize (rows .frame))
+        (now (y .entry)) (now (u .entry)) (now (v .entry)) (now (y .exit)) (now (u .exit)) (now (v .exit)) ⌝ }
+{
+    let frame = rows.frame;
+    let width = frame.width as usize;
+    let mut j = 2 * (width / 4);
+    while 2 * j < width {
+        let next = right_of(2 * j, width);
+        let block = Block { j, next };
+        let b = pixels::block420(rows, this, below, count, block, y, sums, gamma);
+        pixels::put_chroma(rows, b, j, u, v);
+        j += 1;
     }
 }
 
@@ -206,20 +222,12 @@ pub fn sharpen_rows420(
     ensures { λ _. ⌜ ChromaWritten (rows .frame) (inputs420 (rows .frame) (pixelSize (rows .frame)) (now (this .entry)) (now (below .entry)))
         (now (u .entry)) (now (v .entry)) (now (u .exit)) (now (v .exit)) ⌝ }
 {
-    let frame = rows.frame;
-    let width = frame.width as usize;
-    let count = pixel_size(frame);
-    pairs420(rows, this, below, y, u, v, sums, gamma);
-    if width % 2 == 1 {
-        let j = width / 2;
-        let block = Block { j, next: 2 * j };
-        let c = pixels::block420(rows, this, below, count, block, y, sums, gamma);
-        u[j] = c.cb;
-        v[j] = c.cr;
-    }
+    let count = pixel_size(rows.frame);
+    fours420(rows, this, below, count, y, u, v, sums, gamma);
+    rest420(rows, this, below, count, y, u, v, sums, gamma);
 }
 
-// A row of 3 bytes a pixel, as far as its last whole pair.
+// A row of 3 bytes a pixel, as far as its last whole four.
 fn rgb422(
     rows: Conversion,
     this: &[u8],
@@ -230,22 +238,16 @@ fn rgb422(
     gamma: &[u8; 65536],
 )
     requires { ⌜ Prepared rows (now sums) (now gamma) ⌝ }
-    requires { ⌜ RowOf (rows .frame) 3 (now this) ⌝ }
-    requires { ⌜ rows .frame .width ≤ length (now y) ⌝ }
-    requires { ⌜ ChromaRoom (rows .frame) (now u) (now v) ⌝ }
-    ensures { λ _. ⌜ Painted (2 * (rows .frame .width / 2)) (lumas (rows .frame) 3 (now (this .entry))) (now (y .entry)) (now (y .exit)) ⌝ }
-    ensures { λ _. ⌜ ChromaPainted (rows .frame) (inputs422 (rows .frame) 3 (now (this .entry)))
-        (rows .frame .width / 2) (now (u .entry)) (now (v .entry)) (now (u .exit)) (now (v .exit)) ⌝ }
+    requires { ⌜ Room422 (rows .frame) 3 (now this) (now y) (now u) (now v) ⌝ }
+    ensures { λ _. ⌜ Begun422 (rows .frame) 3 (now (this .entry)) (2 * (rows .frame .width / 4))
+        (now (y .entry)) (now (u .entry)) (now (v .entry)) (now (y .exit)) (now (u .exit)) (now (v .exit)) ⌝ }
 {
     let frame = rows.frame;
-    let pairs = frame.width as usize / 2;
-    let mut j = 0;
-    while j < pairs {
-        let block = Block { j, next: 2 * j + 1 };
-        let c = pixels::block422(rows, this, 3, block, y, sums, gamma);
-        u[j] = c.cb;
-        v[j] = c.cr;
-        j += 1;
+    let turns = frame.width as usize / 4;
+    let mut k = 0;
+    while k < turns {
+        pixels::four422(rows, this, 3, 2 * k, y, u, v, sums, gamma);
+        k += 1;
     }
 }
 
@@ -260,29 +262,24 @@ fn rgba422(
     gamma: &[u8; 65536],
 )
     requires { ⌜ Prepared rows (now sums) (now gamma) ⌝ }
-    requires { ⌜ RowOf (rows .frame) 4 (now this) ⌝ }
-    requires { ⌜ rows .frame .width ≤ length (now y) ⌝ }
-    requires { ⌜ ChromaRoom (rows .frame) (now u) (now v) ⌝ }
-    ensures { λ _. ⌜ Painted (2 * (rows .frame .width / 2)) (lumas (rows .frame) 4 (now (this .entry))) (now (y .entry)) (now (y .exit)) ⌝ }
-    ensures { λ _. ⌜ ChromaPainted (rows .frame) (inputs422 (rows .frame) 4 (now (this .entry)))
-        (rows .frame .width / 2) (now (u .entry)) (now (v .entry)) (now (u .exit)) (now (v .exit)) ⌝ }
+    requires { ⌜ Room422 (rows .frame) 4 (now this) (now y) (now u) (now v) ⌝ }
+    ensures { λ _. ⌜ Begun422 (rows .frame) 4 (now (this .entry)) (2 * (rows .frame .width / 4))
+        (now (y .entry)) (now (u .entry)) (now (v .entry)) (now (y .exit)) (now (u .exit)) (now (v .exit)) ⌝ }
 {
     let frame = rows.frame;
-    let pairs = frame.width as usize / 2;
-    let mut j = 0;
-    while j < pairs {
-        let block = Block { j, next: 2 * j + 1 };
-        let c = pixels::block422(rows, this, 4, block, y, sums, gamma);
-        u[j] = c.cb;
-        v[j] = c.cr;
-        j += 1;
+    let turns = frame.width as usize / 4;
+    let mut k = 0;
+    while k < turns {
+        pixels::four422(rows, this, 4, 2 * k, y, u, v, sums, gamma);
+        k += 1;
     }
 }
 
-// A row as far as its last whole pair.
-fn pairs422(
+// A row, four pixels a turn, as far as the last whole four.
+fn fours422(
     rows: Conversion,
     this: &[u8],
+    count: usize,
     y: &mut [u8],
     u: &mut [u8],
     v: &mut [u8],
@@ -290,18 +287,47 @@ fn pairs422(
     gamma: &[u8; 65536],
 )
     requires { ⌜ Prepared rows (now sums) (now gamma) ⌝ }
-    requires { ⌜ Lent422 (rows .frame) (now this) (now y) (now u) (now v) ⌝ }
-    ensures { λ _. ⌜ Painted (2 * (rows .frame .width / 2)) (lumas (rows .frame) (pixelSize (rows .frame)) (now (this .entry)))
-        (now (y .entry)) (now (y .exit)) ⌝ }
-    ensures { λ _. ⌜ ChromaPainted (rows .frame) (inputs422 (rows .frame) (pixelSize (rows .frame)) (now (this .entry)))
-        (rows .frame .width / 2) (now (u .entry)) (now (v .entry)) (now (u .exit)) (now (v .exit)) ⌝ }
+    requires { ⌜ Room422 (rows .frame) count (now this) (now y) (now u) (now v) ⌝ }
+    requires { ⌜ count ≤ 4 ⌝ }
+    ensures { λ _. ⌜ Begun422 (rows .frame) count (now (this .entry)) (2 * (rows .frame .width / 4))
+        (now (y .entry)) (now (u .entry)) (now (v .entry)) (now (y .exit)) (now (u .exit)) (now (v .exit)) ⌝ }
 {
     let frame = rows.frame;
-    let count = pixel_size(frame);
+    if frame.width < 4 {
+        return;
+    }
     if count == 3 {
         rgb422(rows, this, y, u, v, sums, gamma);
     } else {
         rgba422(rows, this, y, u, v, sums, gamma);
+    }
+}
+
+// The pixels after the last whole four.
+fn rest422(
+    rows: Conversion,
+    this: &[u8],
+    count: usize,
+    y: &mut [u8],
+    u: &mut [u8],
+    v: &mut [u8],
+    sums: &[u64; 1536],
+    gamma: &[u8; 65536],
+)
+    requires { ⌜ Prepared rows (now sums) (now gamma) ⌝ }
+    requires { ⌜ Room422 (rows .frame) count (now this) (now y) (now u) (now v) ⌝ }
+    ensures { λ _. ⌜ Stepped (Begun422 (rows .frame) count (now (this .entry))) (2 * (rows .frame .width / 4)) (chromaSize (rows .frame))
+        (now (y .entry)) (now (u .entry)) (now (v .entry)) (now (y .exit)) (now (u .exit)) (now (v .exit)) ⌝ }
+{
+    let frame = rows.frame;
+    let width = frame.width as usize;
+    let mut j = 2 * (width / 4);
+    while 2 * j < width {
+        let next = right_of(2 * j, width);
+        let block = Block { j, next };
+        let b = pixels::block422(rows, this, count, block, y, sums, gamma);
+        pixels::put_chroma(rows, b, j, u, v);
+        j += 1;
     }
 }
 
@@ -322,15 +348,7 @@ pub fn sharpen_row422(
     ensures { λ _. ⌜ ChromaWritten (rows .frame) (inputs422 (rows .frame) (pixelSize (rows .frame)) (now (this .entry)))
         (now (u .entry)) (now (v .entry)) (now (u .exit)) (now (v .exit)) ⌝ }
 {
-    let frame = rows.frame;
-    let width = frame.width as usize;
-    let count = pixel_size(frame);
-    pairs422(rows, this, y, u, v, sums, gamma);
-    if width % 2 == 1 {
-        let j = width / 2;
-        let block = Block { j, next: 2 * j };
-        let c = pixels::block422(rows, this, count, block, y, sums, gamma);
-        u[j] = c.cb;
-        v[j] = c.cr;
-    }
+    let count = pixel_size(rows.frame);
+    fours422(rows, this, count, y, u, v, sums, gamma);
+    rest422(rows, this, count, y, u, v, sums, gamma);
 }

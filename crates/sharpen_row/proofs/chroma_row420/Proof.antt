@@ -5,8 +5,8 @@ use Prim.Native.Nat.{ℕ, _+_, _*_, _-_, _/_, _≤_, _<_}
 use native.Mathlib.Omega.{arith}
 use borrow.Author.Needs.{needs}
 use Rattle.definitions.specs.Row.{Pixels, pixelsOf, input420}
-use Rattle.sharpen_row.specs.Rows.{ChromaPainted}
-use Rattle.sharpen_row.proofs.Pairs.{row-of, pair-ready, over-ready, linears420-ready, chroma420-is, chroma-none, chroma-next}
+use Rattle.sharpen_row.specs.Rows.{ChromaRoom, ChromaPainted}
+use Rattle.sharpen_row.proofs.Pairs.{row-of, pair-ready, over-ready, linears420-ready, colour420-is, chroma-none, chroma-next, chroma-room}
 use Rattle.sharpen_row.proofs.chroma_row420.Statement.{statement}
 use Rattle.sharpen_row.proofs.chroma_row420.Tie as tie
 
@@ -59,30 +59,37 @@ mixed-requires : tie.Need-mixed-requires Inv-loop μ-loop
 mixed-requires m κs =
     let p = m .before in
     let c = p .before .before in
-    (start c .pre .0 .summed .converts, linears420-ready (start c .pre .0) (loop c .loop .j) (c .right-of .result) (inside c) (c .right-of .ensures) (upper c) (lower c) (p .before .pair .ensures) (p .pair2 .ensures) (m .sixteenths .ensures))
+    linears420-ready (start c .pre .0) (loop c .loop .j) (c .right-of .result) (inside c) (c .right-of .ensures) (upper c) (lower c) (p .before .pair .ensures) (p .pair2 .ensures) (m .sixteenths .ensures)
 
 abbrev Turn : tie.After-mixed Inv-loop μ-loop → tie.After-right-of Inv-loop μ-loop
 Turn c = c .before .before .before .before
 
-slice-write-u : tie.Need-slice-write-u Inv-loop μ-loop
-slice-write-u m = let c = Turn m in omega (arith, c .before .loop-test .taken, start c .pre .1 .1 .1 .in-u, loop c .loop .inv .1 .cb .size)
+abbrev Put : tie.After-slice-known4 Inv-loop μ-loop → tie.After-put-chroma Inv-loop μ-loop
+Put c = c .before .before .before .before
 
-slice-write-v : tie.Need-slice-write-v Inv-loop μ-loop
-slice-write-v m = let c = Turn m in omega (arith, c .before .loop-test .taken, start c .pre .1 .1 .1 .in-v, loop c .loop .inv .1 .cr .size)
+room : (m : tie.After-mixed Inv-loop μ-loop) → let l = loop (Turn m) in ChromaRoom (start (Turn m) .args .rows .frame) (l .loop .u) (l .loop .v)
+room m = let c = Turn m in let p = loop c .loop .inv .1 in chroma-room _ _ (p .cb .size) (p .cr .size) (start c .pre .1 .1 .1)
+
+put-chroma-requires : tie.Need-put-chroma-requires Inv-loop μ-loop
+put-chroma-requires c κs =
+    let m = c .before .before in
+    let test = Turn m .before .loop-test .taken in
+    (start (Turn m) .pre .0 .summed .converts, (omega (arith, test, room m .in-u), omega (arith, test, room m .in-v)))
 
 add-j : tie.Need-add-j Inv-loop μ-loop
-add-j m = let c = Turn m in omega (arith, c .before .loop-test .taken)
+add-j p = let c = Turn (Put p .before .before .before) in omega (arith, c .before .loop-test .taken)
 
 loop-less : tie.Need-loop-less Inv-loop μ-loop
-loop-less m = let c = Turn m in omega (arith, c .before .loop-test .taken)
+loop-less p = let c = Turn (Put p .before .before .before) in omega (arith, c .before .loop-test .taken)
 
 loop-again : tie.Need-loop-again Inv-loop μ-loop
-loop-again m =
+loop-again q =
+    let m = Put q .before .before .before in
     let p = m .before .before in
     let c = Turn m in
     let test = c .before .loop-test .taken in
-    let e = chroma420-is (start c .pre .0) (loop c .loop .j) (c .right-of .result) (inside c) (c .right-of .ensures) (upper c) (lower c) (p .before .pair .ensures) (p .pair2 .ensures) (m .before .sixteenths .ensures) (m .mixed .ensures) in
-    (omega (arith, test), chroma-next (omega (arith, test)) (start c .pre .1 .1 .1) (loop c .loop .inv .1) e)
+    let e = colour420-is (start c .pre .0) (loop c .loop .j) (c .right-of .result) (inside c) (c .right-of .ensures) (upper c) (lower c) (p .before .pair .ensures) (p .pair2 .ensures) (m .before .sixteenths .ensures) (m .mixed .ensures) in
+    (omega (arith, test), chroma-next (omega (arith, test)) (room m) e (Put q .put-chroma .ensures) (loop c .loop .inv .1))
 
 returns : tie.Need-returns Inv-loop μ-loop
 returns c =
@@ -110,8 +117,7 @@ chroma-row420-spec =
     pair-requires-2
     sixteenths-requires
     mixed-requires
-    slice-write-u
-    slice-write-v
+    put-chroma-requires
     add-j
     loop-less
     loop-again

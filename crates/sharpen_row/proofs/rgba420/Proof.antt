@@ -1,48 +1,35 @@
--- `rgba420` meets its contract. The invariant: the first 2j bytes of both luma rows and the first j of both chroma rows are painted; proofs/Pairs.antt has a
--- turn, for any bytes of a pixel.
+-- `rgba420` meets its contract. The invariant: luma and chroma are begun as far as chroma byte 2k.
 -- Assumes nothing.
 use mathlib.Core.Path.{_≡_}
 use Prim.Native.Nat.{_*_, _-_, _/_, _≤_}
 use native.Mathlib.Omega.{arith}
 use borrow.Author.Needs.{needs}
-use Rattle.sharpen_row.proofs.Pairs.{Begun420, begun420-none, begun420-pair, begun420-to, pair-in-row, luma-room}
+use Rattle.sharpen_row.specs.Rows.{Begun420}
+use Rattle.sharpen_row.proofs.Pairs.{begun420-none, begun-to, room420, turn}
 use Rattle.sharpen_row.proofs.rgba420.Statement.{statement}
 use Rattle.sharpen_row.proofs.rgba420.Tie as tie
 
 abbrev Inv-loop : tie.InvT-loop
-Inv-loop rows this below y₀ u₀ v₀ sums gamma pairs j₀ y u v j = (j ≤ pairs) × Begun420 (rows .frame) 4 this below (2 * j) j y₀ u₀ v₀ y u v
+Inv-loop rows this below y₀ u₀ v₀ sums gamma turns k₀ y u v k = (k ≤ turns) × Begun420 (rows .frame) 4 this below (2 * k) y₀ u₀ v₀ y u v
 
 abbrev μ-loop : tie.MeasureT-loop
-μ-loop rows this below y₀ u₀ v₀ sums gamma pairs j₀ y u v j = pairs - j
+μ-loop rows this below y₀ u₀ v₀ sums gamma turns k₀ y u v k = turns - k
 
 abbrev Start : tie.At-loop Inv-loop μ-loop → tie.Start Inv-loop μ-loop
 Start l = l .before .before .before .before .before .before .before .before
 
-abbrev Turn : tie.After-slice-known4 Inv-loop μ-loop → tie.In-loop Inv-loop μ-loop
-Turn c = c .before .before .before .before
+four420-requires : tie.Need-four420-requires Inv-loop μ-loop
+four420-requires c κs =
+    let turn = c .before .before .before in
+    let a = Start (turn .before) in
+    let b = turn .before .loop .inv .1 in
+    (a .pre .0, (room420 (a .args .y .now) (a .args .u .now) (a .args .v .now) (b .luma .size) (b .chroma .cb .size) (b .chroma .cr .size) (a .pre .1), omega (arith, turn .loop-test .taken)))
 
-block420-requires : tie.Need-block420-requires Inv-loop μ-loop
-block420-requires c κs =
-    let l = c .before .before in
-    let p = Start l .pre in
-    (p .0, (p .1 .0, (p .1 .1 .0, (pair-in-row (Start l .args .rows .frame) (l .loop .j) (c .before .loop-test .taken), luma-room (Start l .args .y .now) (l .loop .inv .1 .luma .size) (p .1 .1 .1 .0)))))
-
-loop-again : tie.Need-loop-again Inv-loop μ-loop
-loop-again c =
-    let b = c .before .before .block420 .ensures in
-    let test = Turn c .loop-test .taken in
-    let l = Turn c .before in
-    let p = Start l .pre in
-    (omega (arith, test), begun420-pair _ _ (l .loop .j) test (p .1 .1 .1 .1) (p .1 .1 .1 .0) (l .loop .inv .1) (b .0) (b .1))
+abbrev Four : tie.After-slice-known6 Inv-loop μ-loop → tie.After-four420 Inv-loop μ-loop
+Four c = c .before .before .before .before .before .before
 
 returns : tie.Need-returns Inv-loop μ-loop
-returns c =
-    let l = c .before in
-    let w = Start l .args .rows .frame .width in
-    let end : l .loop .j ≡ w / 2 = omega (arith, c .loop-test .left, l .loop .inv .0) in
-    let two : 2 * l .loop .j ≡ 2 * (w / 2) = omega (arith, end) in
-    let b = begun420-to _ _ two end (l .loop .inv .1) in
-    (b .luma, b .chroma)
+returns c = begun-to (omega (arith, c .loop-test .left, c .before .loop .inv .0)) (c .before .loop .inv .1)
 
 pub rgba420-spec : {M : Type 1} → statement M
 rgba420-spec =
@@ -53,14 +40,11 @@ rgba420-spec =
     (λ c. search needs)
     (λ c. (omega arith, begun420-none _ _ _ _ _ _ _))
     (λ c. search needs)
-    (λ c. search needs)
-    block420-requires
-    (λ c. let l = Turn c .before in omega (arith, Turn c .loop-test .taken, Start l .pre .1 .1 .1 .1 .in-u, l .loop .inv .1 .chroma .cb .size))
-    (λ c. let l = Turn c .before in omega (arith, Turn c .loop-test .taken, Start l .pre .1 .1 .1 .1 .in-v, l .loop .inv .1 .chroma .cr .size))
-    (λ c. omega (arith, Turn c .loop-test .taken))
-    (λ c. omega (arith, Turn c .loop-test .taken))
-    loop-again
-    (λ c. returns c .0 .size)
-    (λ c. returns c .1 .cb .size)
-    (λ c. returns c .1 .cr .size)
+    four420-requires
+    (λ c. omega (arith, Four c .before .before .before .before .loop-test .taken))
+    (λ c. omega (arith, Four c .before .before .before .before .loop-test .taken))
+    (λ c. let t = Four c .before .before .before .before in (omega (arith, t .loop-test .taken), turn (t .before .loop .k) (Four c .four420 .ensures) (t .before .loop .inv .1)))
+    (λ c. returns c .luma .size)
+    (λ c. returns c .chroma .cb .size)
+    (λ c. returns c .chroma .cr .size)
     returns)

@@ -1,82 +1,48 @@
--- `sharpen_row422` meets its contract: the pairs, and a block more where there is an odd last pixel.
+-- `sharpen_row422` meets its contract: pixels in fours, and the rest.
 -- Assumes nothing.
-use mathlib.Core.Path.{_≡_, sym}
-use Prim.Native.Nat.{_+_, _*_, _/_}
+use mathlib.Core.Path.{_≡_}
 use native.Mathlib.Omega.{arith}
 use borrow.Author.Needs.{needs}
-use Rattle.sharpen_row.proofs.Pairs.{row-of, begun422-next, begun422-to, begun422-as}
+use Rattle.sharpen_row.proofs.Pairs.{lent422, room422, written422}
 use Rattle.sharpen_row.proofs.sharpen_row422.Statement.{statement}
 use Rattle.sharpen_row.proofs.sharpen_row422.Tie as tie
 
-abbrev Pairs : tie.After-slice-known6 → tie.After-pairs422
-Pairs c = c .before .before .before .before .before .before
+abbrev Start : tie.After-fours422-arg3 → tie.Start
+Start c = c .before .before .before .before .before .before .before .before
 
-abbrev Size : tie.After-slice-known6 → tie.After-pixel-size
-Size c = Pairs c .before .before .before .before
+abbrev Size : tie.After-fours422-arg3 → tie.After-pixel-size
+Size c = c .before .before .before
 
-abbrev Start : tie.After-slice-known6 → tie.Start
-Start c = Size c .before .before .before .before .before .before .before
+fours422-requires : tie.Need-fours422-requires
+fours422-requires c κs =
+    let a = Start c in
+    let size = Size c .pixel-size .ensures in
+    (a .pre .0, (lent422 (size .0) (a .pre .1), size .2))
 
-block422-requires : tie.Need-block422-requires
-block422-requires c κs =
-    let known = c .before .before in
-    let a = Start known in
-    let lent = a .pre .1 in
-    let odd = c .before .if1 .taken in
-    (a .pre .0, (row-of (a .args .this .now) (Size known .pixel-size .ensures .0) (lent .row), (record { inside = omega (arith, odd); next = omega (arith, odd) }, omega (arith, lent .luma, Pairs known .pairs422 .ensures .0 .size))))
+abbrev Fours : tie.After-rest422-arg3 → tie.After-fours422
+Fours c = c .before .before .before .before .before .before .before .before .before
 
-abbrev Odd : tie.After-slice-known7 → tie.Then1
-Odd c = c .before .before .before .before
-
-slice-write-u : tie.Need-slice-write-u
-slice-write-u c = let known = Odd c .before in omega (arith, Odd c .if1 .taken, Start known .pre .1 .chroma .in-u, Pairs known .pairs422 .ensures .1 .cb .size)
-
-slice-write-v : tie.Need-slice-write-v
-slice-write-v c = let known = Odd c .before in omega (arith, Odd c .if1 .taken, Start known .pre .1 .chroma .in-v, Pairs known .pairs422 .ensures .1 .cr .size)
+rest422-requires : tie.Need-rest422-requires
+rest422-requires c κs =
+    let fours = Fours c in
+    let a = Start (fours .before) in
+    let b = fours .fours422 .ensures in
+    (a .pre .0, room422 (a .args .y .now) (a .args .u .now) (a .args .v .now) (b .luma .size) (b .chroma .cb .size) (b .chroma .cr .size) (lent422 (Size (fours .before) .pixel-size .ensures .0) (a .pre .1)))
 
 returns : tie.Need-returns
 returns c =
-    let odd = Odd c .if1 .taken in
-    let known = Odd c .before in
-    let a = Start known in
-    let lent = a .pre .1 in
-    let d = a .args .rows .frame in
-    let j = d .width / 2 in
-    let size = Size known .pixel-size .ensures .0 in
-    let pairs = Pairs known .pairs422 .ensures in
-    let block = c .before .before .block422 .ensures in
-    let end : 2 * j + 1 ≡ d .width = omega (arith, odd) in
-    let last : j + 1 ≡ (d .width + 1) / 2 = omega (arith, odd) in
-    let all = begun422-next d _ j (2 * j) (omega (arith, odd)) (omega (arith, odd)) (lent .chroma) (lent .luma) (begun422-as (sym size) (record { luma = pairs .0; chroma = pairs .1 })) (block .0) (block .1) in
-    let b = begun422-as size (begun422-to d _ end last all) in
-    (b .luma, b .chroma)
-
-returns-2 : tie.Need-returns-2
-returns-2 c =
-    let even = c .if1 .left in
-    let d = Start (c .before) .args .rows .frame in
-    let end : 2 * (d .width / 2) ≡ d .width = omega (arith, even) in
-    let last : d .width / 2 ≡ (d .width + 1) / 2 = omega (arith, even) in
-    let pairs = Pairs (c .before) .pairs422 .ensures in
-    let b = begun422-to d _ end last (record { luma = pairs .0; chroma = pairs .1 }) in
-    (b .luma, b .chroma)
+    let rest = c .before .before .before .before .before .before in
+    let fours = Fours (rest .before) in
+    written422 _ (Size (fours .before) .pixel-size .ensures .0) (rest .rest422 .ensures .further _ _ _ (fours .fours422 .ensures))
 
 pub sharpen-row422-spec : {M : Type 1} → statement M
 sharpen-row422-spec =
     tie.close
     (tie.spec
-    (λ c. search needs)
     (λ c κs. search needs)
-    (λ c κs. search needs)
-    (λ c. search needs)
-    block422-requires
-    slice-write-u
-    slice-write-v
+    fours422-requires
+    rest422-requires
     (λ c. returns c .0 .size)
     (λ c. returns c .1 .cb .size)
     (λ c. returns c .1 .cr .size)
-    returns
-    (λ c. returns-2 c .0 .size)
-    (λ c. returns-2 c .1 .cb .size)
-    (λ c. returns-2 c .1 .cr .size)
-    returns-2)
+    returns)

@@ -7,7 +7,7 @@ use borrow.Author.Needs.{needs}
 use Rattle.definitions.specs.Row.{Pixels, pixelsOf, lumaRow}
 use Rattle.sharpen_row.specs.Rows.{putPair}
 use Rattle.sharpen_row.proofs.TwoRows.{length-pair}
-use Rattle.sharpen_row.proofs.Pairs.{over-ready, linears420-ready, chroma420-is}
+use Rattle.sharpen_row.proofs.Pairs.{over-ready, linears420-ready, colour420-is}
 use Rattle.sharpen_row.proofs.pixels.block420.Statement.{statement}
 use Rattle.sharpen_row.proofs.pixels.block420.Tie as tie
 
@@ -56,7 +56,7 @@ mixed-requires c κs =
     let first = First second in
     let a = Start (first .before) in
     let i = a .pre .1 .1 .1 .0 in
-    (a .pre .0 .summed .converts, linears420-ready (a .pre .0) (a .args .block .j) (a .args .block .next) (i .inside) (i .next) (upper a) (lower a) (first .luma-pair .ensures .0) (second .luma-pair2 .ensures .0) (c .sixteenths .ensures))
+    linears420-ready (a .pre .0) (a .args .block .j) (a .args .block .next) (i .inside) (i .next) (upper a) (lower a) (first .luma-pair .ensures .0) (second .luma-pair2 .ensures .0) (c .sixteenths .ensures)
 
 returns : tie.Need-returns
 returns c =
@@ -64,7 +64,7 @@ returns c =
     let first = First second in
     let a = Start (first .before) in
     let i = a .pre .1 .1 .1 .0 in (
-      chroma420-is (a .pre .0) (a .args .block .j) (a .args .block .next) (i .inside) (i .next) (upper a) (lower a) (first .luma-pair .ensures .0) (second .luma-pair2 .ensures .0) (c .before .sixteenths .ensures) (c .mixed .ensures),
+      colour420-is (a .pre .0) (a .args .block .j) (a .args .block .next) (i .inside) (i .next) (upper a) (lower a) (first .luma-pair .ensures .0) (second .luma-pair2 .ensures .0) (c .before .sixteenths .ensures) (c .mixed .ensures),
       second .luma-pair2 .ensures .1
           ∙ ap (putPair (a .args .rows .frame .«y_stride») (2 * a .args .block .j) (a .args .block .next) (lumaRow (a .args .rows .frame) (lower a))) (first .luma-pair .ensures .1),
     )

@@ -4,12 +4,11 @@ use mathlib.Core.Path.{_≡_, _∙_}
 use Prim.Native.Nat.{ℕ, _+_, _*_, _≤_}
 use native.Mathlib.Omega.{arith}
 use borrow.Author.Needs.{needs}
-use Rattle.definitions.specs.Row.{Pixels, pixelsOf, input422}
-use Rattle.sharpen_row.specs.Pixels.{byteAt, firstThree}
-use Rattle.sharpen_row.proofs.Weights.{chroma-same}
+use Rattle.definitions.specs.Row.{Pixels, pixelsOf}
+use Rattle.sharpen_row.proofs.Weights.{three-same}
 use Rattle.definitions.proofs.Inputs.{input422-last}
-use Rattle.sharpen_row.proofs.Entries.{by-three, in-row}
-use Rattle.sharpen_row.proofs.Pairs.{linears422-ready, chroma422-is}
+use Rattle.sharpen_row.proofs.Entries.{in-row}
+use Rattle.sharpen_row.proofs.Pairs.{linears422-ready, colour422-is}
 use Rattle.sharpen_row.proofs.pixels.block422.Statement.{statement}
 use Rattle.sharpen_row.proofs.pixels.block422.Tie as tie
 
@@ -40,20 +39,18 @@ mixed-requires c κs =
     let pair = Pair (c .before .before) in
     let a = Start (pair .before) in
     let i = a .pre .1 .1 .0 in
-    (a .pre .0 .summed .converts, linears422-ready (a .pre .0) (a .args .block .j) (a .args .block .next) (i .inside) (i .next) (row a) (pair .luma-pair .ensures .0) (right (c .before)) (c .quarters .ensures))
+    linears422-ready (a .pre .0) (a .args .block .j) (a .args .block .next) (i .inside) (i .next) (row a) (pair .luma-pair .ensures .0) (right (c .before)) (c .quarters .ensures)
 
 returns : tie.Need-returns
 returns c =
-    let t = c .before .before in
+    let t = c .before in
     let pair = Pair (t .before) in
     let a = Start (pair .before) in
     let i = a .pre .1 .1 .0 in
     let d = a .args .rows .frame in
     let j = a .args .block .j in
     let last : d .width ≤ 2 * j + 1 = omega (arith, t .if1 .taken, i .inside, i .next) in
-    let own : (k : ℕ) → row a (2 * j) k ≡ input422 d (row a) j k = λ k. input422-last d (row a) j k last in
-    let same = by-three (λ k. byteAt (firstThree (row a (2 * j))) k ≡ input422 d (row a) j k) (own 0) (own 1) (own 2) in
-    (rw (c .before .at .ensures) at (c .chroma-of .ensures) ∙ chroma-same d same, pair .luma-pair .ensures .1)
+    (c .at .ensures ∙ three-same (λ k _. input422-last d (row a) j k last), pair .luma-pair .ensures .1)
 
 returns-2 : tie.Need-returns-2
 returns-2 c =
@@ -61,7 +58,7 @@ returns-2 c =
     let pair = Pair (e .before) in
     let a = Start (pair .before) in
     let i = a .pre .1 .1 .0 in
-    (chroma422-is (a .pre .0) (a .args .block .j) (a .args .block .next) (i .inside) (i .next) (row a) (pair .luma-pair .ensures .0) (right e) (c .before .quarters .ensures) (c .mixed .ensures), pair .luma-pair .ensures .1)
+    (colour422-is (a .pre .0) (a .args .block .j) (a .args .block .next) (i .inside) (i .next) (row a) (pair .luma-pair .ensures .0) (right e) (c .before .quarters .ensures) (c .mixed .ensures), pair .luma-pair .ensures .1)
 
 pub block422-spec : {M : Type 1} → statement M
 block422-spec =
@@ -70,7 +67,6 @@ block422-spec =
     (λ c. search needs)
     luma-pair-requires
     at-requires
-    (λ c κs. search needs)
     (λ c κs. search needs)
     mixed-requires
     (λ c. search needs)

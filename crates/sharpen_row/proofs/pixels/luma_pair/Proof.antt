@@ -1,8 +1,9 @@
 -- `luma_pair` meets its contract: the sums of two pixels hold their lumas.
 -- Assumes nothing.
+use native.Mathlib.Omega.{arith}
 use borrow.Author.Needs.{needs}
 use Rattle.definitions.specs.Row.{pixelsOf}
-use Rattle.sharpen_row.proofs.Pairs.{pair-ready, put-ready, put-is}
+use Rattle.sharpen_row.proofs.Pairs.{pair-ready, fits-ready, lumas-is}
 use Rattle.sharpen_row.proofs.pixels.luma_pair.Statement.{statement}
 use Rattle.sharpen_row.proofs.pixels.luma_pair.Tie as tie
 
@@ -14,13 +15,15 @@ pair-requires c κs =
 put-luma-requires : tie.Need-put-luma-requires
 put-luma-requires c κs =
     let a = c .before .before .before .before in
-    put-ready (a .pre .0) (pixelsOf (a .args .count) (a .args .row .now)) (a .args .x) (a .args .next) (c .before .pair .ensures) (a .args .y .now) (a .args .start) (a .pre .1 .1 .1) (a .pre .1 .1 .0 .0) (a .pre .1 .1 .0 .1)
+    let p = a .pre .1 .1 in
+    ((omega (arith, p), omega (arith, p)), fits-ready (a .pre .0) (pixelsOf (a .args .count) (a .args .row .now)) (a .args .x) (a .args .next) (c .before .pair .ensures))
 
 returns : tie.Need-returns
 returns c =
     let pair = c .before .before .before .before in
     let a = pair .before .before .before in
-    (pair .pair .ensures, put-is (a .pre .0) (pixelsOf (a .args .count) (a .args .row .now)) (a .args .x) (a .args .next) (pair .pair .ensures) (a .args .y .now) (a .args .start) (c .before .before .put-luma .ensures))
+    let l = lumas-is (a .pre .0) (pixelsOf (a .args .count) (a .args .row .now)) (a .args .x) (a .args .next) (pair .pair .ensures) in
+    (pair .pair .ensures, rw (l .0, l .1) at (c .before .before .put-luma .ensures))
 
 pub luma-pair-spec : {M : Type 1} → statement M
 luma-pair-spec = tie.close (tie.spec pair-requires put-luma-requires (λ c. search needs) returns)
