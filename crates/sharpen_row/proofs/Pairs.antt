@@ -8,9 +8,8 @@ use lib.ListN.{length, set, length-set}
 use Rattle.forward_transform.specs.declared.CbCrForwardTransformI32.{CbCrForwardTransformI32}
 use Rattle.sharp_gamma.specs.Entry.{gammaEntry, TableOf}
 use Rattle.definitions.specs.declared.FrameDescription.{FrameDescription}
-use Rattle.definitions.specs.Painted.{Painted}
 use Rattle.definitions.specs.Pixel.{cbOf, crOf}
-use Rattle.definitions.specs.Row.{Pixels, lumaRow, cbRow, crRow, input420, input422}
+use Rattle.definitions.specs.Row.{Pixels, ofColour, lumaRow, cbRow, crRow, input420, input422}
 use Rattle.definitions.specs.Image.{pixelSize, chromaSize}
 use Rattle.sharpen_row.specs.declared.tables.Conversion.{Conversion}
 use Rattle.sharpen_row.specs.declared.pixels.Sums.{Sums}
@@ -18,10 +17,12 @@ use Rattle.sharpen_row.specs.declared.pixels.Bytes.{Bytes}
 use Rattle.sharpen_row.specs.declared.pixels.Block.{Block}
 use Rattle.sharpen_row.specs.Weights.{Weighed, conversionOf}
 use Rattle.sharpen_row.specs.Tables.{SumTables, Summed, Prepared}
-use Rattle.sharpen_row.specs.Pixels.{Paired, Light, total, leftLuma, rightLuma, firstThree, byteAt, sixteenthsOf, quartersOf, correctedBy, Over, Linears}
-use Rattle.sharpen_row.specs.Rows.{lumas, inputs420, inputs422, RowOf, InRow, LumaRoom, ChromaRoom, Room420, Room422, Lent420, Lent422, ChromaPut, LumaWritten, LumasPainted, LumasWritten, ChromaPainted, ChromaWritten, putPair, Begun, Begun420, Begun422, Stepped}
+use Rattle.sharpen_row.specs.Pixels.{Paired, Light, total, leftLuma, rightLuma, firstThree, byteAt, sixteenthsOf, quartersOf, correctedBy, Over, Linears, ColourAt}
+use Rattle.sharpen_row.specs.Rows.{lumas, inputs420, inputs422, RowOf, InRow, LumaRoom, ChromaRoom, Rows420, Row422, Lent420, Lent422, putPair}
+use Rattle.sharpen_row.specs.Rows.{LumaWritten, LumasPainted, LumasWritten, Lumas422, ChromaPainted, ChromaWritten}
+use Rattle.sharpen_row.specs.Rows.{LumaMore, ChromaMore, Begun, Begun420, Begun422, Stepped}
 use Rattle.definitions.proofs.Painted.{painted-none, painted-more}
-use Rattle.sharpen_row.proofs.TwoRows.{two-none, two-to, two-pairs, painted-to, painted-pair}
+use Rattle.sharpen_row.proofs.TwoRows.{two-none, two-to, two-pairs, painted-to, painted-pair, length-as}
 use Rattle.sharpen_row.proofs.Weights.{count-range, colour-same, three-same, colour-read}
 use Rattle.sharpen_row.proofs.Entries.{in-row, light, total-fits, lumas-are, over, linears420, mixed420, linears422, mixed422}
 
@@ -77,30 +78,73 @@ module _ {rows : Conversion} {sums gamma : List ℕ} (p : Prepared rows sums gam
 pub chroma-none : (d : FrameDescription) (input : ℕ → ℕ → ℕ) (u v : List ℕ) → ChromaPainted d input 0 u v u v
 chroma-none d input u v = record { cb = painted-none (cbRow d input) u; cr = painted-none (crRow d input) v }
 
-pub chroma-next : {d : FrameDescription} {input : ℕ → ℕ → ℕ} {j : ℕ} {u₀ v₀ u v u′ v′ : List ℕ} {b : Bytes} → j < chromaSize d → ChromaRoom d u v → b ≡ firstThree (input j)
-    → ChromaPut d (byteAt b) j u v u′ v′ → ChromaPainted d input j u₀ v₀ u v → ChromaPainted d input (j + 1) u₀ v₀ u′ v′
+-- a byte more of each
+pub chroma-more : (d : FrameDescription) (b : Bytes) (j : ℕ) {u v : List ℕ} {cb cr : ℕ} → j < length u → j < length v → cb ≡ ofColour (d .settings) (cbOf (d .settings)) (byteAt b)
+    → cr ≡ ofColour (d .settings) (crOf (d .settings)) (byteAt b) → ChromaMore d (λ input. ColourAt input j b) j (j + 1) u v (set u j cb) (set v j cr)
 unfolding cbRow crRow
-chroma-next {d} {input} {j} h room e put p =
-    let same = colour-read (input j) e in
-    record {
-      cb = rw (put .cb) (painted-more _ (omega (arith, room .in-u)) (colour-same (d .settings) (cbOf (d .settings)) same) (p .cb));
-      cr = rw (put .cr) (painted-more _ (omega (arith, room .in-v)) (colour-same (d .settings) (crOf (d .settings)) same) (p .cr));
-    }
+chroma-more d b j {u} {v} {cb} {cr} hu hv eb er = record {
+  in-u = length-set u j cb;
+  in-v = length-set v j cr;
+  further = λ input is u₀ v₀ p.
+      let same = colour-read (input j) is in
+      record {
+        cb = painted-more cb hu (eb ∙ colour-same (d .settings) (cbOf (d .settings)) same) (p .cb);
+        cr = painted-more cr hv (er ∙ colour-same (d .settings) (crOf (d .settings)) same) (p .cr);
+      };
+}
 
-pub luma-room : {d : FrameDescription} {y : List ℕ} (y₀ : List ℕ) → length y ≡ length y₀ → LumaRoom d y₀ → LumaRoom d y
-luma-room y₀ e room = record { apart = room .apart; size = rw e (room .size) }
+-- and another
+pub chroma-both : {d : FrameDescription} {b c : Bytes} {j : ℕ} {u v u₁ v₁ u₂ v₂ : List ℕ} → ChromaMore d (λ input. ColourAt input j b) j (j + 1) u v u₁ v₁
+    → ChromaMore d (λ input. ColourAt input (j + 1) c) (j + 1) (j + 1 + 1) u₁ v₁ u₂ v₂
+    → ChromaMore d (λ input. ColourAt input j b × ColourAt input (j + 1) c) j (j + 2) u v u₂ v₂
+chroma-both {j = j} p q =
+    let two : j + 1 + 1 ≡ j + 2 = omega arith in
+    record { in-u = q .in-u ∙ p .in-u; in-v = q .in-v ∙ p .in-v; further = λ input is u₀ v₀ r. rw two at (q .further input (is .1) u₀ v₀ (p .further input (is .0) u₀ v₀ r)) }
 
 pub chroma-room : {d : FrameDescription} {u v : List ℕ} (u₀ v₀ : List ℕ) → length u ≡ length u₀ → length v ≡ length v₀ → ChromaRoom d u₀ v₀ → ChromaRoom d u v
 chroma-room u₀ v₀ e f room = record { in-u = rw e (room .in-u); in-v = rw f (room .in-v) }
 
-pub put-sizes : {d : FrameDescription} {f : ℕ → ℕ} {j : ℕ} {u v u′ v′ : List ℕ} → ChromaPut d f j u v u′ v′ → (length u′ ≡ length u) × (length v′ ≡ length v)
-put-sizes p = (ap length (p .cb) ∙ simp length-set, ap length (p .cr) ∙ simp length-set)
+-- ---- luma rows
 
--- ---- what is begun
+-- a block more: of both rows of 4:2:0, and of the row of 4:2:2
+module _ (d : FrameDescription) (count : ℕ) {block : Block} (in-row : InRow d block) where
+  pub luma420-more : {this below y y′ : List ℕ} → Rows420 d count this below y
+      → y′ ≡ putPair (d .«y_stride») (2 * block .j) (block .next) (lumas d count below) (putPair 0 (2 * block .j) (block .next) (lumas d count this) y)
+      → LumaMore (LumasPainted d count this below) d (block .j) (block .j + 1) y y′
+  luma420-more {y = y} rows e = record {
+    size = length-as y e (simp length-set);
+    further = λ y₀ p.
+        rw e (two-to (omega (arith, in-row .inside, in-row .next))
+        (two-pairs (in-row .inside) (in-row .next) (omega (arith, rows .luma .apart, in-row .inside)) (omega (arith, rows .luma .size)) (two-to (omega (arith, in-row .inside)) p)));
+  }
 
-pub begun-to : {L : ℕ → List ℕ → List ℕ → Type 0} {d : FrameDescription} {input : ℕ → ℕ → ℕ} {i j : ℕ} {y₀ u₀ v₀ y u v : List ℕ} → i ≡ j → Begun L d input i y₀ u₀ v₀ y u v
-    → Begun L d input j y₀ u₀ v₀ y u v
-begun-to e p = rw e at p
+  pub luma422-more : {this y y′ : List ℕ} {a b : ℕ} → Row422 d count this y → a ≡ lumas d count this (2 * block .j) → b ≡ lumas d count this (block .next)
+      → y′ ≡ set (set y (0 + 2 * block .j) a) (0 + block .next) b → LumaMore (Lumas422 d count this) d (block .j) (block .j + 1) y y′
+  luma422-more {y = y} row ea eb e = record {
+    size = length-as y e (simp length-set);
+    further = λ y₀ p.
+        rw (e, ea, eb) (painted-to (omega (arith, in-row .inside, in-row .next)) (painted-pair (in-row .inside) (in-row .next) (row .luma) (painted-to (omega (arith, in-row .inside)) p)));
+  }
+
+-- and another
+pub luma-both : (L : ℕ → List ℕ → List ℕ → Type 0) (d : FrameDescription) (j : ℕ) {y y₁ y₂ : List ℕ} → LumaMore L d j (j + 1) y y₁ → LumaMore L d (j + 1) (j + 1 + 1) y₁ y₂
+    → LumaMore L d j (j + 2) y y₂
+luma-both L d j p q =
+    let two : j + 1 + 1 ≡ j + 2 = omega arith in
+    record { size = q .size ∙ p .size; further = λ y₀ r. rw two at (q .further y₀ (p .further y₀ r)) }
+
+pub rows-room : {d : FrameDescription} {count : ℕ} {this below y : List ℕ} (y₀ : List ℕ) → length y ≡ length y₀ → Rows420 d count this below y₀ → Rows420 d count this below y
+rows-room y₀ e room =
+    record { upper-row = room .upper-row; lower-row = room .lower-row; luma = record { apart = room .luma .apart; size = rw e (room .luma .size) } }
+
+pub row-room : {d : FrameDescription} {count : ℕ} {this y : List ℕ} (y₀ : List ℕ) → length y ≡ length y₀ → Row422 d count this y₀ → Row422 d count this y
+row-room y₀ e room = record { row = room .row; luma = rw e (room .luma) }
+
+-- ---- both
+
+-- the blocks of four pixels that are all there
+pub four-in-row : (d : FrameDescription) (j : ℕ) → 2 * j + 3 < d .width → InRow d (record { j = j; next = 2 * j + 1 }) × InRow d (record { j = j + 1; next = 2 * (j + 1) + 1 })
+four-in-row d j h = (record { inside = omega arith; next = omega arith }, record { inside = omega arith; next = omega arith })
 
 module _ (d : FrameDescription) (count : ℕ) where
   pub begun420-none : (this below y u v : List ℕ) → Begun420 d count this below 0 y u v y u v
@@ -109,85 +153,54 @@ module _ (d : FrameDescription) (count : ℕ) where
   pub begun422-none : (this y u v : List ℕ) → Begun422 d count this 0 y u v y u v
   begun422-none this y u v = record { luma = painted-to (omega arith) (painted-none _ _); chroma = chroma-none _ _ _ _ }
 
--- a block more of luma: both rows of 4:2:0, and the row of 4:2:2
-module _ {d : FrameDescription} (count : ℕ) {block : Block} (in-row : InRow d block) where
-  pub luma420-block : (this below : List ℕ) {y y′ : List ℕ} → LumaRoom d y
-      → y′ ≡ putPair (d .«y_stride») (2 * block .j) (block .next) (lumas d count below) (putPair 0 (2 * block .j) (block .next) (lumas d count this) y)
-      → (y₀ : List ℕ) → LumasPainted d count this below (min (2 * block .j) (d .width)) y₀ y → LumasPainted d count this below (min (2 * (block .j + 1)) (d .width)) y₀ y′
-  luma420-block this below room e y₀ p =
-      rw e (two-to (omega (arith, in-row .inside, in-row .next))
-      (two-pairs (in-row .inside) (in-row .next) (omega (arith, room .apart, in-row .inside)) (omega (arith, room .size)) (two-to (omega (arith, in-row .inside)) p)))
-
-  pub luma422-block : (this : List ℕ) {y y′ : List ℕ} → d .width ≤ length y → y′ ≡ putPair 0 (2 * block .j) (block .next) (lumas d count this) y
-      → (y₀ : List ℕ) → Painted (min (2 * block .j) (d .width)) (lumas d count this) y₀ y → Painted (min (2 * (block .j + 1)) (d .width)) (lumas d count this) y₀ y′
-  luma422-block this room e y₀ p =
-      rw e (painted-to (omega (arith, in-row .inside, in-row .next)) (painted-pair (in-row .inside) (in-row .next) room (painted-to (omega (arith, in-row .inside)) p)))
-
--- a block more of what is begun
 module _ (L : ℕ → List ℕ → List ℕ → Type 0) (d : FrameDescription) (input : ℕ → ℕ → ℕ) where
-  abbrev pub LumaBlock : (j : ℕ) → (y y′ : List ℕ) → Type 0
-  LumaBlock j y y′ = (y₀ : List ℕ) → L (min (2 * j) (d .width)) y₀ y → L (min (2 * (j + 1)) (d .width)) y₀ y′
+  pub begun-to : {i j : ℕ} {y₀ u₀ v₀ y u v : List ℕ} → i ≡ j → Begun L d input i y₀ u₀ v₀ y u v → Begun L d input j y₀ u₀ v₀ y u v
+  begun-to e p = rw e at p
 
   pub stepped-none : (i : ℕ) (y u v : List ℕ) → Stepped (Begun L d input) i i y u v y u v
   stepped-none i y u v = record { in-y = refl; in-u = refl; in-v = refl; further = λ _ _ _ p. p }
 
-  pub stepped-block : {i : ℕ} (j : ℕ) {y u v y₁ u₁ v₁ y₂ u₂ v₂ : List ℕ} {b : Bytes} → 2 * j < d .width → ChromaRoom d u v → LumaBlock j y₁ y₂ → length y₂ ≡ length y → b ≡ firstThree (input j)
-      → ChromaPut d (byteAt b) j u₁ v₁ u₂ v₂ → Stepped (Begun L d input) i j y u v y₁ u₁ v₁ → Stepped (Begun L d input) i (j + 1) y u v y₂ u₂ v₂
-  stepped-block j {u = u} {v = v} inside room luma size e put s =
-      let sizes = put-sizes put in
-      record {
-        in-y = size;
-        in-u = sizes .0 ∙ s .in-u;
-        in-v = sizes .1 ∙ s .in-v;
-        further = λ y₀ u₀ v₀ p.
-            let q = s .further y₀ u₀ v₀ p in
-            record { luma = luma y₀ (q .luma); chroma = chroma-next (omega arith) (chroma-room u v (s .in-u) (s .in-v) room) e put (q .chroma) };
-      }
+  module _ {Is : (ℕ → ℕ → ℕ) → Type 0} {j k : ℕ} {y u v y′ u′ v′ : List ℕ} (luma : LumaMore L d j k y y′) (chroma : ChromaMore d Is j k u v u′ v′) (is : Is input) where
+    pub begun-more : {y₀ u₀ v₀ : List ℕ} → Begun L d input j y₀ u₀ v₀ y u v → Begun L d input k y₀ u₀ v₀ y′ u′ v′
+    begun-more {y₀} {u₀} {v₀} p = record { luma = luma .further y₀ (p .luma); chroma = chroma .further input is u₀ v₀ (p .chroma) }
 
-  -- two, whose pixels are all there
-  pub stepped-two : (j : ℕ) {y u v y₁ u₁ v₁ y₂ u₂ v₂ : List ℕ} {b c : Bytes} → 2 * j + 3 < d .width → ChromaRoom d u v → LumaBlock j y y₁ → length y₁ ≡ length y → LumaBlock (j + 1) y₁ y₂
-      → length y₂ ≡ length y → b ≡ firstThree (input j) → c ≡ firstThree (input (j + 1)) → ChromaPut d (byteAt b) j u v u₁ v₁ → ChromaPut d (byteAt c) (j + 1) u₁ v₁ u₂ v₂
-      → Stepped (Begun L d input) j (j + 2) y u v y₂ u₂ v₂
-  stepped-two j inside room luma₁ size₁ luma₂ size₂ e f put₁ put₂ =
-      let two : j + 1 + 1 ≡ j + 2 = omega arith in
-      rw two at (stepped-block (j + 1) (omega arith) room luma₂ size₂ f put₂ (stepped-block j (omega arith) room luma₁ size₁ e put₁ (stepped-none j _ _ _)))
+    pub stepped-more : {i : ℕ} {y₀ u₀ v₀ : List ℕ} → Stepped (Begun L d input) i j y₀ u₀ v₀ y u v → Stepped (Begun L d input) i k y₀ u₀ v₀ y′ u′ v′
+    stepped-more s = record {
+      in-y = luma .size ∙ s .in-y;
+      in-u = chroma .in-u ∙ s .in-u;
+      in-v = chroma .in-v ∙ s .in-v;
+      further = λ _ _ _ p. begun-more (s .further _ _ _ p);
+    }
 
-pub four-in-row : (d : FrameDescription) (j : ℕ) → 2 * j + 3 < d .width → InRow d (record { j = j; next = 2 * j + 1 }) × InRow d (record { j = j + 1; next = 2 * (j + 1) + 1 })
-four-in-row d j h = (record { inside = omega arith; next = omega arith }, record { inside = omega arith; next = omega arith })
+-- ---- what is lent
+
+-- a frame's own rows: a pixel has count bytes
+module _ {d : FrameDescription} {count : ℕ} (is : count ≡ pixelSize d) {this y u v : List ℕ} where
+  pub lent420 : {below : List ℕ} → Lent420 d this below y u v → Rows420 d count this below y
+  lent420 lent = record { upper-row = row-of _ is (lent .upper-row); lower-row = row-of _ is (lent .lower-row); luma = lent .luma }
+
+  pub lent422 : Lent422 d this y u v → Row422 d count this y
+  lent422 lent = record { row = row-of _ is (lent .row); luma = lent .luma }
 
 -- room stays room
-module _ {d : FrameDescription} {count : ℕ} {this : List ℕ} (y₀ u₀ v₀ : List ℕ) {y u v : List ℕ} (in-y : length y ≡ length y₀) (in-u : length u ≡ length u₀) (in-v : length v ≡ length v₀) where
-  pub room420 : {below : List ℕ} → Room420 d count this below y₀ u₀ v₀ → Room420 d count this below y u v
-  room420 room = record { upper-row = room .upper-row; lower-row = room .lower-row; luma = luma-room y₀ in-y (room .luma); chroma = chroma-room u₀ v₀ in-u in-v (room .chroma) }
+module _ {d : FrameDescription} {this : List ℕ} (y₀ u₀ v₀ : List ℕ) {y u v : List ℕ} (in-y : length y ≡ length y₀) (in-u : length u ≡ length u₀) (in-v : length v ≡ length v₀) where
+  pub lent420-kept : {below : List ℕ} → Lent420 d this below y₀ u₀ v₀ → Lent420 d this below y u v
+  lent420-kept p = record {
+    upper-row = p .upper-row;
+    lower-row = p .lower-row;
+    luma = record { apart = p .luma .apart; size = rw in-y (p .luma .size) };
+    chroma = chroma-room u₀ v₀ in-u in-v (p .chroma);
+  }
 
-  pub room422 : Room422 d count this y₀ u₀ v₀ → Room422 d count this y u v
-  room422 room = record { row = room .row; luma = rw in-y (room .luma); chroma = chroma-room u₀ v₀ in-u in-v (room .chroma) }
+  pub lent422-kept : Lent422 d this y₀ u₀ v₀ → Lent422 d this y u v
+  lent422-kept p = record { row = p .row; luma = rw in-y (p .luma); chroma = chroma-room u₀ v₀ in-u in-v (p .chroma) }
 
--- the same room, by another name of the bytes of a pixel
-module _ {d : FrameDescription} {count count′ : ℕ} (e : count ≡ count′) {this y u v : List ℕ} where
-  pub room420-as : {below : List ℕ} → Room420 d count this below y u v → Room420 d count′ this below y u v
-  room420-as p = rw e at p
-
-  pub room422-as : Room422 d count this y u v → Room422 d count′ this y u v
-  room422-as p = rw e at p
-
--- what is lent, and what is written, where a pixel has count bytes
-module _ {d : FrameDescription} {count : ℕ} (is : count ≡ pixelSize d) {this y u v : List ℕ} where
-  pub lent420 : {below : List ℕ} → Lent420 d this below y u v → Room420 d count this below y u v
-  lent420 lent = record { upper-row = row-of _ is (lent .upper-row); lower-row = row-of _ is (lent .lower-row); luma = lent .luma; chroma = lent .chroma }
-
-  pub lent422 : Lent422 d this y u v → Room422 d count this y u v
-  lent422 lent = record { row = row-of _ is (lent .row); luma = lent .luma; chroma = lent .chroma }
-
-module _ {d : FrameDescription} (this : List ℕ) {count : ℕ} (is : count ≡ pixelSize d) {y u v y′ u′ v′ : List ℕ} where
-  pub written420 : (below : List ℕ) → Begun420 d count this below (chromaSize d) y u v y′ u′ v′
+-- all of it
+module _ {d : FrameDescription} {y u v y′ u′ v′ : List ℕ} where
+  pub written420 : (this below : List ℕ) → Begun420 d (pixelSize d) this below (chromaSize d) y u v y′ u′ v′
       → LumasWritten d this below y y′ × ChromaWritten d (inputs420 d (pixelSize d) this below) u v u′ v′
-  written420 below p = let q = rw is at p in (two-to (omega arith) (q .luma), q .chroma)
+  written420 this below p = (two-to (omega arith) (p .luma), p .chroma)
 
-  pub written422 : Begun422 d count this (chromaSize d) y u v y′ u′ v′ → LumaWritten d this y y′ × ChromaWritten d (inputs422 d (pixelSize d) this) u v u′ v′
-  written422 p = let q = rw is at p in (painted-to (omega arith) (q .luma), q .chroma)
-
--- a turn of a loop over fours
-pub turn : {L : ℕ → List ℕ → List ℕ → Type 0} {d : FrameDescription} {input : ℕ → ℕ → ℕ} (k : ℕ) {y₀ u₀ v₀ y u v y′ u′ v′ : List ℕ} → Stepped (Begun L d input) (2 * k) (2 * k + 2) y u v y′ u′ v′
-    → Begun L d input (2 * k) y₀ u₀ v₀ y u v → Begun L d input (2 * (k + 1)) y₀ u₀ v₀ y′ u′ v′
-turn k s p = let e : 2 * k + 2 ≡ 2 * (k + 1) = omega arith in begun-to e (s .further _ _ _ p)
+  pub written422 : (this : List ℕ) → Begun422 d (pixelSize d) this (chromaSize d) y u v y′ u′ v′
+      → LumaWritten d this y y′ × ChromaWritten d (inputs422 d (pixelSize d) this) u v u′ v′
+  written422 this p = (painted-to (omega arith) (p .luma), p .chroma)

@@ -5,6 +5,7 @@ use mathlib.Core.List.{List}
 use Prim.Native.Nat.{ℕ, zero, suc, _+_, _*_, _/_, _%_, _<_}
 use lib.ListN.{getD}
 use Rattle.sharpen_row.specs.declared.pixels.Bytes.{Bytes}
+use Rattle.sharpen_row.specs.declared.pixels.Colours.{Colours}
 use Rattle.sharpen_row.specs.declared.pixels.Sums.{Sums}
 
 -- the first three bytes of a pixel, and back
@@ -73,3 +74,10 @@ pub record Linears (l : Sums) : Type 0 where
 
 abbrev pub correctedBy : (gamma : List ℕ) → Sums → ℕ → ℕ
 correctedBy gamma l i = getD gamma (sumAt l i) 0
+
+-- the colours of a chroma input, at j, and at j and its next
+abbrev pub ColourAt : (input : ℕ → ℕ → ℕ) → (j : ℕ) → Bytes → Type 0
+ColourAt input j b = b ≡ firstThree (input j)
+
+abbrev pub ColoursAt : (input : ℕ → ℕ → ℕ) → (j : ℕ) → Colours → Type 0
+ColoursAt input j c = ColourAt input j (c .first) × ColourAt input (j + 1) (c .second)

@@ -6,8 +6,7 @@ use Prim.Native.Nat.{ℕ, _+_, _*_, _-_, _≤_, _<_, min}
 use lib.ListN.{length, getD, set}
 use Rattle.definitions.specs.declared.FrameDescription.{FrameDescription}
 use Rattle.definitions.specs.Painted.{Painted}
-use Rattle.definitions.specs.Pixel.{cbOf, crOf}
-use Rattle.definitions.specs.Row.{pixelsOf, ofColour, lumaRow, input420, input422, cbRow, crRow}
+use Rattle.definitions.specs.Row.{pixelsOf, lumaRow, input420, input422, cbRow, crRow}
 use Rattle.definitions.specs.Image.{pixelSize, chromaSize}
 use Rattle.sharpen_row.specs.declared.pixels.Block.{Block}
 
@@ -27,19 +26,17 @@ pub record LumaRoom (d : FrameDescription) (y : List ℕ) : Type 0 where
   pub apart : d .width ≤ d .«y_stride»
   pub size : d .«y_stride» + d .width ≤ length y
 
--- rows of count bytes a pixel, and room for their luma and chroma
-pub record Room420 (d : FrameDescription) (count : ℕ) (this below y u v : List ℕ) : Type 0 where
+-- rows of count bytes a pixel, and room for their luma
+pub record Rows420 (d : FrameDescription) (count : ℕ) (this below y : List ℕ) : Type 0 where
   pub upper-row : RowOf d count this
   pub lower-row : RowOf d count below
   pub luma : LumaRoom d y
-  pub chroma : ChromaRoom d u v
 
-pub record Room422 (d : FrameDescription) (count : ℕ) (this y u v : List ℕ) : Type 0 where
+pub record Row422 (d : FrameDescription) (count : ℕ) (this y : List ℕ) : Type 0 where
   pub row : RowOf d count this
   pub luma : d .width ≤ length y
-  pub chroma : ChromaRoom d u v
 
--- the same of a frame's own rows
+-- a frame's own rows, and room for their luma and chroma
 pub record Lent420 (d : FrameDescription) (this below y u v : List ℕ) : Type 0 where
   pub upper-row : d .width * pixelSize d ≤ length this
   pub lower-row : d .width * pixelSize d ≤ length below
@@ -89,11 +86,6 @@ LumasPainted d count row below n y y′ = TwoPainted 0 (d .«y_stride») n (luma
 abbrev pub LumasWritten : FrameDescription → (row below y y′ : List ℕ) → Type 0
 LumasWritten d row below y y′ = LumasPainted d (pixelSize d) row below (d .width) y y′
 
--- the chroma of a colour, at place j of both chroma rows
-pub record ChromaPut (d : FrameDescription) (colour : ℕ → ℕ) (j : ℕ) (u v u′ v′ : List ℕ) : Type 0 where
-  pub cb : u′ ≡ set u j (ofColour (d .settings) (cbOf (d .settings)) colour)
-  pub cr : v′ ≡ set v j (ofColour (d .settings) (crOf (d .settings)) colour)
-
 -- both chroma rows, as far as their first n bytes
 pub record ChromaPainted (d : FrameDescription) (input : ℕ → ℕ → ℕ) (n : ℕ) (u v u′ v′ : List ℕ) : Type 0 where
   pub cb : Painted n (cbRow d input) u u′
@@ -102,19 +94,33 @@ pub record ChromaPainted (d : FrameDescription) (input : ℕ → ℕ → ℕ) (n
 abbrev pub ChromaWritten : FrameDescription → (input : ℕ → ℕ → ℕ) → (u v u′ v′ : List ℕ) → Type 0
 ChromaWritten d input u v u′ v′ = ChromaPainted d input (chromaSize d) u v u′ v′
 
--- ---- what is begun: luma and chroma as far as chroma byte j, where L n says that luma is painted as far as pixel n
+-- ---- a step further: what was painted as far as chroma byte i and its pixels is painted as far as j and its pixels
 
+-- luma, where L n says that it is painted as far as pixel n
+pub record LumaMore (L : ℕ → List ℕ → List ℕ → Type 0) (d : FrameDescription) (i j : ℕ) (y y′ : List ℕ) : Type 0 where
+  pub size : length y′ ≡ length y
+  pub further : (y₀ : List ℕ) → L (min (2 * i) (d .width)) y₀ y → L (min (2 * j) (d .width)) y₀ y′
+
+-- chroma of every input of which `Is` holds
+pub record ChromaMore (d : FrameDescription) (Is : (ℕ → ℕ → ℕ) → Type 0) (i j : ℕ) (u v u′ v′ : List ℕ) : Type 0 where
+  pub in-u : length u′ ≡ length u
+  pub in-v : length v′ ≡ length v
+  pub further : (input : ℕ → ℕ → ℕ) → Is input → (u₀ v₀ : List ℕ) → ChromaPainted d input i u₀ v₀ u v → ChromaPainted d input j u₀ v₀ u′ v′
+
+-- both, as far as chroma byte j
 pub record Begun (L : ℕ → List ℕ → List ℕ → Type 0) (d : FrameDescription) (input : ℕ → ℕ → ℕ) (j : ℕ) (y u v y′ u′ v′ : List ℕ) : Type 0 where
   pub luma : L (min (2 * j) (d .width)) y y′
   pub chroma : ChromaPainted d input j u v u′ v′
+
+abbrev pub Lumas422 : FrameDescription → (count : ℕ) → (this : List ℕ) → (n : ℕ) → (y y′ : List ℕ) → Type 0
+Lumas422 d count this n y y′ = Painted n (lumas d count this) y y′
 
 abbrev pub Begun420 : FrameDescription → (count : ℕ) → (this below : List ℕ) → (j : ℕ) → (y u v y′ u′ v′ : List ℕ) → Type 0
 Begun420 d count this below = Begun (LumasPainted d count this below) d (inputs420 d count this below)
 
 abbrev pub Begun422 : FrameDescription → (count : ℕ) → (this : List ℕ) → (j : ℕ) → (y u v y′ u′ v′ : List ℕ) → Type 0
-Begun422 d count this = Begun (λ n y y′. Painted n (lumas d count this) y y′) d (inputs422 d count this)
+Begun422 d count this = Begun (Lumas422 d count this) d (inputs422 d count this)
 
--- more of it: what was begun as far as i is begun as far as j
 pub record Stepped (B : ℕ → List ℕ → List ℕ → List ℕ → List ℕ → List ℕ → List ℕ → Type 0) (i j : ℕ) (y u v y′ u′ v′ : List ℕ) : Type 0 where
   pub in-y : length y′ ≡ length y
   pub in-u : length u′ ≡ length u

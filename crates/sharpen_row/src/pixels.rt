@@ -7,10 +7,10 @@ ghost use Rattle.definitions.specs.Pixel.{weigh};
 ghost use Rattle.definitions.specs.Row.{pixelsOf};
 ghost use Rattle.sharpen_row.specs.Weights.{Converts, ByteWeights};
 ghost use Rattle.sharpen_row.specs.Tables.{Summed, Prepared};
-ghost use Rattle.sharpen_row.specs.Pixels.{firstThree, byteAt, Paired, Light, total, leftLuma, rightLuma};
-ghost use Rattle.sharpen_row.specs.Pixels.{sixteenthsOf, quartersOf, correctedBy, Over, Linears};
-ghost use Rattle.sharpen_row.specs.Rows.{lumas, inputs420, inputs422, RowOf, LumaRoom, Room420, Room422, InRow};
-ghost use Rattle.sharpen_row.specs.Rows.{putPair, ChromaPut, Begun420, Begun422, Stepped};
+ghost use Rattle.sharpen_row.specs.Pixels.{firstThree, Paired, Light, total, leftLuma, rightLuma};
+ghost use Rattle.sharpen_row.specs.Pixels.{sixteenthsOf, quartersOf, correctedBy, Over, Linears, ColourAt, ColoursAt};
+ghost use Rattle.sharpen_row.specs.Rows.{lumas, inputs420, inputs422, RowOf, Rows420, Row422, InRow, putPair};
+ghost use Rattle.sharpen_row.specs.Rows.{LumasPainted, Lumas422, LumaMore, ChromaMore};
 use crate::tables::Conversion;
 use crate::tables::Weights;
 
@@ -27,7 +27,13 @@ pub struct Bytes {
     pub b2: u8,
 }
 
-// For each of them the entries of a pair of pixels, added.
+// The colours of two blocks.
+pub struct Colours {
+    pub first: Bytes,
+    pub second: Bytes,
+}
+
+// For each byte of a colour the entries of a pair of pixels, added.
 pub struct Sums {
     pub e0: u64,
     pub e1: u64,
@@ -130,12 +136,24 @@ fn weigh(w: Weights, b: Bytes) -> u8
 pub fn put_chroma(rows: Conversion, b: Bytes, j: usize, u: &mut [u8], v: &mut [u8])
     requires { ⌜ Converts rows ⌝ }
     requires { ⌜ (j < length (now u)) × (j < length (now v)) ⌝ }
-    ensures { λ _. ⌜ ChromaPut (rows .frame) (byteAt b) j (now (u .entry)) (now (v .entry)) (now (u .exit)) (now (v .exit)) ⌝ }
+    ensures { λ _. ⌜ ChromaMore (rows .frame) (λ input. ColourAt input j b) j (j + 1) (now (u .entry)) (now (v .entry)) (now (u .exit)) (now (v .exit)) ⌝ }
 {
     let cb = rows.cb;
     let cr = rows.cr;
     u[j] = weigh(cb, b);
     v[j] = weigh(cr, b);
+}
+
+// Of two colours, at place j and the next.
+pub fn put_chromas(rows: Conversion, c: Colours, j: usize, u: &mut [u8], v: &mut [u8])
+    requires { ⌜ Converts rows ⌝ }
+    requires { ⌜ (j + 1 < length (now u)) × (j + 1 < length (now v)) ⌝ }
+    ensures { λ _. ⌜ ChromaMore (rows .frame) (λ input. ColoursAt input j c) j (j + 2) (now (u .entry)) (now (v .entry)) (now (u .exit)) (now (v .exit)) ⌝ }
+{
+    let first = c.first;
+    let second = c.second;
+    put_chroma(rows, first, j, u, v);
+    put_chroma(rows, second, j + 1, u, v);
 }
 
 fn corrected(gamma: &[u8; 65536], linear: u64) -> u8
@@ -194,14 +212,11 @@ pub fn block420(
     gamma: &[u8; 65536],
 ) -> Bytes
     requires { ⌜ Prepared rows (now sums) (now gamma) ⌝ }
-    requires { ⌜ RowOf (rows .frame) count (now this) ⌝ }
-    requires { ⌜ RowOf (rows .frame) count (now below) ⌝ }
+    requires { ⌜ Rows420 (rows .frame) count (now this) (now below) (now y) ⌝ }
     requires { ⌜ InRow (rows .frame) block ⌝ }
-    requires { ⌜ LumaRoom (rows .frame) (now y) ⌝ }
-    ensures { λ b. ⌜ b ≡ firstThree (inputs420 (rows .frame) count (now (this .entry)) (now (below .entry)) (block .j)) ⌝ }
-    ensures { λ _. ⌜ now (y .exit)
-        ≡ putPair (rows .frame .«y_stride») (2 * block .j) (block .next) (lumas (rows .frame) count (now (below .entry)))
-        (putPair 0 (2 * block .j) (block .next) (lumas (rows .frame) count (now (this .entry))) (now (y .entry))) ⌝ }
+    ensures { λ b. ⌜ ColourAt (inputs420 (rows .frame) count (now (this .entry)) (now (below .entry))) (block .j) b ⌝ }
+    ensures { λ _. ⌜ LumaMore (LumasPainted (rows .frame) count (now (this .entry)) (now (below .entry))) (rows .frame) (block .j) (block .j + 1)
+        (now (y .entry)) (now (y .exit)) ⌝ }
 {
     let frame = rows.frame;
     let lower = frame.y_stride as usize;
@@ -223,11 +238,10 @@ pub fn block422(
     gamma: &[u8; 65536],
 ) -> Bytes
     requires { ⌜ Prepared rows (now sums) (now gamma) ⌝ }
-    requires { ⌜ RowOf (rows .frame) count (now this) ⌝ }
+    requires { ⌜ Row422 (rows .frame) count (now this) (now y) ⌝ }
     requires { ⌜ InRow (rows .frame) block ⌝ }
-    requires { ⌜ rows .frame .width ≤ length (now y) ⌝ }
-    ensures { λ b. ⌜ b ≡ firstThree (inputs422 (rows .frame) count (now (this .entry)) (block .j)) ⌝ }
-    ensures { λ _. ⌜ now (y .exit) ≡ putPair 0 (2 * block .j) (block .next) (lumas (rows .frame) count (now (this .entry))) (now (y .entry)) ⌝ }
+    ensures { λ b. ⌜ ColourAt (inputs422 (rows .frame) count (now (this .entry))) (block .j) b ⌝ }
+    ensures { λ _. ⌜ LumaMore (Lumas422 (rows .frame) count (now (this .entry))) (rows .frame) (block .j) (block .j + 1) (now (y .entry)) (now (y .exit)) ⌝ }
 {
     let x = 2 * block.j;
     let next = block.next;
@@ -239,7 +253,7 @@ pub fn block422(
     }
 }
 
-// Two blocks of 4:2:0, whose pixels are all there, and their chroma. Both colours are looked up before either is weighed: a tenth faster.
+// Two blocks of 4:2:0, whose pixels are all there.
 pub fn four420(
     rows: Conversion,
     this: &[u8],
@@ -247,58 +261,52 @@ pub fn four420(
     count: usize,
     j: usize,
     y: &mut [u8],
-    u: &mut [u8],
-    v: &mut [u8],
     sums: &[u64; 1536],
     gamma: &[u8; 65536],
-)
+) -> Colours
     requires { ⌜ Prepared rows (now sums) (now gamma) ⌝ }
-    requires { ⌜ Room420 (rows .frame) count (now this) (now below) (now y) (now u) (now v) ⌝ }
+    requires { ⌜ Rows420 (rows .frame) count (now this) (now below) (now y) ⌝ }
     requires { ⌜ 2 * j + 3 < rows .frame .width ⌝ }
-    ensures { λ _. ⌜ Stepped (Begun420 (rows .frame) count (now (this .entry)) (now (below .entry))) j (j + 2)
-        (now (y .entry)) (now (u .entry)) (now (v .entry)) (now (y .exit)) (now (u .exit)) (now (v .exit)) ⌝ }
+    ensures { λ c. ⌜ ColoursAt (inputs420 (rows .frame) count (now (this .entry)) (now (below .entry))) j c ⌝ }
+    ensures { λ _. ⌜ LumaMore (LumasPainted (rows .frame) count (now (this .entry)) (now (below .entry))) (rows .frame) j (j + 2)
+        (now (y .entry)) (now (y .exit)) ⌝ }
 {
     let k = j + 1;
-    let first = Block { j, next: 2 * j + 1 };
-    let second = Block {
+    let here = Block { j, next: 2 * j + 1 };
+    let there = Block {
         j: k,
         next: 2 * k + 1,
     };
-    let b = block420(rows, this, below, count, first, y, sums, gamma);
-    let c = block420(rows, this, below, count, second, y, sums, gamma);
-    put_chroma(rows, b, j, u, v);
-    put_chroma(rows, c, k, u, v);
+    let first = block420(rows, this, below, count, here, y, sums, gamma);
+    let second = block420(rows, this, below, count, there, y, sums, gamma);
+    Colours { first, second }
 }
 
-// Two blocks of 4:2:2. Both pairs are read, and both colours looked up, before a byte is written: a tenth faster.
+// Two blocks of 4:2:2. Both pairs are read, and both colours looked up, before a luma is written: a tenth faster.
 pub fn four422(
     rows: Conversion,
     this: &[u8],
     count: usize,
     j: usize,
     y: &mut [u8],
-    u: &mut [u8],
-    v: &mut [u8],
     sums: &[u64; 1536],
     gamma: &[u8; 65536],
-)
+) -> Colours
     requires { ⌜ Prepared rows (now sums) (now gamma) ⌝ }
-    requires { ⌜ Room422 (rows .frame) count (now this) (now y) (now u) (now v) ⌝ }
+    requires { ⌜ Row422 (rows .frame) count (now this) (now y) ⌝ }
     requires { ⌜ 2 * j + 3 < rows .frame .width ⌝ }
-    ensures { λ _. ⌜ Stepped (Begun422 (rows .frame) count (now (this .entry))) j (j + 2)
-        (now (y .entry)) (now (u .entry)) (now (v .entry)) (now (y .exit)) (now (u .exit)) (now (v .exit)) ⌝ }
+    ensures { λ c. ⌜ ColoursAt (inputs422 (rows .frame) count (now (this .entry))) j c ⌝ }
+    ensures { λ _. ⌜ LumaMore (Lumas422 (rows .frame) count (now (this .entry))) (rows .frame) j (j + 2) (now (y .entry)) (now (y .exit)) ⌝ }
 {
-    let k = j + 1;
-    let first = 2 * j;
-    let second = first + 1;
-    let third = 2 * k;
-    let fourth = third + 1;
-    let a = pair(this, count, first, second, sums);
-    let b = pair(this, count, third, fourth, sums);
-    let c = mixed(quarters(a), gamma);
-    let e = mixed(quarters(b), gamma);
-    put_luma(y, 0, first, second, a);
-    put_luma(y, 0, third, fourth, b);
-    put_chroma(rows, c, j, u, v);
-    put_chroma(rows, e, k, u, v);
+    let x = 2 * j;
+    let right = x + 1;
+    let z = 2 * (j + 1);
+    let last = z + 1;
+    let a = pair(this, count, x, right, sums);
+    let b = pair(this, count, z, last, sums);
+    let first = mixed(quarters(a), gamma);
+    let second = mixed(quarters(b), gamma);
+    put_luma(y, 0, x, right, a);
+    put_luma(y, 0, z, last, b);
+    Colours { first, second }
 }

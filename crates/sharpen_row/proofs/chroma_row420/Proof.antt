@@ -6,7 +6,7 @@ use native.Mathlib.Omega.{arith}
 use borrow.Author.Needs.{needs}
 use Rattle.definitions.specs.Row.{Pixels, pixelsOf, input420}
 use Rattle.sharpen_row.specs.Rows.{ChromaRoom, ChromaPainted}
-use Rattle.sharpen_row.proofs.Pairs.{row-of, pair-ready, over-ready, linears420-ready, colour420-is, chroma-none, chroma-next, chroma-room}
+use Rattle.sharpen_row.proofs.Pairs.{row-of, pair-ready, over-ready, linears420-ready, colour420-is, chroma-none, chroma-room}
 use Rattle.sharpen_row.proofs.chroma_row420.Statement.{statement}
 use Rattle.sharpen_row.proofs.chroma_row420.Tie as tie
 
@@ -89,7 +89,7 @@ loop-again q =
     let c = Turn m in
     let test = c .before .loop-test .taken in
     let e = colour420-is (start c .pre .0) (loop c .loop .j) (c .right-of .result) (inside c) (c .right-of .ensures) (upper c) (lower c) (p .before .pair .ensures) (p .pair2 .ensures) (m .before .sixteenths .ensures) (m .mixed .ensures) in
-    (omega (arith, test), chroma-next (omega (arith, test)) (room m) e (Put q .put-chroma .ensures) (loop c .loop .inv .1))
+    (omega (arith, test), Put q .put-chroma .ensures .further _ e _ _ (loop c .loop .inv .1))
 
 returns : tie.Need-returns Inv-loop μ-loop
 returns c =

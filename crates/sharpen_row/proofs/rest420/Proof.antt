@@ -1,56 +1,52 @@
 -- `rest420` meets its contract. The invariant: what was begun as far as the last whole four is begun as far as j.
 -- Assumes nothing.
-use mathlib.Core.Path.{_≡_}
-use Prim.Native.Nat.{_+_, _*_, _-_, _/_, _≤_}
+use mathlib.Core.Path.{_≡_, subst}
+use Prim.Native.Nat.{ℕ, _+_, _*_, _-_, _/_, _≤_}
 use native.Mathlib.Omega.{arith}
 use borrow.Author.Needs.{needs}
-use lib.ListN.{length-set}
-use Rattle.sharpen_row.specs.Rows.{LumasPainted, inputs420, InRow, Room420, Begun420, Stepped}
-use Rattle.sharpen_row.proofs.TwoRows.{length-as}
-use Rattle.sharpen_row.proofs.Pairs.{room420, luma420-block, stepped-none, stepped-block}
+use Rattle.definitions.specs.Image.{chromaSize}
+use Rattle.sharpen_row.specs.Rows.{LumasPainted, inputs420, InRow, Rows420, ChromaRoom, Begun420, Stepped}
+use Rattle.sharpen_row.proofs.Pairs.{lent420, rows-room, stepped-none, stepped-more}
 use Rattle.sharpen_row.proofs.rest420.Statement.{statement}
 use Rattle.sharpen_row.proofs.rest420.Tie as tie
 
 abbrev Inv-loop : tie.InvT-loop
-Inv-loop rows this below count y₀ u₀ v₀ sums gamma width j₀ y u v j = (2 * j ≤ width + 1) × Stepped (Begun420 (rows .frame) count this below) (2 * (width / 4)) j y₀ u₀ v₀ y u v
+Inv-loop rows this below y₀ u₀ v₀ sums gamma width count j₀ y u v j =
+    (2 * j ≤ width + 1) × Stepped (Begun420 (rows .frame) count this below) (2 * (width / 4)) j y₀ u₀ v₀ y u v
 
 abbrev μ-loop : tie.MeasureT-loop
-μ-loop rows this below count y₀ u₀ v₀ sums gamma width j₀ y u v j = width - 2 * j
+μ-loop rows this below y₀ u₀ v₀ sums gamma width count j₀ y u v j = width - 2 * j
 
-abbrev Start : tie.At-loop Inv-loop μ-loop → tie.Start Inv-loop μ-loop
-Start l = l .before .before .before .before .before .before .before .before
+abbrev Start : tie.After-pixel-size Inv-loop μ-loop → tie.Start Inv-loop μ-loop
+Start c = c .before .before .before .before .before .before .before .before
 
 module _ (t : tie.After-right-of Inv-loop μ-loop) where
   abbrev loop : tie.At-loop Inv-loop μ-loop
   loop = t .before .before
 
   abbrev start : tie.Start Inv-loop μ-loop
-  start = Start loop
+  start = Start (loop .before)
 
   in-row : InRow (start .args .rows .frame) (record { j = loop .loop .j; next = t .right-of .result })
   in-row = record { inside = t .before .loop-test .taken; next = t .right-of .ensures }
 
-  room : Room420 (start .args .rows .frame) (start .args .count) (start .args .this .now) (start .args .below .now) (loop .loop .y) (loop .loop .u) (loop .loop .v)
-  room =
-      let s = loop .loop .inv .1 in
-      room420 (start .args .y .now) (start .args .u .now) (start .args .v .now) (s .in-y) (s .in-u) (s .in-v) (start .pre .1)
-
 block420-requires : tie.Need-block420-requires Inv-loop μ-loop
 block420-requires c κs =
     let t = c .before in
-    let room = room t in
-    (start t .pre .0, (room .upper-row, (room .lower-row, (in-row t, room .luma))))
+    let a = start t in
+    (a .pre .0, (rows-room (a .args .y .now) (loop t .loop .inv .1 .in-y) (lent420 (loop t .before .pixel-size .ensures .0) (a .pre .1)), in-row t))
 
--- the block of a turn, and its chroma
 abbrev Block : tie.After-put-chroma-arg2 Inv-loop μ-loop → tie.After-block420 Inv-loop μ-loop
 Block c = c .before .before .before .before
 
 put-chroma-requires : tie.Need-put-chroma-requires Inv-loop μ-loop
 put-chroma-requires c κs =
     let t = Block c .before .before in
-    let chroma = room t .chroma in
+    let a = start t in
+    let s = loop t .loop .inv .1 in
+    let room = a .pre .1 .chroma in
     let inside = t .before .loop-test .taken in
-    (start t .pre .0 .summed .converts, (omega (arith, inside, chroma .in-u), omega (arith, inside, chroma .in-v)))
+    (a .pre .0 .summed .converts, (omega (arith, inside, room .in-u, s .in-u), omega (arith, inside, room .in-v, s .in-v)))
 
 abbrev Put : tie.After-slice-known6 Inv-loop μ-loop → tie.After-put-chroma Inv-loop μ-loop
 Put c = c .before .before .before .before
@@ -64,20 +60,17 @@ loop-again c =
     let t = Turn c in
     let a = start t .args in
     let d = a .rows .frame in
-    let count = a .count in
-    let this = a .this .now in
-    let below = a .below .now in
-    let stepped = loop t .loop .inv .1 in (
-      omega (arith, t .before .loop-test .taken),
-      stepped-block (LumasPainted d count this below) d (inputs420 d count this below) (loop t .loop .j) (in-row t .inside) (start t .pre .1 .chroma)
-          (luma420-block count (in-row t) this below (room t .luma) (block .1)) (length-as (a .y .now) (block .1) (simp length-set (stepped .in-y))) (block .0) (Put c .put-chroma .ensures) stepped,
-    )
+    let count = loop t .before .pixel-size .result in
+    (omega (arith, t .before .loop-test .taken), stepped-more (LumasPainted d count (a .this .now) (a .below .now)) d (inputs420 d count (a .this .now) (a .below .now)) (block .1) (Put c .put-chroma .ensures) (block .0) (loop t .loop .inv .1))
 
 returns : tie.Need-returns Inv-loop μ-loop
 returns c =
     let l = c .before in
-    let end : l .loop .j ≡ (Start l .args .rows .frame .width + 1) / 2 = omega (arith, c .loop-test .left, l .loop .inv .0) in
-    rw end at (l .loop .inv .1)
+    let a = Start (l .before) .args in
+    let d = a .rows .frame in
+    let end : l .loop .j ≡ chromaSize d = omega (arith, c .loop-test .left, l .loop .inv .0) in
+    subst (λ (n : ℕ). Stepped (Begun420 d n (a .this .now) (a .below .now)) (2 * (d .width / 4)) (chromaSize d) (a .y .now) (a .u .now) (a .v .now) (l .loop .y) (l .loop .u) (l .loop .v)) (l .before .pixel-size .ensures .0)
+    (rw end at (l .loop .inv .1))
 
 pub rest420-spec : {M : Type 1} → statement M
 rest420-spec =
@@ -86,6 +79,7 @@ rest420-spec =
     Inv-loop
     μ-loop
     (λ c. search needs)
+    (λ c κs. search needs)
     (λ c. search needs)
     (λ c. (omega arith, stepped-none _ _ _ _ _ _ _))
     (λ c. omega (arith, c .loop .inv .0))

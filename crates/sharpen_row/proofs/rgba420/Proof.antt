@@ -1,11 +1,10 @@
 -- `rgba420` meets its contract. The invariant: luma and chroma are begun as far as chroma byte 2k.
 -- Assumes nothing.
-use mathlib.Core.Path.{_≡_}
-use Prim.Native.Nat.{_*_, _-_, _/_, _≤_}
+use Prim.Native.Nat.{_*_, _-_, _≤_}
 use native.Mathlib.Omega.{arith}
 use borrow.Author.Needs.{needs}
-use Rattle.sharpen_row.specs.Rows.{Begun420}
-use Rattle.sharpen_row.proofs.Pairs.{begun420-none, begun-to, room420, turn}
+use Rattle.sharpen_row.specs.Rows.{LumasPainted, inputs420, Begun420}
+use Rattle.sharpen_row.proofs.Pairs.{begun420-none, rows-room, begun-to, begun-more}
 use Rattle.sharpen_row.proofs.rgba420.Statement.{statement}
 use Rattle.sharpen_row.proofs.rgba420.Tie as tie
 
@@ -15,21 +14,46 @@ Inv-loop rows this below y₀ u₀ v₀ sums gamma turns k₀ y u v k = (k ≤ t
 abbrev μ-loop : tie.MeasureT-loop
 μ-loop rows this below y₀ u₀ v₀ sums gamma turns k₀ y u v k = turns - k
 
-abbrev Start : tie.At-loop Inv-loop μ-loop → tie.Start Inv-loop μ-loop
-Start l = l .before .before .before .before .before .before .before .before
+abbrev Start : tie.In-loop Inv-loop μ-loop → tie.Start Inv-loop μ-loop
+Start t = t .before .before .before .before .before .before .before .before .before
 
 four420-requires : tie.Need-four420-requires Inv-loop μ-loop
 four420-requires c κs =
-    let turn = c .before .before .before in
-    let a = Start (turn .before) in
-    let b = turn .before .loop .inv .1 in
-    (a .pre .0, (room420 (a .args .y .now) (a .args .u .now) (a .args .v .now) (b .luma .size) (b .chroma .cb .size) (b .chroma .cr .size) (a .pre .1), omega (arith, turn .loop-test .taken)))
+    let t = c .before in
+    let a = Start t in
+    (a .pre .0, (rows-room (a .args .y .now) (t .before .loop .inv .1 .luma .size) (a .pre .1 .0), omega (arith, t .loop-test .taken)))
 
-abbrev Four : tie.After-slice-known6 Inv-loop μ-loop → tie.After-four420 Inv-loop μ-loop
-Four c = c .before .before .before .before .before .before
+abbrev Four : tie.After-put-chromas-arg2 Inv-loop μ-loop → tie.After-four420 Inv-loop μ-loop
+Four c = c .before .before .before .before
+
+put-chromas-requires : tie.Need-put-chromas-requires Inv-loop μ-loop
+put-chromas-requires c κs =
+    let t = Four c .before .before in
+    let a = Start t in
+    let p = t .before .loop .inv .1 .chroma in
+    let room = a .pre .1 .1 in
+    let test = t .loop-test .taken in
+    (a .pre .0 .summed .converts, (omega (arith, test, room .in-u, p .cb .size), omega (arith, test, room .in-v, p .cr .size)))
+
+abbrev Put : tie.After-slice-known6 Inv-loop μ-loop → tie.After-put-chromas Inv-loop μ-loop
+Put c = c .before .before .before .before
+
+abbrev Turn : tie.After-slice-known6 Inv-loop μ-loop → tie.In-loop Inv-loop μ-loop
+Turn c = Four (Put c .before) .before .before
+
+loop-again : tie.Need-loop-again Inv-loop μ-loop
+loop-again c =
+    let four = Four (Put c .before) .four420 .ensures in
+    let t = Turn c in
+    let a = Start t .args in
+    let L = LumasPainted (a .rows .frame) 4 (a .this .now) (a .below .now) in
+    let input = inputs420 (a .rows .frame) 4 (a .this .now) (a .below .now) in (
+      omega (arith, t .loop-test .taken),
+      begun-to L (a .rows .frame) input (omega arith) (begun-more L (a .rows .frame) input (four .1) (Put c .put-chromas .ensures) (four .0) (t .before .loop .inv .1)),
+    )
 
 returns : tie.Need-returns Inv-loop μ-loop
-returns c = begun-to (omega (arith, c .loop-test .left, c .before .loop .inv .0)) (c .before .loop .inv .1)
+returns c = begun-to _ _ _ (omega (arith, c .loop-test .left, c .before .loop .inv .0)) (c .before .loop .inv .1)
 
 pub rgba420-spec : {M : Type 1} → statement M
 rgba420-spec =
@@ -41,9 +65,10 @@ rgba420-spec =
     (λ c. (omega arith, begun420-none _ _ _ _ _ _ _))
     (λ c. search needs)
     four420-requires
-    (λ c. omega (arith, Four c .before .before .before .before .loop-test .taken))
-    (λ c. omega (arith, Four c .before .before .before .before .loop-test .taken))
-    (λ c. let t = Four c .before .before .before .before in (omega (arith, t .loop-test .taken), turn (t .before .loop .k) (Four c .four420 .ensures) (t .before .loop .inv .1)))
+    put-chromas-requires
+    (λ c. omega (arith, Turn c .loop-test .taken))
+    (λ c. omega (arith, Turn c .loop-test .taken))
+    loop-again
     (λ c. returns c .luma .size)
     (λ c. returns c .chroma .cb .size)
     (λ c. returns c .chroma .cr .size)

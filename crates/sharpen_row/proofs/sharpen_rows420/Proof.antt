@@ -1,23 +1,12 @@
 -- `sharpen_rows420` meets its contract: pixels in fours, and the rest.
 -- Assumes nothing.
-use mathlib.Core.Path.{_≡_}
-use native.Mathlib.Omega.{arith}
 use borrow.Author.Needs.{needs}
-use Rattle.sharpen_row.proofs.Pairs.{lent420, room420, written420}
+use Rattle.sharpen_row.proofs.Pairs.{lent420-kept, written420}
 use Rattle.sharpen_row.proofs.sharpen_rows420.Statement.{statement}
 use Rattle.sharpen_row.proofs.sharpen_rows420.Tie as tie
 
 abbrev Start : tie.After-fours420-arg3 → tie.Start
-Start c = c .before .before .before .before .before .before .before .before .before
-
-abbrev Size : tie.After-fours420-arg3 → tie.After-pixel-size
-Size c = c .before .before .before
-
-fours420-requires : tie.Need-fours420-requires
-fours420-requires c κs =
-    let a = Start c in
-    let size = Size c .pixel-size .ensures in
-    (a .pre .0, (lent420 (size .0) (a .pre .1), size .2))
+Start c = c .before .before .before .before .before .before .before .before
 
 abbrev Fours : tie.After-rest420-arg3 → tie.After-fours420
 Fours c = c .before .before .before .before .before .before .before .before .before
@@ -27,22 +16,14 @@ rest420-requires c κs =
     let fours = Fours c in
     let a = Start (fours .before) in
     let b = fours .fours420 .ensures in
-    (a .pre .0, room420 (a .args .y .now) (a .args .u .now) (a .args .v .now) (b .luma .size) (b .chroma .cb .size) (b .chroma .cr .size) (lent420 (Size (fours .before) .pixel-size .ensures .0) (a .pre .1)))
+    (a .pre .0, lent420-kept (a .args .y .now) (a .args .u .now) (a .args .v .now) (b .luma .size) (b .chroma .cb .size) (b .chroma .cr .size) (a .pre .1))
 
 returns : tie.Need-returns
 returns c =
     let rest = c .before .before .before .before .before .before in
     let fours = Fours (rest .before) in
-    written420 _ (Size (fours .before) .pixel-size .ensures .0) _ (rest .rest420 .ensures .further _ _ _ (fours .fours420 .ensures))
+    written420 _ _ (rest .rest420 .ensures .further _ _ _ (fours .fours420 .ensures))
 
 pub sharpen-rows420-spec : {M : Type 1} → statement M
 sharpen-rows420-spec =
-    tie.close
-    (tie.spec
-    (λ c κs. search needs)
-    fours420-requires
-    rest420-requires
-    (λ c. returns c .0 .size)
-    (λ c. returns c .1 .cb .size)
-    (λ c. returns c .1 .cr .size)
-    returns)
+    tie.close (tie.spec (λ c κs. search needs) rest420-requires (λ c. returns c .0 .size) (λ c. returns c .1 .cb .size) (λ c. returns c .1 .cr .size) returns)

@@ -1,13 +1,11 @@
 -- `put_chroma` meets its contract: what the weights of an accepted matrix make of three bytes is what the definition holds.
 -- Assumes nothing.
-use mathlib.Core.Path.{ap}
-use mathlib.Core.List.{List}
-use Prim.Native.Nat.{ℕ, _<_}
+use Prim.Native.Nat.{_<_}
 use native.Mathlib.Omega.{arith}
 use borrow.Author.Needs.{needs}
-use lib.ListN.{set}
 use Rattle.sharpen_row.specs.Pixels.{byteAt, AreBytes}
 use Rattle.sharpen_row.proofs.Weights.{by-three, cb-weights, cr-weights, cb-is, cr-is}
+use Rattle.sharpen_row.proofs.Pairs.{chroma-more}
 use Rattle.sharpen_row.proofs.pixels.put_chroma.Statement.{statement}
 use Rattle.sharpen_row.proofs.pixels.put_chroma.Tie as tie
 
@@ -28,11 +26,11 @@ returns c =
     let cb = c .before in
     let a = Start (cb .before) in
     let s = a .args .rows .frame .settings in
+    let b = a .args .b in
     let p = a .pre .0 in
-    record {
-      cb = ap (λ (x : ℕ). set (a .args .u .now) (a .args .j) x) (cb-is s (p .shape) (byteAt (a .args .b)) (bytes a) (cb .weigh .result) (rw (p .cb) at (cb .weigh .ensures)));
-      cr = ap (λ (x : ℕ). set (a .args .v .now) (a .args .j) x) (cr-is s (p .shape) (byteAt (a .args .b)) (bytes a) (c .weigh2 .result) (rw (p .cr) at (c .weigh2 .ensures)));
-    }
+    chroma-more (a .args .rows .frame) b (a .args .j) (a .pre .1 .0) (a .pre .1 .1)
+    (cb-is s (p .shape) (byteAt b) (bytes a) (cb .weigh .result) (rw (p .cb) at (cb .weigh .ensures)))
+    (cr-is s (p .shape) (byteAt b) (bytes a) (c .weigh2 .result) (rw (p .cr) at (c .weigh2 .ensures)))
 
 pub put-chroma-spec : {M : Type 1} → statement M
 put-chroma-spec =
