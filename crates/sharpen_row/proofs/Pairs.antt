@@ -17,7 +17,8 @@ use Rattle.sharpen_row.specs.declared.pixels.Bytes.{Bytes}
 use Rattle.sharpen_row.specs.declared.pixels.Block.{Block}
 use Rattle.sharpen_row.specs.Weights.{Weighed, conversionOf}
 use Rattle.sharpen_row.specs.Tables.{SumTables, Summed, Prepared}
-use Rattle.sharpen_row.specs.Pixels.{Paired, Light, total, leftLuma, rightLuma, firstThree, byteAt, sixteenthsOf, quartersOf, correctedBy, Over, Linears, ColourAt}
+use Rattle.sharpen_row.specs.Pixels.{Paired, Light, total, leftLuma, rightLuma, firstThree, byteAt, sixteenthsOf, quartersOf, correctedBy, Over}
+use Rattle.sharpen_row.specs.Pixels.{Linears, ColourAt}
 use Rattle.sharpen_row.specs.Rows.{lumas, inputs420, inputs422, RowOf, InRow, LumaRoom, ChromaRoom, Rows420, Row422, Lent420, Lent422, putPair}
 use Rattle.sharpen_row.specs.Rows.{LumaWritten, LumasPainted, LumasWritten, Lumas422, ChromaPainted, ChromaWritten}
 use Rattle.sharpen_row.specs.Rows.{LumaMore, ChromaMore, Begun, Begun420, Begun422, Stepped}
@@ -27,10 +28,22 @@ use Rattle.sharpen_row.proofs.Weights.{count-range, colour-same, three-
 use Rattle.sharpen_row.proofs.Entries.{in-row, light, total-fits, lumas-are, over, linears420, mixed420, linears422, mixed422}
 
 -- what a call has worked out, as its rows ask for it
-pub prepared : (d : FrameDescription) {t : CbCrForwardTransformI32} {rows : Conversion} {sums gamma : List ℕ} → Weighed (d .settings) t → rows ≡ conversionOf d → SumTables (d .settings) sums
+pub prepared : (d : FrameDescription) {t : CbCrForwardTransformI32} {rows : Conversion} {sums gamma : List ℕ} → Weighed (d .settings) t
+    → rows ≡ conversionOf d → SumTables (d .settings) sums
     → TableOf 65536 (gammaEntry (d .settings .transfer)) gamma → Prepared rows sums gamma
 prepared d w e tables corrects =
-    rw e (record { summed = record { converts = record { cb = refl; cr = refl; shape = rw (w .weights) at (w .shape) }; tables = tables }; corrects = corrects })
+    rw e (record {
+      summed = record {
+        converts = record {
+          cb = refl;
+          cr = refl;
+          shape = rw (w .weights) at
+              (w .shape);
+        };
+        tables = tables;
+      };
+      corrects = corrects;
+    })
 
 -- a row of the frame
 pub row-of : {d : FrameDescription} {count : ℕ} (row : List ℕ) → count ≡ pixelSize d → d .width * pixelSize d ≤ length row → RowOf d count row
@@ -51,7 +64,8 @@ module _ {rows : Conversion} {sums : List ℕ} (summed : Summed rows sums) where
 
 -- ---- chroma
 
-module _ {rows : Conversion} {sums gamma : List ℕ} (p : Prepared rows sums gamma) (j next : ℕ) (inside : 2 * j < rows .frame .width) (is : next ≡ min (2 * j + 1) (rows .frame .width - 1)) where
+module _ {rows : Conversion} {sums gamma : List ℕ} (p : Prepared rows sums gamma) (j next : ℕ) (inside : 2 * j < rows .frame .width)
+    (is : next ≡ min (2 * j + 1) (rows .frame .width - 1)) where
   -- of a pair over another
   module _ (row below : Pixels) {a b : Sums} (q : Paired sums (row (2 * j)) (row next) a) (r : Paired sums (below (2 * j)) (below next) b) where
     pub over-ready : Over a b
@@ -60,7 +74,8 @@ module _ {rows : Conversion} {sums gamma : List ℕ} (p : Prepared rows sums gam
     pub linears420-ready : {l : Sums} → l ≡ sixteenthsOf a b → Linears l
     linears420-ready e = rw e (linears420 (rows .frame) (p .summed .converts .shape) (p .summed .tables) (p .corrects) j next inside is row below q r)
 
-    pub colour420-is : {l : Sums} {c : Bytes} → l ≡ sixteenthsOf a b → c ≡ firstThree (correctedBy gamma l) → c ≡ firstThree (input420 (rows .frame) row below j)
+    pub colour420-is : {l : Sums} {c : Bytes} → l ≡ sixteenthsOf a b → c ≡ firstThree (correctedBy gamma l)
+        → c ≡ firstThree (input420 (rows .frame) row below j)
     colour420-is e f =
         rw e at f ∙ three-same (mixed420 (rows .frame) (p .summed .converts .shape) (p .summed .tables) (p .corrects) j next inside is row below q r)
 
@@ -79,7 +94,8 @@ pub chroma-none : (d : FrameDescription) (input : ℕ → ℕ → ℕ) (u v : Li
 chroma-none d input u v = record { cb = painted-none (cbRow d input) u; cr = painted-none (crRow d input) v }
 
 -- a byte more of each
-pub chroma-more : (d : FrameDescription) (b : Bytes) (j : ℕ) {u v : List ℕ} {cb cr : ℕ} → j < length u → j < length v → cb ≡ ofColour (d .settings) (cbOf (d .settings)) (byteAt b)
+pub chroma-more : (d : FrameDescription) (b : Bytes) (j : ℕ) {u v : List ℕ} {cb cr : ℕ} → j < length u → j < length v
+    → cb ≡ ofColour (d .settings) (cbOf (d .settings)) (byteAt b)
     → cr ≡ ofColour (d .settings) (crOf (d .settings)) (byteAt b) → ChromaMore d (λ input. ColourAt input j b) j (j + 1) u v (set u j cb) (set v j cr)
 unfolding cbRow crRow
 chroma-more d b j {u} {v} {cb} {cr} hu hv eb er = record {
@@ -99,7 +115,12 @@ pub chroma-both : {d : FrameDescription} {b c : Bytes} {j : ℕ} {u v u₁ v₁ 
     → ChromaMore d (λ input. ColourAt input j b × ColourAt input (j + 1) c) j (j + 2) u v u₂ v₂
 chroma-both {j = j} p q =
     let two : j + 1 + 1 ≡ j + 2 = omega arith in
-    record { in-u = q .in-u ∙ p .in-u; in-v = q .in-v ∙ p .in-v; further = λ input is u₀ v₀ r. rw two at (q .further input (is .1) u₀ v₀ (p .further input (is .0) u₀ v₀ r)) }
+    record {
+      in-u = q .in-u ∙ p .in-u;
+      in-v = q .in-v ∙ p .in-v;
+      further = λ input is u₀ v₀ r. rw two at
+          (q .further input (is .1) u₀ v₀ (p .further input (is .0) u₀ v₀ r));
+    }
 
 pub chroma-room : {d : FrameDescription} {u v : List ℕ} (u₀ v₀ : List ℕ) → length u ≡ length u₀ → length v ≡ length v₀ → ChromaRoom d u₀ v₀ → ChromaRoom d u v
 chroma-room u₀ v₀ e f room = record { in-u = rw e (room .in-u); in-v = rw f (room .in-v) }
@@ -115,7 +136,8 @@ module _ (d : FrameDescription) (count : ℕ) {block : Block} (in-row : InRow d 
     size = length-as y e (simp length-set);
     further = λ y₀ p.
         rw e (two-to (omega (arith, in-row .inside, in-row .next))
-        (two-pairs (in-row .inside) (in-row .next) (omega (arith, rows .luma .apart, in-row .inside)) (omega (arith, rows .luma .size)) (two-to (omega (arith, in-row .inside)) p)));
+        (two-pairs (in-row .inside) (in-row .next) (omega (arith, rows .luma .apart, in-row .inside)) (omega (arith, rows .luma .size))
+        (two-to (omega (arith, in-row .inside)) p)));
   }
 
   pub luma422-more : {this y y′ : List ℕ} {a b : ℕ} → Row422 d count this y → a ≡ lumas d count this (2 * block .j) → b ≡ lumas d count this (block .next)
@@ -123,17 +145,20 @@ module _ (d : FrameDescription) (count : ℕ) {block : Block} (in-row : InRow d 
   luma422-more {y = y} row ea eb e = record {
     size = length-as y e (simp length-set);
     further = λ y₀ p.
-        rw (e, ea, eb) (painted-to (omega (arith, in-row .inside, in-row .next)) (painted-pair (in-row .inside) (in-row .next) (row .luma) (painted-to (omega (arith, in-row .inside)) p)));
+        rw (e, ea, eb) (painted-to (omega (arith, in-row .inside, in-row .next))
+        (painted-pair (in-row .inside) (in-row .next) (row .luma) (painted-to (omega (arith, in-row .inside)) p)));
   }
 
 -- and another
-pub luma-both : (L : ℕ → List ℕ → List ℕ → Type 0) (d : FrameDescription) (j : ℕ) {y y₁ y₂ : List ℕ} → LumaMore L d j (j + 1) y y₁ → LumaMore L d (j + 1) (j + 1 + 1) y₁ y₂
+pub luma-both : (L : ℕ → List ℕ → List ℕ → Type 0) (d : FrameDescription) (j : ℕ) {y y₁ y₂ : List ℕ} → LumaMore L d j (j + 1) y y₁
+    → LumaMore L d (j + 1) (j + 1 + 1) y₁ y₂
     → LumaMore L d j (j + 2) y y₂
 luma-both L d j p q =
     let two : j + 1 + 1 ≡ j + 2 = omega arith in
     record { size = q .size ∙ p .size; further = λ y₀ r. rw two at (q .further y₀ (p .further y₀ r)) }
 
-pub rows-room : {d : FrameDescription} {count : ℕ} {this below y : List ℕ} (y₀ : List ℕ) → length y ≡ length y₀ → Rows420 d count this below y₀ → Rows420 d count this below y
+pub rows-room : {d : FrameDescription} {count : ℕ} {this below y : List ℕ} (y₀ : List ℕ) → length y ≡ length y₀ → Rows420 d count this below y₀
+    → Rows420 d count this below y
 rows-room y₀ e room =
     record { upper-row = room .upper-row; lower-row = room .lower-row; luma = record { apart = room .luma .apart; size = rw e (room .luma .size) } }
 
@@ -143,7 +168,8 @@ row-room y₀ e room = record { row = room .row; luma = rw e (room .luma) }
 -- ---- both
 
 -- the blocks of four pixels that are all there
-pub four-in-row : (d : FrameDescription) (j : ℕ) → 2 * j + 3 < d .width → InRow d (record { j = j; next = 2 * j + 1 }) × InRow d (record { j = j + 1; next = 2 * (j + 1) + 1 })
+pub four-in-row : (d : FrameDescription) (j : ℕ) → 2 * j + 3 < d .width
+    → InRow d (record { j = j; next = 2 * j + 1 }) × InRow d (record { j = j + 1; next = 2 * (j + 1) + 1 })
 four-in-row d j h = (record { inside = omega arith; next = omega arith }, record { inside = omega arith; next = omega arith })
 
 module _ (d : FrameDescription) (count : ℕ) where
@@ -160,7 +186,8 @@ module _ (L : ℕ → List ℕ → List ℕ → Type 0) (d : FrameDescription) (
   pub stepped-none : (i : ℕ) (y u v : List ℕ) → Stepped (Begun L d input) i i y u v y u v
   stepped-none i y u v = record { in-y = refl; in-u = refl; in-v = refl; further = λ _ _ _ p. p }
 
-  module _ {Is : (ℕ → ℕ → ℕ) → Type 0} {j k : ℕ} {y u v y′ u′ v′ : List ℕ} (luma : LumaMore L d j k y y′) (chroma : ChromaMore d Is j k u v u′ v′) (is : Is input) where
+  module _ {Is : (ℕ → ℕ → ℕ) → Type 0} {j k : ℕ} {y u v y′ u′ v′ : List ℕ} (luma : LumaMore L d j k y y′) (chroma : ChromaMore d Is j k u v u′ v′)
+      (is : Is input) where
     pub begun-more : {y₀ u₀ v₀ : List ℕ} → Begun L d input j y₀ u₀ v₀ y u v → Begun L d input k y₀ u₀ v₀ y′ u′ v′
     begun-more {y₀} {u₀} {v₀} p = record { luma = luma .further y₀ (p .luma); chroma = chroma .further input is u₀ v₀ (p .chroma) }
 
@@ -183,7 +210,8 @@ module _ {d : FrameDescription} {count : ℕ} (is : count ≡ pixelSize d) {this
   lent422 lent = record { row = row-of _ is (lent .row); luma = lent .luma }
 
 -- room stays room
-module _ {d : FrameDescription} {this : List ℕ} (y₀ u₀ v₀ : List ℕ) {y u v : List ℕ} (in-y : length y ≡ length y₀) (in-u : length u ≡ length u₀) (in-v : length v ≡ length v₀) where
+module _ {d : FrameDescription} {this : List ℕ} (y₀ u₀ v₀ : List ℕ) {y u v : List ℕ} (in-y : length y ≡ length y₀) (in-u : length u ≡ length u₀)
+    (in-v : length v ≡ length v₀) where
   pub lent420-kept : {below : List ℕ} → Lent420 d this below y₀ u₀ v₀ → Lent420 d this below y u v
   lent420-kept p = record {
     upper-row = p .upper-row;

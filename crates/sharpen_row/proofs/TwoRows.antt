@@ -16,7 +16,8 @@ two-none upper lower f g d =
     record { size = refl; in-upper = λ k h. absurd (omega arith); in-lower = λ k h. absurd (omega arith); other = λ p _ _. refl }
 
 -- a byte more of each
-pub two-more : {upper lower n : ℕ} {f g : ℕ → ℕ} {d e : List ℕ} (a b : ℕ) → upper + n < lower → lower + n < length e → a ≡ f n → b ≡ g n → TwoPainted upper lower n f g d e
+pub two-more : {upper lower n : ℕ} {f g : ℕ → ℕ} {d e : List ℕ} (a b : ℕ) → upper + n < lower → lower + n < length e → a ≡ f n → b ≡ g n
+    → TwoPainted upper lower n f g d e
     → TwoPainted upper lower (n + 1) f g d (set (set e (upper + n) a) (lower + n) b)
 two-more {upper} {lower} {n} {f} {g} {d} {e} a b apart inside ea eb p =
     record { size = length-set e1 (lower + n) b ∙ length-set e (upper + n) a ∙ p .size; in-upper = in-upper; in-lower = in-lower; other = other }
@@ -34,7 +35,8 @@ two-more {upper} {lower} {n} {f} {g} {d} {e} a b apart inside ea eb p =
     in-upper : (k : ℕ) → k < n + 1 → getD e2 (upper + k) 0 ≡ f k
     in-upper k h =
         by-place k n (λ l. past (upper + k) (λ x. omega arith) (λ x. omega arith) ∙ p .in-upper k l)
-        (λ l. let x : k ≡ n = omega arith in rw x (getD-set-other e1 (lower + n) (upper + n) b 0 (λ y. omega arith) ∙ getD-set-same e (upper + n) a 0 (omega arith) ∙ ea))
+        (λ l. let x : k ≡ n = omega arith in rw x (getD-set-other e1 (lower + n) (upper + n) b 0 (λ y. omega arith)
+        ∙ getD-set-same e (upper + n) a 0 (omega arith) ∙ ea))
 
     in-lower : (k : ℕ) → k < n + 1 → getD e2 (lower + k) 0 ≡ g k
     in-lower k h =
@@ -42,7 +44,8 @@ two-more {upper} {lower} {n} {f} {g} {d} {e} a b apart inside ea eb p =
         (λ l. let x : k ≡ n = omega arith in rw x (getD-set-same e1 (lower + n) b 0 (omega (arith, length-set e (upper + n) a)) ∙ eb))
 
     other : (q : ℕ) → (upper ≤ q → q < upper + (n + 1) → ⊥) → (lower ≤ q → q < lower + (n + 1) → ⊥) → getD e2 q 0 ≡ getD d q 0
-    other q h k = past q (λ x. h (omega arith) (omega arith)) (λ x. k (omega arith) (omega arith)) ∙ p .other q (λ x y. h x (omega arith)) (λ x y. k x (omega arith))
+    other q h k = past q (λ x. h (omega arith) (omega arith)) (λ x. k (omega arith) (omega arith))
+        ∙ p .other q (λ x y. h x (omega arith)) (λ x y. k x (omega arith))
 
 pub two-to : {upper lower m n : ℕ} {f g : ℕ → ℕ} {d e : List ℕ} → m ≡ n → TwoPainted upper lower m f g d e → TwoPainted upper lower n f g d e
 two-to {upper = upper} {lower = lower} {f = f} {g = g} {d = d} {e = e} h p = subst (λ (n : ℕ). TwoPainted upper lower n f g d e) h p

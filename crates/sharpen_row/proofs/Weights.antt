@@ -73,7 +73,8 @@ weigh-turned wr wg wb offset x y z =
 
 -- the weighed bytes of a pixel, by their places
 weigh-placed : (channels : YuvSourceChannels) (wr wg wb : ℤ) (offset : ℕ) (f : ℕ → ℕ) → let w = byPlace channels wr wg wb in
-    weigh (w .first) (w .second) (w .third) offset (f 0) (f 1) (f 2) ≡ weigh wr wg wb offset (f (rOffset channels)) (f (gOffset channels)) (f (bOffset channels))
+    weigh (w .first) (w .second) (w .third) offset (f 0) (f 1) (f 2) ≡ weigh wr wg wb offset (f (rOffset channels)) (f (gOffset channels))
+    (f (bOffset channels))
 weigh-placed Rgb wr wg wb offset f = refl
 weigh-placed Rgba wr wg wb offset f = refl
 weigh-placed Bgra wr wg wb offset f = weigh-turned wr wg wb offset (f 0) (f 1) (f 2)
@@ -117,12 +118,22 @@ module _ {range : YuvRange} {t : CbCrForwardTransformI32} (s : Shape range t) wh
   pub cb-small : Small (t .«cb_r») (t .«cb_g») (t .«cb_b»)
   cb-small =
       let limit = limits range in
-      record { r = negative (s .cb-r) (s .«cb_r») (omega arith); g = negative (s .cb-g) (s .«cb_g») (omega arith); b = positive (chromaTop range) (s .«cb_b») (omega arith) }
+      record {
+        r = negative (s .cb-r) (s .«cb_r») (omega arith);
+        g = negative (s .cb-g) (s .«cb_g») (omega arith);
+        b = positive (chromaTop range) (s .«cb_b»)
+            (omega arith);
+      }
 
   pub cr-small : Small (t .«cr_r») (t .«cr_g») (t .«cr_b»)
   cr-small =
       let limit = limits range in
-      record { r = positive (chromaTop range) (s .«cr_r») (omega arith); g = negative (s .cr-g) (s .«cr_g») (omega arith); b = negative (s .cr-b) (s .«cr_b») (omega arith) }
+      record {
+        r = positive (chromaTop range) (s .«cr_r») (omega arith);
+        g = negative (s .cr-g) (s .«cr_g») (omega arith);
+        b = negative (s .cr-b) (s .«cr_b»)
+            (omega arith);
+      }
 
 pub placed-small : (channels : YuvSourceChannels) {wr wg wb : ℤ} → Small wr wg wb → let w = byPlace channels wr wg wb in Small (w .first) (w .second) (w .third)
 placed-small Rgb s = s
@@ -161,8 +172,10 @@ byte-weights Bgr {wr = wr} {wg = wg} {wb = wb} s all =
     record { first = s .b; second = s .g; third = s .r; chroma = λ x y z hx hy hz. rw (weigh-turned wr wg wb 128 x y z) (all z y x hz hy hx .byte) }
 
 -- what was weighed by places is what the definition holds
-held-placed : (channels : YuvSourceChannels) {lo hi : ℕ} (wr wg wb : ℤ) → AllHeld lo hi wr wg wb → (f : ℕ → ℕ) → AreBytes f → (v : ℕ) → let w = byPlace channels wr wg wb in
-    pos v ≡ weigh (w .first) (w .second) (w .third) 128 (f 0) (f 1) (f 2) → v ≡ heldBetween lo hi (weigh wr wg wb 128 (f (rOffset channels)) (f (gOffset channels)) (f (bOffset channels)))
+held-placed : (channels : YuvSourceChannels) {lo hi : ℕ} (wr wg wb : ℤ) → AllHeld lo hi wr wg wb → (f : ℕ → ℕ) → AreBytes f → (v : ℕ)
+    → let w = byPlace channels wr wg wb in
+    pos v ≡ weigh (w .first) (w .second) (w .third) 128 (f 0) (f 1) (f 2)
+    → v ≡ heldBetween lo hi (weigh wr wg wb 128 (f (rOffset channels)) (f (gOffset channels)) (f (bOffset channels)))
 held-placed channels wr wg wb all f bytes v e =
     let o = offsets channels in
     let h = all _ _ _ (bytes (rOffset channels) (o .0)) (bytes (gOffset channels) (o .1)) (bytes (bOffset channels) (o .2)) in
@@ -212,6 +225,7 @@ luma-of s p f bytes =
     let g = f (gOffset channels) in
     let b = f (bOffset channels) in
     let sum = luma-sum p r g b (bytes (rOffset channels) (o .0)) (bytes (gOffset channels) (o .1)) (bytes (bOffset channels) (o .2)) in
-    let sizes : r * natAbs (t .yr) + g * natAbs (t .yg) + b * natAbs (t .yb) + lumaBias (s .range) ≡ r * p .luma-r + g * p .luma-g + b * p .luma-b + lumaBias (s .range) = rw (p .yr, p .yg, p .yb) in
+    let sizes : r * natAbs (t .yr) + g * natAbs (t .yg) + b * natAbs (t .yb) + lumaBias (s .range) ≡ r * p .luma-r + g * p .luma-g + b * p .luma-b + lumaBias
+    (s .range) = rw (p .yr, p .yg, p .yb) in
     let same = parts-placed channels (t .yr) (t .yg) (t .yb) (lumaBias (s .range)) f ∙ sizes in
     record { below = rw same (sum .below); is = ap (λ (n : ℕ). n / 8192) same ∙ sym (at-most-is sum) }

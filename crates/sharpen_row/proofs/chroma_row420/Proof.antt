@@ -48,18 +48,21 @@ pair-requires c κs = pair-ready (start c .pre .0 .summed) (start c .pre .1 .0) 
 pair-requires-2 : tie.Need-pair-requires-2 Inv-loop μ-loop
 pair-requires-2 p κs =
     let c = p .before in
-    pair-ready (start c .pre .0 .summed) (row-of (start c .args .below .now) (loop c .before .pixel-size .ensures .0) (start c .pre .1 .1 .0)) (2 * loop c .loop .j) (c .right-of .result) (inside c) (right c)
+    pair-ready (start c .pre .0 .summed) (row-of (start c .args .below .now) (loop c .before .pixel-size .ensures .0) (start c .pre .1 .1 .0))
+    (2 * loop c .loop .j) (c .right-of .result) (inside c) (right c)
 
 sixteenths-requires : tie.Need-sixteenths-requires Inv-loop μ-loop
 sixteenths-requires p κs =
     let c = p .before .before in
-    over-ready (start c .pre .0) (loop c .loop .j) (c .right-of .result) (inside c) (c .right-of .ensures) (upper c) (lower c) (p .before .pair .ensures) (p .pair2 .ensures)
+    over-ready (start c .pre .0) (loop c .loop .j) (c .right-of .result) (inside c) (c .right-of .ensures) (upper c) (lower c) (p .before .pair .ensures)
+    (p .pair2 .ensures)
 
 mixed-requires : tie.Need-mixed-requires Inv-loop μ-loop
 mixed-requires m κs =
     let p = m .before in
     let c = p .before .before in
-    linears420-ready (start c .pre .0) (loop c .loop .j) (c .right-of .result) (inside c) (c .right-of .ensures) (upper c) (lower c) (p .before .pair .ensures) (p .pair2 .ensures) (m .sixteenths .ensures)
+    linears420-ready (start c .pre .0) (loop c .loop .j) (c .right-of .result) (inside c) (c .right-of .ensures) (upper c) (lower c)
+    (p .before .pair .ensures) (p .pair2 .ensures) (m .sixteenths .ensures)
 
 abbrev Turn : tie.After-mixed Inv-loop μ-loop → tie.After-right-of Inv-loop μ-loop
 Turn c = c .before .before .before .before
@@ -88,7 +91,8 @@ loop-again q =
     let p = m .before .before in
     let c = Turn m in
     let test = c .before .loop-test .taken in
-    let e = colour420-is (start c .pre .0) (loop c .loop .j) (c .right-of .result) (inside c) (c .right-of .ensures) (upper c) (lower c) (p .before .pair .ensures) (p .pair2 .ensures) (m .before .sixteenths .ensures) (m .mixed .ensures) in
+    let e = colour420-is (start c .pre .0) (loop c .loop .j) (c .right-of .result) (inside c) (c .right-of .ensures) (upper c) (lower c)
+    (p .before .pair .ensures) (p .pair2 .ensures) (m .before .sixteenths .ensures) (m .mixed .ensures) in
     (omega (arith, test), Put q .put-chroma .ensures .further _ e _ _ (loop c .loop .inv .1))
 
 returns : tie.Need-returns Inv-loop μ-loop
@@ -98,7 +102,8 @@ returns c =
     let d = a .rows .frame in
     let size = (d .width + 1) / 2 in
     let end : l .loop .j ≡ size = omega (arith, c .loop-test .left, l .loop .inv .0) in
-    subst (λ (n : ℕ). ChromaPainted d (input420 d (pixelsOf (a .count) (a .this .now)) (pixelsOf n (a .below .now))) size (a .u .now) (a .v .now) (l .loop .u) (l .loop .v)) (l .before .pixel-size .ensures .0)
+    subst (λ (n : ℕ). ChromaPainted d (input420 d (pixelsOf (a .count) (a .this .now)) (pixelsOf n (a .below .now))) size (a .u .now) (a .v .now)
+    (l .loop .u) (l .loop .v)) (l .before .pixel-size .ensures .0)
     (rw end at (l .loop .inv .1))
 
 pub chroma-row420-spec : {M : Type 1} → statement M

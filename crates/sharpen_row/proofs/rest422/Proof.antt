@@ -60,8 +60,11 @@ loop-again c =
     let t = Turn c in
     let a = start t .args in
     let d = a .rows .frame in
-    let count = loop t .before .pixel-size .result in
-    (omega (arith, t .before .loop-test .taken), stepped-more (Lumas422 d count (a .this .now)) d (inputs422 d count (a .this .now)) (block .1) (Put c .put-chroma .ensures) (block .0) (loop t .loop .inv .1))
+    let count = loop t .before .pixel-size .result in (
+      omega (arith, t .before .loop-test .taken),
+      stepped-more (Lumas422 d count (a .this .now)) d (inputs422 d count (a .this .now)) (block .1)
+          (Put c .put-chroma .ensures) (block .0) (loop t .loop .inv .1),
+    )
 
 returns : tie.Need-returns Inv-loop μ-loop
 returns c =
@@ -69,7 +72,8 @@ returns c =
     let a = Start (l .before) .args in
     let d = a .rows .frame in
     let end : l .loop .j ≡ chromaSize d = omega (arith, c .loop-test .left, l .loop .inv .0) in
-    subst (λ (n : ℕ). Stepped (Begun422 d n (a .this .now)) (2 * (d .width / 4)) (chromaSize d) (a .y .now) (a .u .now) (a .v .now) (l .loop .y) (l .loop .u) (l .loop .v)) (l .before .pixel-size .ensures .0)
+    subst (λ (n : ℕ). Stepped (Begun422 d n (a .this .now)) (2 * (d .width / 4)) (chromaSize d) (a .y .now) (a .u .now) (a .v .now) (l .loop .y) (l .loop .u)
+    (l .loop .v)) (l .before .pixel-size .ensures .0)
     (rw end at (l .loop .inv .1))
 
 pub rest422-spec : {M : Type 1} → statement M

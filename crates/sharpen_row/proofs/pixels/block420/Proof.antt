@@ -51,7 +51,8 @@ sixteenths-requires c κs =
     let first = First (Second c) in
     let a = Start (first .before) in
     let i = a .pre .1 .1 in
-    over-ready (a .pre .0) (a .args .block .j) (a .args .block .next) (i .inside) (i .next) (upper a) (lower a) (first .luma-pair .ensures .0) (Second c .luma-pair2 .ensures .0)
+    over-ready (a .pre .0) (a .args .block .j) (a .args .block .next) (i .inside) (i .next) (upper a) (lower a) (first .luma-pair .ensures .0)
+    (Second c .luma-pair2 .ensures .0)
 
 mixed-requires : tie.Need-mixed-requires
 mixed-requires c κs =
@@ -59,7 +60,8 @@ mixed-requires c κs =
     let first = First second in
     let a = Start (first .before) in
     let i = a .pre .1 .1 in
-    linears420-ready (a .pre .0) (a .args .block .j) (a .args .block .next) (i .inside) (i .next) (upper a) (lower a) (first .luma-pair .ensures .0) (second .luma-pair2 .ensures .0) (c .sixteenths .ensures)
+    linears420-ready (a .pre .0) (a .args .block .j) (a .args .block .next) (i .inside) (i .next) (upper a) (lower a) (first .luma-pair .ensures .0)
+    (second .luma-pair2 .ensures .0) (c .sixteenths .ensures)
 
 returns : tie.Need-returns
 returns c =

@@ -39,7 +39,8 @@ mixed-requires c κs =
     let pair = Pair (c .before .before) in
     let a = Start (pair .before) in
     let i = a .pre .1 .1 in
-    linears422-ready (a .pre .0) (a .args .block .j) (a .args .block .next) (i .inside) (i .next) (row a) (pair .luma-pair .ensures .0) (right (c .before)) (c .quarters .ensures)
+    linears422-ready (a .pre .0) (a .args .block .j) (a .args .block .next) (i .inside) (i .next) (row a) (pair .luma-pair .ensures .0) (right (c .before))
+    (c .quarters .ensures)
 
 returns : tie.Need-returns
 returns c =

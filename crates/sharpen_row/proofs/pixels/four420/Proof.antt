@@ -25,8 +25,11 @@ returns : tie.Need-returns
 returns c =
     let second = c .before .before in
     let first = First (second .before) in
-    let a = Start (first .before) .args in
-    ((first .block420 .ensures .0, second .block4202 .ensures .0), luma-both (LumasPainted (a .rows .frame) (a .count) (a .this .now) (a .below .now)) (a .rows .frame) (a .j) (first .block420 .ensures .1) (second .block4202 .ensures .1))
+    let a = Start (first .before) .args in (
+      (first .block420 .ensures .0, second .block4202 .ensures .0),
+      luma-both (LumasPainted (a .rows .frame) (a .count) (a .this .now) (a .below .now))
+          (a .rows .frame) (a .j) (first .block420 .ensures .1) (second .block4202 .ensures .1),
+    )
 
 pub four420-spec : {M : Type 1} → statement M
 four420-spec =

@@ -90,7 +90,8 @@ returns c =
     let more = luma422-more d count (here a) room (l₁ .0) (l₁ .1) (put₁ .put-luma .ensures) in (
       (
         colour422-is p j _ (here a .inside) (here a .next) (row a) (first .pair .ensures) refl (mixed₁ .before .quarters .ensures) (mixed₁ .mixed .ensures),
-        colour422-is p (j + 1) _ (there a .inside) (there a .next) (row a) (second .pair2 .ensures) refl (mixed₂ .before .quarters2 .ensures) (mixed₂ .mixed2 .ensures),
+        colour422-is p (j + 1) _ (there a .inside) (there a .next) (row a) (second .pair2 .ensures) refl (mixed₂ .before .quarters2 .ensures)
+            (mixed₂ .mixed2 .ensures),
       ),
       luma-both (Lumas422 d count (a .args .this .now)) d j more
           (luma422-more d count (there a) (row-room (a .args .y .now) (more .size) room) (l₂ .0) (l₂ .1) (put₂ .put-luma2 .ensures)),

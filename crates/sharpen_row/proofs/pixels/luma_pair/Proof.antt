@@ -15,8 +15,11 @@ pair-requires c κs =
 put-luma-requires : tie.Need-put-luma-requires
 put-luma-requires c κs =
     let a = c .before .before .before .before in
-    let p = a .pre .1 .1 in
-    ((omega (arith, p), omega (arith, p)), fits-ready (a .pre .0) (pixelsOf (a .args .count) (a .args .row .now)) (a .args .x) (a .args .next) (c .before .pair .ensures))
+    let p = a .pre .1 .1 in (
+      (omega (arith, p), omega (arith, p)),
+      fits-ready (a .pre .0) (pixelsOf (a .args .count) (a .args .row .now)) (a .args .x) (a .args .next)
+          (c .before .pair .ensures),
+    )
 
 returns : tie.Need-returns
 returns c =
