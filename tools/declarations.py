@@ -153,7 +153,7 @@ def named_numbers():
     """The library's codes and numbers by name: those of settings, and those of refusals."""
     codes = (ROOT / 'crates' / 'setting_codes' / 'src' / 'lib.rt').read_text()
     settings = {f'{kind}::{name}': int(code) for code, kind, name in re.findall(r'(\d+) => (\w+)::(\w+),', codes)}
-    custom = re.search(r'const CUSTOM: u32 = (\d+);', (SOURCES / 'lib.rt').read_text())
+    custom = re.search(r'const CUSTOM: u32 = (\d+);', (ROOT / 'crates' / 'call_numbers' / 'src' / 'lib.rt').read_text())
     settings['YuvStandardMatrix::Custom'] = int(custom[1])
     answers = (ROOT / 'crates' / 'error_numbers' / 'src' / 'lib.rt').read_text()
     refusals = {name: int(number) for name, number in re.findall(r'YuvError::(\w+)(?:\(size\))? => AnswerNumbers \{ number: (\d+)', answers)}

@@ -1,5 +1,2 @@
--- Laws of the steps of a band.
-pub mod Written
-pub mod Places
-pub mod Steps
+-- Laws of the rows of a band.
 pub mod Walked

@@ -11,20 +11,21 @@ use Rattle.definitions.specs.declared.Band.{Band}
 use Rattle.definitions.specs.Image.{Image}
 use Rattle.definitions.specs.Bands.{bandImage, Sharpened}
 use Rattle.definitions.proofs.Bands.{sharpened-none, sharpened-then}
-use Rattle.band_planes.specs.declared.Work.{Work}
-use Rattle.band_planes.specs.Known.{Lent}
-use Rattle.band_planes.specs.Steps.{bandOf, frameOf, Sees}
-use Rattle.band_planes.proofs.Steps.{sees-own}
+use Rattle.band_steps.specs.declared.Work.{Work}
+use Rattle.yuv_error.specs.Known.{Lent}
+use Rattle.band_steps.specs.Steps.{bandOf, frameOf, Sees}
+use Rattle.band_steps.proofs.Steps.{sees-own}
 
 -- what is lent, after rows were written
-pub lent-after : {b : Band} {source : ℕ} {d : FrameDescription} {from to : ℕ} {image : Image} {y u v y′ u′ v′ : List ℕ} → Sharpened d from to image y u v y′ u′ v′
+pub lent-after : {b : Band} {source : ℕ} {d : FrameDescription} {from to : ℕ} {image : Image} {y u v y′ u′ v′ : List ℕ}
+    → Sharpened d from to image y u v y′ u′ v′
     → Lent b source (length y) (length u) (length v) → Lent b source (length y′) (length u′) (length v′)
 lent-after p l =
-    let w = l .whole in
+    let w = l .planes in
     record {
       sized = l .sized;
       given = l .given;
-      whole = record {
+      planes = record {
         y-row = w .y-row;
         y-size = p .luma .size ∙ w .y-size;
         u-row = w .u-row;
@@ -51,11 +52,17 @@ pub record Walked (w : Work) (from row : ℕ) (source y u v y′ u′ v′ : Lis
 pub walked-none : (w : Work) (from : ℕ) (source y u v : List ℕ) → from ≤ w .done + w .count → Walked w from from source y u v y u v
 walked-none w from source y u v most = record { least = le-refl from; most = most; sharpened = λ image sees. sharpened-none (frameOf w) from image y u v }
 
-pub walked-then : {w : Work} {from row next : ℕ} {source y u v y′ u′ v′ y″ u″ v″ : List ℕ} → w .done + w .count ≤ frameOf w .height → Walked w from row source y u v y′ u′ v′
+pub walked-then : {w : Work} {from row next : ℕ} {source y u v y′ u′ v′ y″ u″ v″ : List ℕ} → w .done + w .count ≤ frameOf w .height
+    → Walked w from row source y u v y′ u′ v′
     → row ≤ next → next ≤ w .done + w .count → ((image : Image) → Sees w source image → Sharpened (frameOf w) row next image y′ u′ v′ y″ u″ v″)
     → Walked w from next source y u v y″ u″ v″
 walked-then inside p rise most step =
-    record { least = omega (arith, p .least); most = most; sharpened = λ image sees. sharpened-then (p .least) rise (omega arith) (p .sharpened image sees) (step image sees) }
+    record {
+      least = omega (arith, p .least);
+      most = most;
+      sharpened = λ image sees. sharpened-then (p .least) rise (omega arith) (p .sharpened image sees)
+          (step image sees);
+    }
 
 -- any image serves for the planes' sizes
 pub walked-some : {w : Work} {from row : ℕ} {source y u v y′ u′ v′ : List ℕ} → Walked w from row source y u v y′ u′ v′

@@ -1,3 +1,2 @@
--- What serves the contracts of a band's steps: the meaning stands in definitions.
-pub mod Known
-pub mod Steps
+-- What serves the contracts of a band's rows: the meaning stands in definitions.
+pub mod Rows

@@ -26,16 +26,22 @@ module _ (b : Band) (source carried : List ℕ) where
   band-carried i h = sym (ap (λ (t : Bool). cond t (pixelsOf 3 carried) (ownRows b source i)) (lt-ltb i (b .done) h))
 
   -- with no row done, a band's own rows are the source's, and nothing is above them
-  pub whole-image : b .done ≡ 0 → bandImage b source carried ≡ sourceImage (b .frame) (b .stride) source
+  pub all-rows-image : b .done ≡ 0 → bandImage b source carried ≡ sourceImage (b .frame) (b .stride) source
   unfolding ownRows
-  whole-image first =
+  all-rows-image first =
       fun-ext (λ r. sym (band-own-rows r (omega arith)) ∙ ap (sourceImage (b .frame) (b .stride) source) (let e : r - b .done ≡ r = omega arith in e))
 
 pub sharpened-none : (d : FrameDescription) (done : ℕ) (image : Image) (y u v : List ℕ) → Sharpened d done done image y u v y u v
-sharpened-none d done image y u v = record { luma = plane-none _ _ _ _ _ _ (le-refl _); cb = plane-none _ _ _ _ _ _ (le-refl _); cr = plane-none _ _ _ _ _ _ (le-refl _) }
+sharpened-none d done image y u v = record {
+  luma = plane-none _ _ _ _ _ _ (le-refl _);
+  cb = plane-none _ _ _ _ _ _ (le-refl _);
+  cr = plane-none _ _ _ _ _ _
+      (le-refl _);
+}
 
 -- one band after another
-pub sharpened-then : {d : FrameDescription} {start done end : ℕ} {image : Image} {y u v y′ u′ v′ y″ u″ v″ : List ℕ} → start ≤ done → done ≤ end → end ≤ d .height
+pub sharpened-then : {d : FrameDescription} {start done end : ℕ} {image : Image} {y u v y′ u′ v′ y″ u″ v″ : List ℕ} → start ≤ done → done ≤ end
+    → end ≤ d .height
     → Sharpened d start done image y u v y′ u′ v′ → Sharpened d done end image y′ u′ v′ y″ u″ v″ → Sharpened d start end image y u v y″ u″ v″
 sharpened-then {d} l m n p q =
     let before = finished-rise d l (omega arith) in

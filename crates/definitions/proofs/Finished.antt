@@ -73,6 +73,8 @@ pub record Between (s : YuvChromaSubsampling) (h done end k : ℕ) : Type 0 wher
 pub between : (s : YuvChromaSubsampling) (h done end k : ℕ) → done < end → end ≤ h → finishedBy s h done ≤ k → k < finishedBy s h end → Between s h done end k
 between Yuv420 h done end k l m a b =
     finished? h end m
-    (λ e x. finished? h done (omega arith) (λ f y. absurd (omega arith)) (λ f y. record { first = omega arith; below-least = omega arith; below-most = omega arith }))
-    (λ e x. finished? h done (omega arith) (λ f y. absurd (omega arith)) (λ f y. record { first = omega arith; below-least = omega arith; below-most = omega arith }))
+    (λ e x. finished? h done (omega arith) (λ f y. absurd (omega arith))
+    (λ f y. record { first = omega arith; below-least = omega arith; below-most = omega arith }))
+    (λ e x. finished? h done (omega arith) (λ f y. absurd (omega arith))
+    (λ f y. record { first = omega arith; below-least = omega arith; below-most = omega arith }))
 between Yuv422 h done end k l m a b = record { first = b; below-least = a; below-most = b }

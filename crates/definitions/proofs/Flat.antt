@@ -29,7 +29,8 @@ back s v sum (inl e) h =
     ap (λ (n : ℕ). gammaEntry (s .transfer) ((n + 8) / 16)) (h ∙ ap (λ (v : ℕ). 16 * linear s v) e ∙ ap (λ (n : ℕ). 16 * n) (t .linear-0)) ∙ t .gamma-0 ∙ sym e
 back s v sum (inr e) h =
     let t = ends (s .transfer) in
-    ap (λ (n : ℕ). gammaEntry (s .transfer) ((n + 8) / 16)) (h ∙ ap (λ (v : ℕ). 16 * linear s v) e ∙ ap (λ (n : ℕ). 16 * n) (t .linear-255)) ∙ t .gamma-65535 ∙ sym e
+    ap (λ (n : ℕ). gammaEntry (s .transfer) ((n + 8) / 16)) (h ∙ ap (λ (v : ℕ). 16 * linear s v) e ∙ ap (λ (n : ℕ). 16 * n) (t .linear-255))
+    ∙ t .gamma-65535 ∙ sym e
 
 module _ (d : FrameDescription) (row below : Pixels) (j i v : ℕ) (end : End v) (wide : 2 * j < d .width)
     (this : (x : ℕ) → x < d .width → row x i ≡ v) (under : (x : ℕ) → x < d .width → below x i ≡ v) where
@@ -41,7 +42,14 @@ module _ (d : FrameDescription) (row below : Pixels) (j i v : ℕ) (end : End v)
 
   flat420 : input420 d row below j i ≡ v
   flat420 = below? (2 * j + 1) (d .width)
-      (λ l. sym (input420-pair d row below j i l) ∙ back s v _ end (omega (arith, lin row this (2 * j) wide, lin row this (2 * j + 1) l, lin below under (2 * j) wide, lin below under (2 * j + 1) l)))
+      (λ l. sym (input420-pair d row below j i l) ∙ back s v _ end (omega (
+        arith,
+        lin row this (2 * j) wide,
+        lin row this (2 * j + 1) l,
+        lin below under
+            (2 * j) wide,
+        lin below under (2 * j + 1) l,
+      )))
       (λ l. sym (input420-last d row below j i l) ∙ back s v _ end (omega (arith, lin row this (2 * j) wide, lin below under (2 * j) wide)))
 
   flat422 : input422 d row j i ≡ v
@@ -58,7 +66,8 @@ pub record OneColour (d : FrameDescription) (image : Image) (r g b : ℕ) : Type
 flat-input : (m : YuvChromaSubsampling) (d : FrameDescription) (image : Image) (k j i v : ℕ) → End v → k < chromaHeight m (d .height) → j < chromaSize d
     → ((y x : ℕ) → y < d .height → x < d .width → image y x i ≡ v) → chromaInput m d image k j i ≡ v
 flat-input Yuv420 d image k j i v end a b same =
-    flat420 d (image (2 * k)) (image (min (2 * k + 1) (d .height - 1))) j i v end (omega arith) (λ x. same (2 * k) x (omega arith)) (λ x. same (min (2 * k + 1) (d .height - 1)) x (omega arith))
+    flat420 d (image (2 * k)) (image (min (2 * k + 1) (d .height - 1))) j i v end (omega arith) (λ x. same (2 * k) x (omega arith))
+    (λ x. same (min (2 * k + 1) (d .height - 1)) x (omega arith))
 flat-input Yuv422 d image k j i v end a b same =
     flat422 d (image k) (image k) j i v end (omega arith) (λ x. same k x a) (λ x. same k x a)
 
@@ -81,7 +90,9 @@ flat-frame d image r g b er eg eb one = record {
   cr = λ k j a c. chroma (crOf (d .settings)) k j a c;
 }
   where
-    chroma : (f : ℕ → ℕ → ℕ → ℕ) (k j : ℕ) → k < chromaRows d → j < chromaSize d → ofColour (d .settings) f (chromaInput (d .settings .sampling) d image k j) ≡ f r g b
+    chroma : (f : ℕ → ℕ → ℕ → ℕ) (k j : ℕ) → k < chromaRows d → j < chromaSize d
+        → ofColour (d .settings) f (chromaInput (d .settings .sampling) d image k j) ≡ f r g b
     chroma f k j a c =
         let m = d .settings .sampling in
-        colour f _ _ _ r g b (flat-input m d image k j _ r er a c (one .red)) (flat-input m d image k j _ g eg a c (one .green)) (flat-input m d image k j _ b eb a c (one .blue))
+        colour f _ _ _ r g b (flat-input m d image k j _ r er a c (one .red)) (flat-input m d image k j _ g eg a c (one .green))
+        (flat-input m d image k j _ b eb a c (one .blue))

@@ -8,16 +8,19 @@ use Rattle.definitions.specs.Row.{Pixels, corrected, linear, input420, i
 
 module _ (d : FrameDescription) (row below : Pixels) (j i : ℕ) where
   pub input420-pair : 2 * j + 1 < d .width → let s = d .settings in
-      corrected s (9 * linear s (row (2 * j) i) + 3 * linear s (row (2 * j + 1) i) + 3 * linear s (below (2 * j) i) + 1 * linear s (below (2 * j + 1) i)) ≡ input420 d row below j i
+      corrected s (9 * linear s (row (2 * j) i) + 3 * linear s (row (2 * j + 1) i) + 3 * linear s (below (2 * j) i) + 1 * linear s
+      (below (2 * j + 1) i)) ≡ input420 d row below j i
   unfolding input420
   input420-pair h = rw (lt-ltb (2 * j + 1) (d .width) h)
 
-  pub input420-last : d .width ≤ 2 * j + 1 → let s = d .settings in corrected s (12 * linear s (row (2 * j) i) + 4 * linear s (below (2 * j) i)) ≡ input420 d row below j i
+  pub input420-last : d .width ≤ 2 * j + 1 → let s = d .settings in corrected s
+      (12 * linear s (row (2 * j) i) + 4 * linear s (below (2 * j) i)) ≡ input420 d row below j i
   unfolding input420
   input420-last h = rw (le-ltb (2 * j + 1) (d .width) h)
 
 module _ (d : FrameDescription) (row : Pixels) (j i : ℕ) where
-  pub input422-pair : 2 * j + 1 < d .width → let s = d .settings in corrected s (12 * linear s (row (2 * j) i) + 4 * linear s (row (2 * j + 1) i)) ≡ input422 d row j i
+  pub input422-pair : 2 * j + 1 < d .width → let s = d .settings in corrected s
+      (12 * linear s (row (2 * j) i) + 4 * linear s (row (2 * j + 1) i)) ≡ input422 d row j i
   unfolding input422
   input422-pair h = rw (lt-ltb (2 * j + 1) (d .width) h)
 

@@ -36,7 +36,8 @@ painted-same {d = d} {e = e} p = ext-getD 0 e d (p .size) (λ k _. painted-other
 
 -- ---- how rows come to be painted
 
-pub painted : {n : ℕ} {f : ℕ → ℕ} {d e : List ℕ} → length e ≡ length d → ((k : ℕ) → k < n → getD e k 0 ≡ f k) → ((k : ℕ) → n ≤ k → getD e k 0 ≡ getD d k 0) → Painted n f d e
+pub painted : {n : ℕ} {f : ℕ → ℕ} {d e : List ℕ} → length e ≡ length d → ((k : ℕ) → k < n → getD e k 0 ≡ f k) → ((k : ℕ) → n ≤ k → getD e k 0 ≡ getD d k 0)
+    → Painted n f d e
 painted {n} s p q =
     record { size = s; byte = λ k. by-place k n (λ h. rw (lt-ltb k n h) (p k h)) (λ h. rw (le-ltb k n h) (q k h)) }
 
@@ -54,7 +55,8 @@ painted-more {i} {f} {d} {e} v inside is p =
     new k at = rw at (getD-set-same e i v 0 inside ∙ is)
 
 -- a part more: the k bytes from n on, painted while they were lent
-pub painted-join : (n k : ℕ) {f g : ℕ → ℕ} {d e part : List ℕ} → n + k ≤ length e → ((q : ℕ) → q < k → g q ≡ f (n + q)) → length part ≡ k → Painted n f d e → Painted k g (take k (drop n e)) part → Painted (n + k) f d (putMid n k e part)
+pub painted-join : (n k : ℕ) {f g : ℕ → ℕ} {d e part : List ℕ} → n + k ≤ length e → ((q : ℕ) → q < k → g q ≡ f (n + q)) → length part ≡ k → Painted n f d e
+    → Painted k g (take k (drop n e)) part → Painted (n + k) f d (putMid n k e part)
 painted-join n k {f} {g} {d} {e} {part} inside agree size p q =
     painted (same-len-mid n k e part (q .size) ∙ p .size)
     (λ i h. by-place i n

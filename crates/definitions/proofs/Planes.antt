@@ -106,7 +106,8 @@ row-written i stride n k at f e part place nk ks room row =
             let there : at + q ≡ p = omega arith in
             let w = row-of i stride q p (omega arith) (ap (λ (x : ℕ). x + q) (sym place) ∙ there) in
             let past : n ≤ q = below? q n (λ c. absurd (out (record { row-least = omega arith; row-most = omega arith; column = omega arith }))) (λ c. c) in
-            subst (λ (x : ℕ). getD (putMid at k e part) x 0 ≡ getD e x 0) there (within q (omega arith) ∙ ap (λ (b : Bool). cond b (f i q) (getD e (at + q) 0)) (le-ltb q n past))
+            subst (λ (x : ℕ). getD (putMid at k e part) x 0 ≡ getD e x 0) there
+            (within q (omega arith) ∙ ap (λ (b : Bool). cond b (f i q) (getD e (at + q) 0)) (le-ltb q n past))
 
         after : (p : ℕ) → at + k ≤ p → getD (putMid at k e part) p 0 ≡ getD e p 0
         after p b =
@@ -138,7 +139,8 @@ plane-same from to stride n f d e l h =
 pub plane-to : {from to to′ stride n : ℕ} {f : ℕ → ℕ → ℕ} {d e : List ℕ} → to ≡ to′ → PlaneIs from to stride n f d e → PlaneIs from to′ stride n f d e
 plane-to {from} {to} {to′} {stride} {n} {f} {d} {e} = subst (λ (r : ℕ). PlaneIs from r stride n f d e)
 
-pub plane-between : {from from′ to to′ stride n : ℕ} {f : ℕ → ℕ → ℕ} {d e : List ℕ} → from ≡ from′ → to ≡ to′ → PlaneIs from to stride n f d e → PlaneIs from′ to′ stride n f d e
+pub plane-between : {from from′ to to′ stride n : ℕ} {f : ℕ → ℕ → ℕ} {d e : List ℕ} → from ≡ from′ → to ≡ to′ → PlaneIs from to stride n f d e
+    → PlaneIs from′ to′ stride n f d e
 plane-between {from} {from′} {to} {to′} {stride} {n} {f} {d} {e} a b h = subst (λ (r : ℕ). PlaneIs r to′ stride n f d e) a (plane-to b h)
 
 -- two images that agree where the plane is written
@@ -147,7 +149,8 @@ pub plane-like : (from to stride n : ℕ) (f g : ℕ → ℕ → ℕ) (d e : Lis
 plane-like from to stride n f g d e same h = record {
   size = h .size;
   byte = λ p. h .byte p ∙ inside? from to stride n p
-      (λ i w. ap (λ (b : Bool). byteOf stride f p b (getD d p 0)) w ∙ same _ _ (i .row-least) (i .row-most) (i .column) ∙ sym (ap (λ (b : Bool). byteOf stride g p b (getD d p 0)) w))
+      (λ i w. ap (λ (b : Bool). byteOf stride f p b (getD d p 0)) w ∙ same _ _ (i .row-least) (i .row-most) (i .column)
+      ∙ sym (ap (λ (b : Bool). byteOf stride g p b (getD d p 0)) w))
       (λ o w. ap (λ (b : Bool). byteOf stride f p b (getD d p 0)) w ∙ sym (ap (λ (b : Bool). byteOf stride g p b (getD d p 0)) w));
 }
 
@@ -180,11 +183,13 @@ plane-then a b c stride n f d e e′ ab bc h k = record { size = k .size ∙ h .
 
     byte : (p : ℕ) → getD e′ p 0 ≡ byteOf stride f p (written a c stride n p) (getD d p 0)
     byte p = k .byte p ∙ inside? b c stride n p
-        (λ i w. ap (λ (t : Bool). byteOf stride f p t (getD e p 0)) w ∙ sym (ap (λ (t : Bool). byteOf stride f p t (getD d p 0)) (written-in a c stride n p (record { row-least = omega arith; row-most = omega arith; column = omega arith }))))
+        (λ i w. ap (λ (t : Bool). byteOf stride f p t (getD e p 0)) w ∙ sym (ap (λ (t : Bool). byteOf stride f p t (getD d p 0))
+        (written-in a c stride n p (record { row-least = omega arith; row-most = omega arith; column = omega arith }))))
         (λ o w. ap (λ (t : Bool). byteOf stride f p t (getD e p 0)) w ∙ h .byte p ∙ ap (λ (t : Bool). byteOf stride f p t (getD d p 0)) (same p o))
 
 -- one row more: row i of the plane was lent, from `at` on, and came back painted
-pub plane-step : (from i next stride n k at : ℕ) (f : ℕ → ℕ → ℕ) (d e part : List ℕ) → from ≤ i → next ≡ i + 1 → at ≡ i * stride → n ≤ k → k ≤ stride → at + k ≤ length e
+pub plane-step : (from i next stride n k at : ℕ) (f : ℕ → ℕ → ℕ) (d e part : List ℕ) → from ≤ i → next ≡ i + 1 → at ≡ i * stride → n ≤ k → k ≤ stride
+    → at + k ≤ length e
     → Painted n (f i) (take k (drop at e)) part → PlaneIs from i stride n f d e → PlaneIs from next stride n f d (putMid at k e part)
 plane-step from i next stride n k at f d e part l m place nk ks room row h =
     subst (λ (x : ℕ). PlaneIs from x stride n f d (putMid at k e part)) (sym m)

@@ -30,7 +30,8 @@ module _ (d : FrameDescription) (a b : Image) where
   input-same Yuv422 k e f = input422-same d _ _ e
 
   -- chroma byte j of row k, by the cb or the cr of a colour
-  chroma-same : (f : ℕ → ℕ → ℕ → ℕ) (k j : ℕ) → j < chromaSize d → SameColours (d .width) (a (first k)) (b (first k)) → SameColours (d .width) (a (below k)) (b (below k))
+  chroma-same : (f : ℕ → ℕ → ℕ → ℕ) (k j : ℕ) → j < chromaSize d → SameColours (d .width) (a (first k)) (b (first k))
+      → SameColours (d .width) (a (below k)) (b (below k))
       → ofColour (d .settings) f (chromaInput (d .settings .sampling) d a k j) ≡ ofColour (d .settings) f (chromaInput (d .settings .sampling) d b k j)
   chroma-same f k j l x y = colour-same (d .settings) f _ _ (λ i. input-same (d .settings .sampling) k x y j i l)
 

@@ -38,13 +38,20 @@ module _ (d : FrameDescription) where
   luma-same a b same x h = colour-same (d .settings) (lumaOf (d .settings)) (a x) (b x) (λ i l. same x i h l)
 
   -- the chroma input, byte i of pixel j
-  pub input420-same : (a b below below′ : Pixels) → SameColours (d .width) a b → SameColours (d .width) below below′ → (j i : ℕ) → j < chromaWidth (d .width) → i < 3
+  pub input420-same : (a b below below′ : Pixels) → SameColours (d .width) a b → SameColours (d .width) below below′ → (j i : ℕ)
+      → j < chromaWidth (d .width) → i < 3
       → input420 d a below j i ≡ input420 d b below′ j i
   unfolding input420
   input420-same a b below below′ e f j i h l = go (ltb (2 * j + 1) (d .width)) refl
     where
       go : (t : Bool) → ltb (2 * j + 1) (d .width) ≡ t → input420 d a below j i ≡ input420 d b below′ j i
-      go true r = let k : 2 * j + 1 < d .width = ltb-true _ _ r in rw (e (2 * j) i (omega arith) l, e (2 * j + 1) i k l, f (2 * j) i (omega arith) l, f (2 * j + 1) i k l)
+      go true r = let k : 2 * j + 1 < d .width = ltb-true _ _ r in rw (
+        e (2 * j) i (omega arith) l,
+        e (2 * j + 1) i k l,
+        f (2 * j) i (omega arith) l,
+        f
+            (2 * j + 1) i k l,
+      )
       go false r = rw (r, e (2 * j) i (omega arith) l, f (2 * j) i (omega arith) l)
 
   pub input422-same : (a b : Pixels) → SameColours (d .width) a b → (j i : ℕ) → j < chromaWidth (d .width) → i < 3 → input422 d a j i ≡ input422 d b j i

@@ -36,9 +36,12 @@ sixteenths = record { weight-9 = refl; weight-12 = refl }
 -- and where they are looked up, over any settings, pixels, place j and byte i
 pub record Interpolated (d : FrameDescription) (row below : Pixels) (j i : ℕ) : Type 0 where
   pub weight-9 : 2 * j + 1 < d .width → linear (d .settings) (row (2 * j) i) ≡ 65535 → linear (d .settings) (row (2 * j + 1) i) ≡ 0
-      → linear (d .settings) (below (2 * j) i) ≡ 0 → linear (d .settings) (below (2 * j + 1) i) ≡ 0 → input420 d row below j i ≡ gammaEntry (d .settings .transfer) 36863
-  pub weight-12 : d .width ≤ 2 * j + 1 → linear (d .settings) (row (2 * j) i) ≡ 65535 → linear (d .settings) (below (2 * j) i) ≡ 0 → input420 d row below j i ≡ gammaEntry (d .settings .transfer) 49151
-  pub weight-12-of-422 : 2 * j + 1 < d .width → linear (d .settings) (row (2 * j) i) ≡ 65535 → linear (d .settings) (row (2 * j + 1) i) ≡ 0 → input422 d row j i ≡ gammaEntry (d .settings .transfer) 49151
+      → linear (d .settings) (below (2 * j) i) ≡ 0 → linear (d .settings) (below (2 * j + 1) i) ≡ 0
+      → input420 d row below j i ≡ gammaEntry (d .settings .transfer) 36863
+  pub weight-12 : d .width ≤ 2 * j + 1 → linear (d .settings) (row (2 * j) i) ≡ 65535 → linear (d .settings) (below (2 * j) i) ≡ 0
+      → input420 d row below j i ≡ gammaEntry (d .settings .transfer) 49151
+  pub weight-12-of-422 : 2 * j + 1 < d .width → linear (d .settings) (row (2 * j) i) ≡ 65535 → linear (d .settings) (row (2 * j + 1) i) ≡ 0
+      → input422 d row j i ≡ gammaEntry (d .settings .transfer) 49151
 
 pub looked-up : (d : FrameDescription) (row below : Pixels) (j i : ℕ) → Interpolated d row below j i
 looked-up d row below j i =
@@ -59,7 +62,8 @@ frameWith s w h y-stride u-stride v-stride = record { width = w; height = h; set
 
 -- a frame of the colour r, g, b has luma y and chroma u, v, in every byte
 abbrev Paints : YuvSettings → (r g b y u v : ℕ) → Type 0
-Paints s r g b y u v = (w h y-stride u-stride v-stride : ℕ) (image : Image) → let d = frameWith s w h y-stride u-stride v-stride in OneColour d image r g b → FlatFrame d image y u v
+Paints s r g b y u v = (w h y-stride u-stride v-stride : ℕ) (image : Image) → let d = frameWith s w h y-stride u-stride v-stride in OneColour d image r g b
+    → FlatFrame d image y u v
 
 pub record StarredLines : Type 0 where
   -- "red 255,0,0, 1 by 1, Bt601 Full: 76, 85, 255 in either sampling"

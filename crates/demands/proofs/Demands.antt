@@ -1,4 +1,4 @@
--- The three demands hold. Each is a consequence of the promises of the calls: the rules stand by number, so the first that holds is the lowest;
+-- The three demands hold. Each is a consequence of the promises of the calls: the rules stand in order, so the first that holds is the lowest;
 -- a call that took no row left its planes as they were; a frame in whole rows passes every rule, and is a band of all rows.
 -- Assumes nothing.
 use Prim.Native.Nat.{ℕ, _≤_}
@@ -8,41 +8,43 @@ use mathlib.Core.List.{List}
 use native.Mathlib.Omega.{arith}
 use lib.Dec.{T}
 use borrow.Author.Tests.{eq-eqb, ne-eqb}
-use lib.ListN.{length, take}
+use lib.ListN.{take}
 use Rattle.yuv_support.specs.Matrix.{accepted as accepted-matrix}
 use Rattle.yuv_error.specs.declared.YuvError.{YuvError}
 use Rattle.yuv_error.specs.declared.YuvAnswer.{YuvAnswer}
 use Rattle.yuv_error.specs.declared.YuvAnswer.the-variants.{Finished, Refused}
 use Rattle.yuv_error.specs.Numbers.{Numbers, numbersOf}
 use Rattle.yuv_error.specs.Rules.{Rule, firstOf}
-use Rattle.yuv_error.specs.Lowest.{Lowest, rising}
+use Rattle.yuv_error.specs.Lowest.{Lowest, inOrder}
 use Rattle.yuv_error.proofs.Numbers.{is-finished}
 use Rattle.yuv_error.proofs.Lowest.{first-is-lowest}
 use Rattle.sharp_gamma.proofs.Meaning.{linear-means, gamma-means}
 use Rattle.definitions.specs.declared.FrameDescription.{FrameDescription}
 use Rattle.definitions.proofs.Painted.{painted-same}
-use Rattle.band_planes.specs.Known.{Sized}
+use Rattle.yuv_error.specs.Known.{Sized}
 use Rattle.definitions.proofs.Planes.{plane-at, plane-to}
 use Rattle.definitions.proofs.Finished.{finished-none, finished-last}
-use Rattle.sharp_rgba_to_yuv.specs.Frame.{openingRules, frameRules, taken, FramePost}
-use Rattle.sharp_rgba_to_yuv.proofs.Accepted.{Buffers, accepted}
+use Rattle.yuv_error.specs.Lent.{lengthsOf, openingRules, taken}
+use Rattle.yuv_error.proofs.Accepted.{Buffers}
+use Rattle.sharp_rgba_to_yuv.specs.FrameCall.{FrameCall, rulesOf as frameRules, FramePost}
+use Rattle.sharp_rgba_to_yuv.proofs.Accepted.{call-accepted, frame-passes}
 use Rattle.sharp_rgba_to_yuv.proofs.Post as frame
-use Rattle.sharp_bands.specs.Band.{OpenPost, bandRules}
-use Rattle.sharp_bands.proofs.Accepts.{frame-passes}
-use Rattle.sharp_bands.proofs.Post as band
-use Rattle.sharp_bands.proofs.SameImage.{others-equal}
-use Rattle.sharp_bands.proofs.Demand3 as lists
+use Rattle.band_calls.specs.BandCall.{OpenPost, rulesOf as bandRules}
+use Rattle.band_calls.proofs.Post as band
+use Rattle.band_lists.proofs.SameImage.{others-equal}
+use Rattle.band_lists.proofs.Demand3 as lists
 use Rattle.frame_request.specs.declared.Response.{Response}
 use Rattle.frame_request.specs.declared.Response.the-variants.{Planes, Refused as Refuses}
 use Rattle.frame_request.specs.Request.{requestRules, responseNumbers, RequestPost}
 use Rattle.frame_request.specs.Reply.{reply}
 use Rattle.segvartin.specs.Calls.{rulesOfFrame, frameOfOpening, rulesOfOpening, handed, rulesOfBand}
 use Rattle.segvartin.specs.Lists.{doneTold, asBands}
-use Rattle.segvartin.proofs.Lists.{frame-first, frame-writes-nothing, frame-accepted, open-first, open-done, open-accepted, band-first, band-writes-nothing, all-met, refused-kept}
+use Rattle.segvartin.proofs.Lists.{frame-first, frame-writes-nothing, frame-accepted, open-first, open-done, open-accepted}
+use Rattle.segvartin.proofs.Lists.{band-first, band-writes-nothing, all-met, refused-kept}
 use Rattle.demands.specs.Demands.{Replied, Demand1, Demand2, Demand3, WholeFrame, FrameBytes}
 
 -- the promise's equation, read as document 01's sentence
-lowest : (rules : List Rule) {x : Numbers} → rising 1 rules ≡ true → x ≡ firstOf rules → Lowest rules x
+lowest : (rules : List Rule) {x : Numbers} → inOrder 0 rules ≡ true → x ≡ firstOf rules → Lowest rules x
 lowest rules {x} up = first-is-lowest rules x up .0
 
 -- a refusal's number is not 0
@@ -59,19 +61,21 @@ replied : (input bytes : List ℕ) → bytes ≡ reply input → Replied input b
 unfolding reply
 replied input bytes e x right =
     let is = first-is-lowest (requestRules input) x refl .1 right in
-    let n : x .number ≡ firstOf (requestRules input) .number = ap (λ (x : Numbers). x .number) is in
-    (λ z. e ∙ rw (eq-eqb (firstOf (requestRules input) .number) 0 (sym n ∙ z)), λ l. e ∙ rw (ne-eqb (firstOf (requestRules input) .number) 0 (λ z. omega arith), sym n))
+    let n : x .number ≡ firstOf (requestRules input) .number = ap (λ (x : Numbers). x .number) is in (
+      λ z. e ∙ rw (eq-eqb (firstOf (requestRules input) .number) 0 (sym n ∙ z)),
+      λ l. e ∙ rw (ne-eqb (firstOf (requestRules input) .number) 0 (λ z. omega arith), sym n),
+    )
 
 pub demand-1 : Demand1
 demand-1 = record {
-  frame = λ d stride source y u v answer y′ u′ v′ p. record {
-    lowest = lowest (frameRules d stride (length source) (length y) (length u) (length v)) refl (p .answered);
-    writes-nothing = λ l. frame.refused-writes-nothing (refusal answer l .1) p;
+  frame = λ k p. record {
+    lowest = lowest (frameRules k) refl (p .answered);
+    writes-nothing = λ l. frame.refused-writes-nothing k (refusal (k .answer) l .1) p;
   };
   opening = λ d r p. lowest (openingRules d) refl (p .answered);
   band = λ k p. record {
-    lowest = lowest (bandRules (k .state) (k .rows) (k .stride) (length (k .source)) (length (k .y)) (length (k .u)) (length (k .v)) (length (k .carried))) refl (p .answered);
-    writes-nothing = λ l. band.refused-writes-nothing (λ n. ap (λ (a : YuvAnswer). taken a n) (refusal (k .result .answer) l .1)) p;
+    lowest = lowest (bandRules k) refl (p .answered);
+    writes-nothing = λ l. band.refused-writes-nothing {k = k} (λ n. ap (λ (a : YuvAnswer). taken a n) (refusal (k .result .answer) l .1)) p;
   };
   reply = λ input output n output′ p. replied input (take n output′) (p .written);
   request = λ input output r output′ p. record { lowest = lowest (requestRules input) refl (p .answered); writes-nothing = request-writes-nothing r p };
@@ -84,24 +88,40 @@ is-true : (b : Bool) → T b → b ≡ true
 is-true true t = refl
 is-true false t = absurd t
 
-module _ {d : FrameDescription} {stride : ℕ} {source y u v : List ℕ} where
-  sized : WholeFrame d stride source y u v → Sized d
-  sized w = record { width-least = w .width-least; width-most = w .width-most; height-least = w .height-least; height-most = w .height-most; matrix = subst T (sym (w .matrix)) tt }
+module _ (k : FrameCall) where
+  abbrev d : FrameDescription
+  d = k .frame
 
-  lent : WholeFrame d stride source y u v → Buffers d (d .height) stride (length source) (length y) (length u) (length v)
+  sized : WholeFrame k → Sized d
+  sized w = record {
+    width-least = w .width-least;
+    width-most = w .width-most;
+    height-least = w .height-least;
+    height-most = w .height-most;
+    matrix = subst T (sym (w .matrix)) tt;
+  }
+
+  lent : WholeFrame k → Buffers d (d .height) (k .stride) (lengthsOf (k .source) (k .y) (k .u) (k .v))
   lent w = record {
     source-row = w .source-rows .row;
     source-size = w .source-rows .size;
-    planes = record { y-row = w .y-rows .row; y-size = w .y-rows .size; u-row = w .u-rows .row; u-size = w .u-rows .size; v-row = w .v-rows .row; v-size = w .v-rows .size };
+    planes = record {
+      y-row = w .y-rows .row;
+      y-size = w .y-rows .size;
+      u-row = w .u-rows .row;
+      u-size = w .u-rows .size;
+      v-row = w .v-rows .row;
+      v-size = w .v-rows .size;
+    };
   }
 
-  module _ {answer : YuvAnswer} {y′ u′ v′ : List ℕ} (p : FramePost d stride source y u v answer y′ u′ v′) where
-    finishes : WholeFrame d stride source y u v → answer ≡ Finished
-    finishes w = is-finished answer (ap (λ (x : Numbers). x .number) (p .answered ∙ frame-passes (sized w) (lent w)))
+  module _ (p : FramePost k) where
+    finishes : WholeFrame k → k .answer ≡ Finished
+    finishes w = is-finished (k .answer) (ap (λ (x : Numbers). x .number) (p .answered ∙ frame-passes (sized w) (lent w)))
 
-    whole : answer ≡ Finished → WholeFrame d stride source y u v
+    whole : k .answer ≡ Finished → WholeFrame k
     whole is =
-        let o = accepted d stride (length source) (length y) (length u) (length v) is (p .answered) .lent in
+        let o = call-accepted k is p .lent in
         record {
           width-least = o .sized .width-least;
           width-most = o .sized .width-most;
@@ -109,20 +129,20 @@ module _ {d : FrameDescription} {stride : ℕ} {source y u v : List ℕ} where
           height-most = o .sized .height-most;
           matrix = is-true (accepted-matrix (d .settings .matrix)) (o .sized .matrix);
           source-rows = record { row = o .given .source-row; size = o .given .source-size };
-          y-rows = record { row = o .whole .y-row; size = o .whole .y-size };
-          u-rows = record { row = o .whole .u-row; size = o .whole .u-size };
-          v-rows = record { row = o .whole .v-row; size = o .whole .v-size };
+          y-rows = record { row = o .planes .y-row; size = o .planes .y-size };
+          u-rows = record { row = o .planes .u-row; size = o .planes .u-size };
+          v-rows = record { row = o .planes .v-row; size = o .planes .v-size };
         }
 
-    bytes : WholeFrame d stride source y u v → FrameBytes d stride source y u v y′ u′ v′
+    bytes : WholeFrame k → FrameBytes k
     bytes w =
         let x = rw (finishes w) at (p .planes) in
         let start = finished-none d (w .height-least) in
         let end = finished-last d in
         record {
           luma = λ r i l m. plane-at _ _ _ _ _ _ _ (w .y-rows .row) (x .luma) r i (omega arith) l m;
-          cb = λ k j l m. plane-at _ _ _ _ _ _ _ (w .u-rows .row) (x .cb) k j (omega arith) (omega arith) m;
-          cr = λ k j l m. plane-at _ _ _ _ _ _ _ (w .v-rows .row) (x .cr) k j (omega arith) (omega arith) m;
+          cb = λ r i l m. plane-at _ _ _ _ _ _ _ (w .u-rows .row) (x .cb) r i (omega arith) (omega arith) m;
+          cr = λ r i l m. plane-at _ _ _ _ _ _ _ (w .v-rows .row) (x .cr) r i (omega arith) (omega arith) m;
           y-padding = others-equal refl (x .luma);
           u-padding = others-equal start (plane-to end (x .cb));
           v-padding = others-equal start (plane-to end (x .cr));
@@ -130,8 +150,8 @@ module _ {d : FrameDescription} {stride : ℕ} {source y u v : List ℕ} where
 
 pub demand-2 : Demand2
 demand-2 = record {
-  finished = λ d stride source y u v answer y′ u′ v′ p. (whole p, finishes p);
-  planes = λ d stride source y u v answer y′ u′ v′ p. bytes p;
+  finished = λ k p. (whole k p, finishes k p);
+  planes = λ k p. bytes k p;
   linear = linear-means;
   gamma = gamma-means;
 }

@@ -1,6 +1,6 @@
 -- The three demands, one after the other. Each cites definitions alone: the promises of the calls (`FramePost`, `OpenPost`, `BandPost`,
--- `RequestPost`, `Begins`, `FrameKept`, `OpenKept`, `BandKept`, the very predicates of their `ensures`), which hold of every call whatever it is given, and the
--- rules, rows, planes and curves that they speak of. Their proofs are `demand-1`, `demand-2` and `demand-3` of proofs/Demands.antt.
+-- `RequestPost`, `Begins`, `FrameKept`, `OpenKept`, `BandKept`, the very predicates of their `ensures`), which hold of every call whatever it is
+-- given, and the rules, rows, planes and curves that they speak of. Their proofs are `demand-1`, `demand-2` and `demand-3` of proofs/Demands.antt.
 -- Assumes nothing.
 use Prim.Native.Nat.{ℕ, _+_, _*_, _≤_, _<_}
 use mathlib.Core.Path.{_≡_}
@@ -10,7 +10,6 @@ use mathlib.Core.Logic.{_↔_}
 use lib.Dec.{T}
 use lib.ListN.{length, getD, take}
 use Rattle.yuv_support.specs.Matrix.{accepted}
-use Rattle.yuv_error.specs.declared.YuvAnswer.{YuvAnswer}
 use Rattle.yuv_error.specs.declared.YuvAnswer.the-variants.{Finished}
 use Rattle.yuv_error.specs.Numbers.{Numbers, numbersOf}
 use Rattle.yuv_error.specs.Rules.{Rule}
@@ -20,16 +19,19 @@ use Rattle.sharp_gamma.specs.Fraction.{_over_}
 use Rattle.sharp_gamma.specs.Curve.{curveOf, underCurve, underInverse}
 use Rattle.sharp_gamma.specs.Entry.{linearEntry, gammaEntry}
 use Rattle.definitions.specs.declared.FrameDescription.{FrameDescription}
-use Rattle.definitions.specs.Image.{sourceImage, rowSize, chromaSize, chromaRows, lumaAt, cbAt, crAt}
-use Rattle.sharp_rgba_to_yuv.specs.Frame.{openingRules, frameRules, FramePost}
-use Rattle.sharp_bands.specs.declared.FrameAnswer.{FrameAnswer}
-use Rattle.sharp_bands.specs.Band.{OpenPost, bandRules}
-use Rattle.sharp_bands.specs.Calls.{BandCall, Met, Untouched, FrameCall, OthersEqual, noRows, tallyOf, none, firstCall, lastCall, Chained, After}
-use Rattle.sharp_bands.specs.Calls as calls
+use Rattle.definitions.specs.Image.{rowSize, chromaSize, chromaRows, lumaAt, cbAt, crAt}
+use Rattle.yuv_error.specs.Lent.{openingRules}
+use Rattle.sharp_rgba_to_yuv.specs.FrameCall.{FrameCall, rulesOf as frameRules, imageOf, FramePost, Unwritten}
+use Rattle.band_calls.specs.declared.FrameAnswer.{FrameAnswer}
+use Rattle.band_calls.specs.BandCall.{OpenPost, BandCall, rulesOf as bandRules, BandPost, Untouched}
+use Rattle.band_lists.specs.BandLists.{OthersEqual, noRows, tallyOf, none, firstCall, lastCall, Chained, After}
+use Rattle.band_lists.specs.BandLists as calls
 use Rattle.frame_request.specs.declared.Response.{Response}
 use Rattle.frame_request.specs.Request.{frameOf, requestRules, outputSize, answerAt, responseNumbers, RequestPost}
 use Rattle.frame_request.specs.Reply.{firstBytes, refusalLine, reply as replyTo, Begins}
-use Rattle.segvartin.specs.Calls.{ExportedFrame, rulesOfFrame, FrameKept, ExportedOpening, frameOfOpening, rulesOfOpening, OpenKept, ExportedBand, rulesOfBand, Kept, BandKept}
+use Rattle.segvartin.specs.Calls.{ExportedFrame, rulesOfFrame, FrameKept}
+use Rattle.segvartin.specs.Calls.{ExportedOpening, frameOfOpening, rulesOfOpening, OpenKept}
+use Rattle.segvartin.specs.Calls.{ExportedBand, rulesOfBand, Kept, BandKept}
 use Rattle.segvartin.specs.Lists.{numbersTold, doneTold, openedState, asFrame, asBands, AllKept, RefusedKept}
 
 -- ---- 1. "The answer to every call is finished work or one numbered refusal, for all sizes, strides, buffers and settings; a refusal writes no
@@ -49,18 +51,14 @@ Replied input bytes =
 
 -- the calls of Rattle: frame, opening, band, and a request of the program; then those that C and Rust link, whose numbers come first to be refused
 pub record Demand1 : Type 0 where
-  pub frame : (d : FrameDescription) (stride : ℕ) (source y u v : List ℕ) (answer : YuvAnswer) (y′ u′ v′ : List ℕ) → FramePost d stride source y u v answer y′ u′ v′
-      → Answered (frameRules d stride (length source) (length y) (length u) (length v)) (numbersOf answer) ((y′ ≡ y) × (u′ ≡ u) × (v′ ≡ v))
+  pub frame : (k : FrameCall) → FramePost k → Answered (frameRules k) (numbersOf (k .answer)) (Unwritten k)
   pub opening : (d : FrameDescription) (r : FrameAnswer) → OpenPost d r → Lowest (openingRules d) (numbersOf (r .answer))
-  pub band : (k : BandCall) → Met k
-      → Answered (bandRules (k .state) (k .rows) (k .stride) (length (k .source)) (length (k .y)) (length (k .u)) (length (k .v)) (length (k .carried)))
-      (numbersOf (k .result .answer)) (Untouched k)
+  pub band : (k : BandCall) → BandPost k → Answered (bandRules k) (numbersOf (k .result .answer)) (Untouched k)
   pub request : (input output : List ℕ) (response : Response) (output′ : List ℕ) → RequestPost input output response output′
       → Answered (requestRules input) (responseNumbers response) (output′ ≡ output)
   -- and what the program writes for it: the planes where no condition holds, or the line of the lowest number whose condition holds
   pub reply : (input output : List ℕ) (n : ℕ) (output′ : List ℕ) → Begins (replyTo input) output n output′ → Replied input (take n output′)
-  pub linked-frame : (k : ExportedFrame) → FrameKept k
-      → Answered (rulesOfFrame k) (numbersTold (k .number) (k .told)) ((k .y′ ≡ k .y) × (k .u′ ≡ k .u) × (k .v′ ≡ k .v))
+  pub linked-frame : (k : ExportedFrame) → FrameKept k → Answered (rulesOfFrame k) (numbersTold (k .number) (k .told)) (Unwritten (asFrame k))
   pub linked-opening : (k : ExportedOpening) → OpenKept k → Lowest (rulesOfOpening k) (numbersTold (k .number) (k .told)) × (doneTold (k .told) ≡ 0)
   pub linked-band : (k : ExportedBand) → BandKept k
       → Answered (rulesOfBand k) (numbersTold (k .number) (k .told)) (Kept k (doneTold (k .told)))
@@ -75,39 +73,35 @@ pub record WholeRows (n rows stride : ℕ) (buffer : List ℕ) : Type 0 where
   pub size : length buffer ≡ stride * rows
 
 -- such a frame, with its planes
-pub record WholeFrame (d : FrameDescription) (stride : ℕ) (source y u v : List ℕ) : Type 0 where
-  pub width-least : 1 ≤ d .width
-  pub width-most : d .width ≤ 16384
-  pub height-least : 1 ≤ d .height
-  pub height-most : d .height ≤ 16384
-  pub matrix : accepted (d .settings .matrix) ≡ true
-  pub source-rows : WholeRows (rowSize d) (d .height) stride source
-  pub y-rows : WholeRows (d .width) (d .height) (d .«y_stride») y
-  pub u-rows : WholeRows (chromaSize d) (chromaRows d) (d .«u_stride») u
-  pub v-rows : WholeRows (chromaSize d) (chromaRows d) (d .«v_stride») v
+pub record WholeFrame (k : FrameCall) : Type 0 where
+  pub width-least : 1 ≤ k .frame .width
+  pub width-most : k .frame .width ≤ 16384
+  pub height-least : 1 ≤ k .frame .height
+  pub height-most : k .frame .height ≤ 16384
+  pub matrix : accepted (k .frame .settings .matrix) ≡ true
+  pub source-rows : WholeRows (rowSize (k .frame)) (k .frame .height) (k .stride) (k .source)
+  pub y-rows : WholeRows (k .frame .width) (k .frame .height) (k .frame .«y_stride») (k .y)
+  pub u-rows : WholeRows (chromaSize (k .frame)) (chromaRows (k .frame)) (k .frame .«u_stride») (k .u)
+  pub v-rows : WholeRows (chromaSize (k .frame)) (chromaRows (k .frame)) (k .frame .«v_stride») (k .v)
 
 -- every byte of the planes: those of the rows by the definition, which the Rust over these tables is run against, the others as they were
-pub record FrameBytes (d : FrameDescription) (stride : ℕ) (source y u v y′ u′ v′ : List ℕ) : Type 0 where
-  pub luma : (r x : ℕ) → r < d .height → x < d .width → getD y′ (r * d .«y_stride» + x) 0 ≡ lumaAt d (sourceImage d stride source) r x
-  pub cb : (k j : ℕ) → k < chromaRows d → j < chromaSize d
-      → getD u′ (k * d .«u_stride» + j) 0 ≡ cbAt d (sourceImage d stride source) k j
-  pub cr : (k j : ℕ) → k < chromaRows d → j < chromaSize d
-      → getD v′ (k * d .«v_stride» + j) 0 ≡ crAt d (sourceImage d stride source) k j
-  pub y-padding : OthersEqual (d .height) (d .width) (d .«y_stride») y′ y
-  pub u-padding : OthersEqual (chromaRows d) (chromaSize d) (d .«u_stride») u′ u
-  pub v-padding : OthersEqual (chromaRows d) (chromaSize d) (d .«v_stride») v′ v
+pub record FrameBytes (k : FrameCall) : Type 0 where
+  pub luma : (r x : ℕ) → r < k .frame .height → x < k .frame .width → getD (k .y′) (r * k .frame .«y_stride» + x) 0 ≡ lumaAt (k .frame) (imageOf k) r x
+  pub cb : (r x : ℕ) → r < chromaRows (k .frame) → x < chromaSize (k .frame) → getD (k .u′) (r * k .frame .«u_stride» + x) 0 ≡ cbAt (k .frame) (imageOf k) r x
+  pub cr : (r x : ℕ) → r < chromaRows (k .frame) → x < chromaSize (k .frame) → getD (k .v′) (r * k .frame .«v_stride» + x) 0 ≡ crAt (k .frame) (imageOf k) r x
+  pub y-padding : OthersEqual (k .frame .height) (k .frame .width) (k .frame .«y_stride») (k .y′) (k .y)
+  pub u-padding : OthersEqual (chromaRows (k .frame)) (chromaSize (k .frame)) (k .frame .«u_stride») (k .u′) (k .u)
+  pub v-padding : OthersEqual (chromaRows (k .frame)) (chromaSize (k .frame)) (k .frame .«v_stride») (k .v′) (k .v)
 
 pub record Demand2 : Type 0 where
   -- every such frame is answered with finished work, and no other is
-  pub finished : (d : FrameDescription) (stride : ℕ) (source y u v : List ℕ) (answer : YuvAnswer) (y′ u′ v′ : List ℕ) → FramePost d stride source y u v answer y′ u′ v′
-      → (answer ≡ Finished) ↔ WholeFrame d stride source y u v
-  pub planes : (d : FrameDescription) (stride : ℕ) (source y u v : List ℕ) (answer : YuvAnswer) (y′ u′ v′ : List ℕ) → FramePost d stride source y u v answer y′ u′ v′
-      → WholeFrame d stride source y u v → FrameBytes d stride source y u v y′ u′ v′
+  pub finished : (k : FrameCall) → FramePost k → (k .answer ≡ Finished) ↔ WholeFrame k
+  pub planes : (k : FrameCall) → FramePost k → WholeFrame k → FrameBytes k
   pub linear : (t : SharpYuvGammaTransfer) (v n : ℕ) → v < 256 → T (underCurve (curveOf t) (n over 65535) (v over 255)) ↔ n ≤ linearEntry t v
   pub gamma : (t : SharpYuvGammaTransfer) (i k : ℕ) → i < 65536 → T (underInverse (curveOf t) (k over 255) (i over 65535)) ↔ k ≤ gammaEntry t i
 
 -- ---- 3. "For every list of band calls after a fresh opening, refused calls included, whatever their bands and buffers: .." The whole sentence stands,
--- part by part, in sharp_bands' specs/Calls.antt.
+-- part by part, in band_lists' specs/BandLists.antt.
 
 pub record Demand3 : Type 0 where
   pub calls : calls.Demand3
@@ -118,4 +112,4 @@ pub record Demand3 : Type 0 where
       × RefusedKept bands
   -- and their accepted frame calls are among the frame calls that it speaks of
   pub linked-frames : (k : ExportedFrame) → FrameKept k → k .number ≡ 0
-      → let f : FrameCall = asFrame k in (f .result ≡ Finished) × FramePost (f .frame) (f .stride) (f .source) (f .y) (f .u) (f .v) (f .result) (f .y′) (f .u′) (f .v′)
+      → (asFrame k .answer ≡ Finished) × FramePost (asFrame k)

@@ -112,14 +112,16 @@ chroma-within Full a n s h k l = omega arith
 
 -- ---- a pixel of bytes r, g, b
 module _ {range : YuvRange} {t : CbCrForwardTransformI32} (s : Shape range t) (r g b : ℕ) (hr : r < 256) (hg : g < 256) (hb : b < 256) where
-  pub luma-sum : Floored (bias range) (bias range + yuvRange range .«range_y») (r * s .luma-r + g * s .luma-g + b * s .luma-b + lumaBias range) (weighed (t .yr) (t .yg) (t .yb) r g b (lumaBias range))
+  pub luma-sum : Floored (bias range) (bias range + yuvRange range .«range_y») (r * s .luma-r + g * s .luma-g + b * s .luma-b + lumaBias range)
+      (weighed (t .yr) (t .yg) (t .yb) r g b (lumaBias range))
   luma-sum =
       let n = r * s .luma-r + g * s .luma-g + b * s .luma-b in
       let sum = s .luma-r + s .luma-g + s .luma-b in
       let n≤ : n ≤ 255 * sum = omega (arith, byte-times r (s .luma-r) hr, byte-times g (s .luma-g) hg, byte-times b (s .luma-b) hb) in
       floored (n + lumaBias range) (λ i. weighed (s .yr i) (s .yg i) (s .yb i) r g b (lumaBias range)) (luma-within range n sum n≤ (s .luma-most))
 
-  pub cb-sum : Floored (bias range) (bias range + yuvRange range .«range_uv») (b * chromaTop range + chromaBias - (r * s .cb-r + g * s .cb-g)) (weighed (t .«cb_r») (t .«cb_g») (t .«cb_b») r g b chromaBias)
+  pub cb-sum : Floored (bias range) (bias range + yuvRange range .«range_uv») (b * chromaTop range + chromaBias - (r * s .cb-r + g * s .cb-g))
+      (weighed (t .«cb_r») (t .«cb_g») (t .«cb_b») r g b chromaBias)
   cb-sum =
       let a = b * chromaTop range in
       let n = r * s .cb-r + g * s .cb-g in
@@ -130,7 +132,8 @@ module _ {range : YuvRange} {t : CbCrForwardTransformI32} (s : Shape range t) (r
       ∙ rw (mul-neg r (s .cb-r), mul-neg g (s .cb-g)) (taken-first (r * s .cb-r) (g * s .cb-g) a chromaBias (h .0)))
       (h .1)
 
-  pub cr-sum : Floored (bias range) (bias range + yuvRange range .«range_uv») (r * chromaTop range + chromaBias - (g * s .cr-g + b * s .cr-b)) (weighed (t .«cr_r») (t .«cr_g») (t .«cr_b») r g b chromaBias)
+  pub cr-sum : Floored (bias range) (bias range + yuvRange range .«range_uv») (r * chromaTop range + chromaBias - (g * s .cr-g + b * s .cr-b))
+      (weighed (t .«cr_r») (t .«cr_g») (t .«cr_b») r g b chromaBias)
   cr-sum =
       let a = r * chromaTop range in
       let n = g * s .cr-g + b * s .cr-b in

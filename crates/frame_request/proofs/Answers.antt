@@ -21,10 +21,10 @@ use Rattle.yuv_error.proofs.Lowest.{first-is-lowest}
 use Rattle.setting_codes.specs.Codes.{matrixCodes}
 use Rattle.definitions.specs.declared.FrameDescription.{FrameDescription}
 use Rattle.definitions.proofs.Numbers.{chroma-rows}
-use Rattle.sharp_rgba_to_yuv.specs.Frame.{sourceOf, yOf, uOf, vOf}
+use Rattle.yuv_error.specs.Lent.{sourceOf, yOf, uOf, vOf}
 use Rattle.frame_request.specs.Request.{settingsOf, frameOf, sourceStride, lumaSize, chromaSize, malformed, bufferRules, requestRules}
 
--- the rules stand by number, so the first that holds has the lowest number whose condition holds
+-- the rules stand in order, so the first that holds has the lowest number whose condition holds
 pub request-lowest : (input : List ℕ) → Lowest (requestRules input) (firstOf (requestRules input))
 request-lowest input = first-is-lowest (requestRules input) (firstOf (requestRules input)) refl .0 refl
 
@@ -78,7 +78,8 @@ requestAnswer input =
     (lengthAnswer (rowsSize d) (length (drop 9 input)))))
 
 -- 12 of the source, past 6
-by-length : (need came : ℕ) (a b : Numbers) → cond (ltb came need) a (cond (not (eqb came need)) b (numbers 0 0 0)) ≡ cond (ltb came need) a (cond (ltb need came) b (numbers 0 0 0))
+by-length : (need came : ℕ) (a b : Numbers) → cond (ltb came need) a (cond (not (eqb came need)) b (numbers 0 0 0)) ≡ cond (ltb came need) a
+    (cond (ltb need came) b (numbers 0 0 0))
 by-length need came a b = go (ltb came need) (ltb need came) refl refl
   where
     go : (x y : Bool) → ltb came need ≡ x → ltb need came ≡ y → cond x a (cond (not (eqb came need)) b (numbers 0 0 0)) ≡ cond x a (cond y b (numbers 0 0 0))
@@ -88,7 +89,8 @@ by-length need came a b = go (ltb came need) (ltb need came) refl refl
 
 -- only a source can be refused
 source-answer : (m : YuvStandardMatrix) (s y u v : LentBuffer) → not (accepted m) ≡ false → tooNarrow s ≡ false → Full y → Full u → Full v
-    → firstOf (matrixRules m ++ Rules·bufferRules s y u v) ≡ cond (tooShort s) (numbers 6 (leastOf s) (s .len)) (cond (notWhole s) (numbers 12 (wholeOf s) (s .len)) (numbers 0 0 0))
+    → firstOf (matrixRules m ++ Rules·bufferRules s y u v) ≡ cond (tooShort s) (numbers 6 (leastOf s) (s .len))
+    (cond (notWhole s) (numbers 12 (wholeOf s) (s .len)) (numbers 0 0 0))
 source-answer m s y u v a n fy fu fv =
     rw (a, n, fy .narrow, fy .short, fu .narrow, fu .short, fv .narrow, fv .short, fy .part, fu .part, fv .part)
 
@@ -100,7 +102,8 @@ buffers-answer input tall =
     let rows = chroma-rows (d .settings .sampling) (d .height) tall .0 in
     source-answer (d .settings .matrix) (sourceOf d (d .height) (sourceStride d) came) (yOf d (lumaSize d)) (uOf d (chromaSize d)) (vOf d (chromaSize d))
     (matrix-accepted input) (le-ltb _ _ (le-refl (sourceStride d))) (full (d .width) (d .height) tall) (full _ _ rows) (full _ _ rows)
-    ∙ ap (λ (n : ℕ). cond (ltb came n) (numbers 6 n came) (cond (not (eqb came (rowsSize d))) (numbers 12 (rowsSize d) came) (numbers 0 0 0))) (least-whole (sourceStride d) (d .height) tall)
+    ∙ ap (λ (n : ℕ). cond (ltb came n) (numbers 6 n came) (cond (not (eqb came (rowsSize d))) (numbers 12 (rowsSize d) came) (numbers 0 0 0)))
+    (least-whole (sourceStride d) (d .height) tall)
     ∙ by-length (rowsSize d) came (numbers 6 (rowsSize d) came) (numbers 12 (rowsSize d) came)
 
 -- with neither side 0, a side above 16,384 makes an area above it
@@ -115,13 +118,19 @@ area-answer w h a b some tall = go (ltb 16384 (w * h)) refl
         both false = refl
     go false p =
         let small = ltb-false 16384 (w * h) p in
-        rw (le-ltb 16384 w (omega (arith, small, mul-le-mul-left {m = 1} {n = h} w tall, mul-one w)), le-ltb 16384 h (omega (arith, small, mul-le-mul-right {m = 1} {n = w} h some, one-mul h)))
+        rw (
+          le-ltb 16384 w (omega (arith, small, mul-le-mul-left {m = 1} {n = h} w tall, mul-one w)),
+          le-ltb 16384 h
+              (omega (arith, small, mul-le-mul-right {m = 1} {n = w} h some, one-mul h)),
+        )
 
 sized-answer : (w h : ℕ) (a b x y : Numbers) → (1 ≤ h → x ≡ y)
-    → cond (eqb w 0 || eqb h 0) a (cond (ltb 16384 w || ltb 16384 h) b (cond (ltb 16384 (w * h)) b x)) ≡ cond (eqb w 0 || eqb h 0) a (cond (ltb 16384 (w * h)) b y)
+    → cond (eqb w 0 || eqb h 0) a (cond (ltb 16384 w || ltb 16384 h) b (cond (ltb 16384 (w * h)) b x)) ≡ cond (eqb w 0 || eqb h 0) a
+    (cond (ltb 16384 (w * h)) b y)
 sized-answer w h a b x y same = go (eqb w 0 || eqb h 0) refl
   where
-    go : (z : Bool) → (eqb w 0 || eqb h 0) ≡ z → cond z a (cond (ltb 16384 w || ltb 16384 h) b (cond (ltb 16384 (w * h)) b x)) ≡ cond z a (cond (ltb 16384 (w * h)) b y)
+    go : (z : Bool) → (eqb w 0 || eqb h 0) ≡ z → cond z a (cond (ltb 16384 w || ltb 16384 h) b (cond (ltb 16384 (w * h)) b x)) ≡ cond z a
+        (cond (ltb 16384 (w * h)) b y)
     go true e = refl
     go false e =
         let some = neither (eqb w 0) (eqb h 0) e in
@@ -130,4 +139,5 @@ sized-answer w h a b x y same = go (eqb w 0 || eqb h 0) refl
 
 pub request-answer : (input : List ℕ) → firstOf (requestRules input) ≡ requestAnswer input
 unfolding requestAnswer
-request-answer input = ap (λ (n : Numbers). cond (malformed input) (numbers 1 0 0) n) (sized-answer (frameOf input .width) (frameOf input .height) (numbers 2 0 0) (numbers 3 0 0) _ _ (buffers-answer input))
+request-answer input = ap (λ (n : Numbers). cond (malformed input) (numbers 1 0 0) n)
+    (sized-answer (frameOf input .width) (frameOf input .height) (numbers 2 0 0) (numbers 3 0 0) _ _ (buffers-answer input))

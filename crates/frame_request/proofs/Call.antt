@@ -19,9 +19,10 @@ use Rattle.definitions.specs.declared.FrameDescription.{FrameDescription}
 use Rattle.definitions.specs.Image.{Image, sourceImage}
 use Rattle.definitions.specs.Bands.{Sharpened}
 use Rattle.definitions.proofs.Planes.{plane-same}
-use Rattle.sharp_rgba_to_yuv.specs.Frame.{frameRules, taken, FramePost}
+use Rattle.yuv_error.specs.Lent.{taken}
+use Rattle.sharp_rgba_to_yuv.specs.FrameCall.{frameCall, frameRules, FramePost}
 use Rattle.frame_request.specs.declared.PlaneSizes.{PlaneSizes}
-use Rattle.frame_request.specs.Request.{lumaSize, chromaSize, outputAt, outputSize}
+use Rattle.frame_request.specs.Request.{packedLengths, outputAt, outputSize}
 use Rattle.frame_request.specs.Packed.{Packed, PlanesPost}
 use Rattle.frame_request.proofs.Output.{output-painted}
 
@@ -31,20 +32,24 @@ first-size k xs h = length-take k xs ∙ omega arith
 -- the parts that were lent are back in front of the bytes that were not
 pub planes-back : (d : FrameDescription) (stride : ℕ) (source : List ℕ) (sizes : PlaneSizes) (y u v : List ℕ) (a : YuvAnswer) (y′ u′ v′ : List ℕ)
     → sizes .luma ≤ length y → sizes .chroma ≤ length u → sizes .chroma ≤ length v
-    → FramePost d stride source (take (sizes .luma) y) (take (sizes .chroma) u) (take (sizes .chroma) v) a y′ u′ v′
-    → PlanesPost d stride source sizes y u v a (y′ ++ drop (sizes .luma) y) (u′ ++ drop (sizes .chroma) u) (v′ ++ drop (sizes .chroma) v)
+    → FramePost (frameCall d stride source (take (sizes .luma) y) (take (sizes .chroma) u) (take (sizes .chroma) v) a y′ u′ v′)
+    → PlanesPost sizes (frameCall d stride source y u v a (y′ ++ drop (sizes .luma) y) (u′ ++ drop (sizes .chroma) u) (v′ ++ drop (sizes .chroma) v))
 planes-back d stride source sizes y u v a y′ u′ v′ yfits ufits vfits post =
     let ysize = post .planes .luma .size ∙ first-size (sizes .luma) y yfits in
     let usize = post .planes .cb .size ∙ first-size (sizes .chroma) u ufits in
     let vsize = post .planes .cr .size ∙ first-size (sizes .chroma) v vfits in
     record {
-      called = rw (take-at y′ (drop (sizes .luma) y) (sizes .luma) ysize, take-at u′ (drop (sizes .chroma) u) (sizes .chroma) usize, take-at v′ (drop (sizes .chroma) v) (sizes .chroma) vsize) post;
+      called = rw (
+        take-at y′ (drop (sizes .luma) y) (sizes .luma) ysize,
+        take-at u′ (drop (sizes .chroma) u) (sizes .chroma) usize,
+        take-at v′ (drop (sizes .chroma) v) (sizes .chroma) vsize,
+      ) post;
       past = drop-at y′ (drop (sizes .luma) y) (sizes .luma) ysize;
     }
 
 module _ (d : FrameDescription) (sizes : PlaneSizes) (stride : ℕ) (source output u v : List ℕ) (a : YuvAnswer) (output′ u′ v′ : List ℕ)
     (packed : Packed d sizes) (room : 49152 ≤ length output) (urest : 16384 ≡ length u) (vrest : 16384 ≡ length v)
-    (post : PlanesPost d stride source sizes output u v a output′ u′ v′) where
+    (post : PlanesPost sizes (frameCall d stride source output u v a output′ u′ v′)) where
   abbrev image : Image
   image = sourceImage d stride source
 
@@ -61,7 +66,7 @@ module _ (d : FrameDescription) (sizes : PlaneSizes) (stride : ℕ) (source outp
   output-is : output′ ≡ putMid 0 (sizes .luma) output (take (sizes .luma) output′)
   output-is = sym (take-append-drop (sizes .luma) output′) ∙ ap (λ (xs : List ℕ). take (sizes .luma) output′ ++ xs) (post .past)
 
-  pub call-answered : numbersOf a ≡ firstOf (frameRules d stride (length source) (lumaSize d) (chromaSize d) (chromaSize d))
+  pub call-answered : numbersOf a ≡ firstOf (frameRules d stride (packedLengths d (length source)))
   call-answered = rw (ysize, usize, vsize, packed .luma, packed .chroma) at (post .called .answered)
 
   pub call-refused : {e : YuvError} → a ≡ Refused e
@@ -72,16 +77,20 @@ module _ (d : FrameDescription) (sizes : PlaneSizes) (stride : ℕ) (source outp
       rw (is, whole) (painted-none _ output)
 
   pub call-finished : a ≡ Finished → (o o′ : List ℕ)
-      → o ≡ putMid (sizes .luma) (sizes .chroma) output′ (take (sizes .chroma) u′) → o′ ≡ putMid (sizes .luma + sizes .chroma) (sizes .chroma) o (take (sizes .chroma) v′)
+      → o ≡ putMid (sizes .luma) (sizes .chroma) output′ (take (sizes .chroma) u′)
+      → o′ ≡ putMid (sizes .luma + sizes .chroma) (sizes .chroma) o (take (sizes .chroma) v′)
       → Painted (taken a (outputSize d)) (outputAt d (sourceImage d stride source)) output o′
   call-finished is o o′ first second =
       let y″ = take (sizes .luma) output′ in
       let u″ = take (sizes .chroma) u′ in
       let v″ = take (sizes .chroma) v′ in
-      let planes = subst (λ (b : YuvAnswer). Sharpened d 0 (taken b (d .height)) image (take (sizes .luma) output) (take (sizes .chroma) u) (take (sizes .chroma) v) y″ u″ v″) is (post .called .planes) in
+      let planes = subst (λ (b : YuvAnswer). Sharpened d 0 (taken b (d .height)) image (take (sizes .luma) output) (take (sizes .chroma) u)
+      (take (sizes .chroma) v) y″ u″ v″) is (post .called .planes) in
       let ylong : length y″ ≡ sizes .luma = planes .luma .size ∙ ysize in
       let ulong : length u″ ≡ sizes .chroma = planes .cb .size ∙ usize in
       let vlong : length v″ ≡ sizes .chroma = planes .cr .size ∙ vsize in
       rw (is, second, first)
-      (subst (λ (xs : List ℕ). Painted (outputSize d) (outputAt d image) output (putMid (sizes .luma + sizes .chroma) (sizes .chroma) (putMid (sizes .luma) (sizes .chroma) xs u″) v″)) (sym output-is)
-      (rw (ylong, ulong, vlong) at (output-painted d sizes image output (take (sizes .luma) output) (take (sizes .chroma) u) (take (sizes .chroma) v) y″ u″ v″ packed room ylong ulong vlong planes)))
+      (subst (λ (xs : List ℕ). Painted (outputSize d) (outputAt d image) output
+      (putMid (sizes .luma + sizes .chroma) (sizes .chroma) (putMid (sizes .luma) (sizes .chroma) xs u″) v″)) (sym output-is)
+      (rw (ylong, ulong, vlong) at (output-painted d sizes image output (take (sizes .luma) output) (take (sizes .chroma) u)
+      (take (sizes .chroma) v) y″ u″ v″ packed room ylong ulong vlong planes)))

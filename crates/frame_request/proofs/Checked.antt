@@ -13,9 +13,10 @@ use Rattle.yuv_error.specs.Rules.{Rule, firstOf, sizeRules}
 use Rattle.yuv_error.proofs.First.{numbered, first-append, append-finished}
 use Rattle.yuv_error.proofs.Accepted.{none-holds, neither}
 use Rattle.definitions.proofs.Numbers.{chroma-rows}
-use Rattle.sharp_rgba_to_yuv.specs.Frame.{frameRules}
+use Rattle.sharp_rgba_to_yuv.specs.FrameCall.{frameRules}
 use Rattle.frame_request.specs.declared.PlaneSizes.{PlaneSizes}
-use Rattle.frame_request.specs.Request.{frameOf, sourceStride, lumaSize, chromaSize, malformed, headerRules, areaRules, openingRules, bufferRules, requestRules}
+use Rattle.frame_request.specs.Request.{frameOf, sourceStride, lumaSize, chromaSize, packedLengths}
+use Rattle.frame_request.specs.Request.{malformed, headerRules, areaRules, openingRules, bufferRules, requestRules}
 use Rattle.frame_request.specs.Packed.{Packed}
 
 pub record Checked (input : List ℕ) : Type 0 where
@@ -52,7 +53,8 @@ chroma-small input k =
     let d = frameOf input in
     mul-le-mul (omega (arith, k .width-least)) (chroma-rows (d .settings .sampling) (d .height) (k .height-least) .1)
 
-pub packed : (input : List ℕ) (sizes : PlaneSizes) → Checked input → sizes .luma ≡ lumaSize (frameOf input) → sizes .chroma ≡ chromaSize (frameOf input) → Packed (frameOf input) sizes
+pub packed : (input : List ℕ) (sizes : PlaneSizes) → Checked input → sizes .luma ≡ lumaSize (frameOf input) → sizes .chroma ≡ chromaSize (frameOf input)
+    → Packed (frameOf input) sizes
 unfolding frameOf
 packed input sizes k l c = record {
   width-least = k .width-least;
@@ -72,7 +74,7 @@ after-none xs ys n e = rw e at (first-append xs ys n)
 
 -- the frame call asks 2 and 3 again, which do not hold
 pub frame-asks : (input : List ℕ) → firstOf (openingRules input) .number ≡ 0
-    → let d = frameOf input in firstOf (frameRules d (sourceStride d) (length (drop 9 input)) (lumaSize d) (chromaSize d) (chromaSize d)) ≡ firstOf (requestRules input)
+    → let d = frameOf input in firstOf (frameRules d (sourceStride d) (packedLengths d (length (drop 9 input)))) ≡ firstOf (requestRules input)
 frame-asks input e =
     let d = frameOf input in
     let size = append-finished (headerRules input) (sizeRules (d .width) (d .height) ++ areaRules (d .width) (d .height)) refl e .1 in

@@ -31,7 +31,8 @@ plane-painted rows n f d e some h = painted (h .size) within past
     within : (p : ℕ) → p < n * rows → getD e p 0 ≡ byteIn f n p
     within p l =
         let row = div-lt-iff-lt-mul {k = n} {x = p} {y = rows} some .1 (omega (arith, mul-comm n rows)) in
-        h .byte p ∙ ap (λ (b : Bool). cond b (byteIn f n p) (getD d p 0)) (written-in 0 rows n n p (record { row-least = zero-le; row-most = row; column = mod-lt p some }))
+        h .byte p ∙ ap (λ (b : Bool). cond b (byteIn f n p) (getD d p 0))
+        (written-in 0 rows n n p (record { row-least = zero-le; row-most = row; column = mod-lt p some }))
 
     past : (p : ℕ) → n * rows ≤ p → getD e p 0 ≡ getD d p 0
     past p l = plane-other 0 rows n n f d e h p (λ i. omega (arith, div-lt-iff-lt-mul {k = n} {x = p} {y = rows} some .0 (i .row-most), mul-comm n rows))
@@ -39,7 +40,8 @@ plane-painted rows n f d e some h = painted (h .size) within past
 chroma-painted : (d : FrameDescription) (stride n : ℕ) (f : ℕ → ℕ → ℕ) (x x′ : List ℕ) → 1 ≤ d .height → 1 ≤ n → stride ≡ n
     → PlaneIs (finishedOf d 0) (finishedOf d (d .height)) stride n f x x′ → Painted (n * chromaRows d) (byteIn f n) x x′
 chroma-painted d stride n f x x′ tall wide packed p =
-    plane-painted (chromaRows d) n f x x′ wide (subst (λ (m : ℕ). PlaneIs 0 (chromaRows d) m n f x x′) packed (plane-between (finished-none d tall) (finished-last d) p))
+    plane-painted (chromaRows d) n f x x′ wide (subst (λ (m : ℕ). PlaneIs 0 (chromaRows d) m n f x x′) packed
+    (plane-between (finished-none d tall) (finished-last d) p))
 
 -- ---- a run of bytes
 
@@ -72,7 +74,12 @@ module _ (d : FrameDescription) (image : Image) where
   unfolding outputAt
   cr-byte q l =
       let at : lumaSize d + chromaSize d + q - (lumaSize d + chromaSize d) ≡ q = omega arith in
-      rw (le-ltb (lumaSize d + chromaSize d + q) (lumaSize d) (omega arith), le-ltb (lumaSize d + chromaSize d + q) (lumaSize d + chromaSize d) (omega arith), at)
+      rw (
+        le-ltb (lumaSize d + chromaSize d + q) (lumaSize d) (omega arith),
+        le-ltb (lumaSize d + chromaSize d + q) (lumaSize d + chromaSize d)
+            (omega arith),
+        at,
+      )
 
 -- all three planes, put one behind the other
 pub output-painted : (d : FrameDescription) (sizes : PlaneSizes) (image : Image) (output y u v y′ u′ v′ : List ℕ) → Packed d sizes → 49152 ≤ length output
@@ -103,11 +110,14 @@ output-painted d sizes image output y u v y′ u′ v′ packed room ysize usize
         (painted-none f output)
 
     second : Painted (sizes .luma + sizes .chroma) f output (putMid (sizes .luma) (length u′) (putMid 0 (length y′) output y′) u′)
-    second = painted-put (sizes .luma) (sizes .luma + sizes .chroma) f output (putMid 0 (length y′) output y′) u′ (omega arith) (omega (arith, packed, first .size))
+    second = painted-put (sizes .luma) (sizes .luma + sizes .chroma) f output (putMid 0 (length y′) output y′) u′ (omega arith)
+        (omega (arith, packed, first .size))
         (λ q l. painted-at cb q (omega (arith, packed)) ∙ sym (cb-byte d image q (omega (arith, packed))) ∙ ap f (omega (arith, packed)))
         first
 
-    third : Painted (outputSize d) f output (putMid (sizes .luma + sizes .chroma) (length v′) (putMid (sizes .luma) (length u′) (putMid 0 (length y′) output y′) u′) v′)
-    third = painted-put (sizes .luma + sizes .chroma) (outputSize d) f output (putMid (sizes .luma) (length u′) (putMid 0 (length y′) output y′) u′) v′ (omega (arith, packed)) (omega (arith, packed, second .size))
+    third : Painted (outputSize d) f output (putMid (sizes .luma + sizes .chroma) (length v′)
+        (putMid (sizes .luma) (length u′) (putMid 0 (length y′) output y′) u′) v′)
+    third = painted-put (sizes .luma + sizes .chroma) (outputSize d) f output (putMid (sizes .luma) (length u′) (putMid 0 (length y′) output y′) u′) v′
+        (omega (arith, packed)) (omega (arith, packed, second .size))
         (λ q l. painted-at cr q (omega (arith, packed)) ∙ sym (cr-byte d image q (omega (arith, packed))) ∙ ap f (omega (arith, packed)))
         second

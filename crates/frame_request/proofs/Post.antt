@@ -14,15 +14,18 @@ use Rattle.definitions.specs.Painted.{Painted}
 use Rattle.definitions.proofs.Painted.{painted-none}
 use Rattle.definitions.specs.declared.FrameDescription.{FrameDescription}
 use Rattle.definitions.specs.Image.{sourceImage}
-use Rattle.sharp_rgba_to_yuv.specs.Frame.{frameRules, taken}
+use Rattle.yuv_error.specs.Lent.{taken}
+use Rattle.sharp_rgba_to_yuv.specs.FrameCall.{frameRules}
 use Rattle.frame_request.specs.declared.Response.{Response}
 use Rattle.frame_request.specs.declared.Response.the-variants.{Planes, Refused as Refuses}
-use Rattle.frame_request.specs.Request.{frameOf, sourceStride, lumaSize, chromaSize, openingRules, bufferRules, requestRules, outputAt, outputSize, bytesSaid, answerAt, RequestPost}
+use Rattle.frame_request.specs.Request.{frameOf, sourceStride, packedLengths, openingRules, bufferRules, requestRules}
+use Rattle.frame_request.specs.Request.{outputAt, outputSize, bytesSaid, answerAt, RequestPost}
 use Rattle.frame_request.specs.Packed.{responseOf}
 use Rattle.frame_request.proofs.Checked.{checked, chroma-small, frame-asks}
 
 -- refused with 1, 2 or 3
-pub refused-early : (input output : List ℕ) {a : YuvAnswer} {e : YuvError} → a ≡ Refused e → numbersOf a ≡ firstOf (openingRules input) → RequestPost input output (Refuses e) output
+pub refused-early : (input output : List ℕ) {a : YuvAnswer} {e : YuvError} → a ≡ Refused e → numbersOf a ≡ firstOf (openingRules input)
+    → RequestPost input output (Refuses e) output
 refused-early input output is n = record {
   answered = sym (ap numbersOf is) ∙ after-refused (openingRules input) (bufferRules input) refl is n;
   said = refl;
@@ -36,7 +39,7 @@ pub record Called (input output : List ℕ) (a : YuvAnswer) (output′ : List �
 
 pub called : (input output output′ : List ℕ) (d : FrameDescription) (stride : ℕ) (source : List ℕ) (a : YuvAnswer)
     → d ≡ frameOf input → stride ≡ sourceStride (frameOf input) → source ≡ drop 9 input → firstOf (openingRules input) .number ≡ 0
-    → numbersOf a ≡ firstOf (frameRules d stride (length source) (lumaSize d) (chromaSize d) (chromaSize d))
+    → numbersOf a ≡ firstOf (frameRules d stride (packedLengths d (length source)))
     → Painted (taken a (outputSize d)) (outputAt d (sourceImage d stride source)) output output′
     → Called input output a output′
 called input output output′ d stride source a frame row rows opened n w = record {
@@ -44,7 +47,8 @@ called input output output′ d stride source a frame row rows opened n w = reco
   written = rw (frame, row, rows) at w;
 }
 
-pub posted : (input output output′ : List ℕ) (a : YuvAnswer) (n : ℕ) {r : Response} → r ≡ responseOf a n → n ≡ outputSize (frameOf input) → Called input output a output′
+pub posted : (input output output′ : List ℕ) (a : YuvAnswer) (n : ℕ) {r : Response} → r ≡ responseOf a n → n ≡ outputSize (frameOf input)
+    → Called input output a output′
     → RequestPost input output r output′
 posted input output output′ a n is size c = rw is (go a c)
   where

@@ -15,12 +15,12 @@ use Rattle.yuv_support.specs.Channels.{channelsCount}
 use Rattle.yuv_error.specs.Numbers.{Numbers}
 use Rattle.yuv_error.specs.Rules.{firstOf, matrixRules}
 use Rattle.yuv_error.proofs.First.{append-finished}
-use Rattle.yuv_error.proofs.Accepted.{accepted-buffers}
+use Rattle.yuv_error.proofs.Accepted.{buffers}
 use Rattle.definitions.specs.declared.FrameDescription.{FrameDescription}
 use Rattle.definitions.proofs.Planes.{below?}
 use Rattle.definitions.proofs.Numbers.{three-or-four}
-use Rattle.sharp_rgba_to_yuv.specs.Frame.{sourceOf, yOf, uOf, vOf, lentRules}
-use Rattle.frame_request.specs.Request.{settingsOf, frameOf, sourceStride, lumaSize, chromaSize, malformed, openingRules, bufferRules, requestRules}
+use Rattle.yuv_error.specs.Lent.{lentRules}
+use Rattle.frame_request.specs.Request.{settingsOf, frameOf, sourceStride, lumaSize, packedLengths, malformed, openingRules, bufferRules, requestRules}
 use Rattle.frame_request.proofs.Checked.{checked}
 use Rattle.frame_request.proofs.Answers.{rowsSize, lengthAnswer, requestAnswer, request-answer}
 
@@ -28,17 +28,25 @@ use Rattle.frame_request.proofs.Answers.{rowsSize, lengthAnswer, reques
 rows-small : (d : FrameDescription) → lumaSize d ≤ 16384 → rowsSize d ≤ 65536
 rows-small d small =
     let c = channelsCount (d .settings .channels) in
-    omega (arith, mul-le-mul {n₁ = d .width * d .height} {m₁ = c} {n₂ = 16384} {m₂ = 4} small (three-or-four (d .settings .channels) .1), mul-assoc (d .width) c (d .height), mul-comm c (d .height), mul-assoc (d .width) (d .height) c, ap (λ (n : ℕ). d .width * n) (mul-comm c (d .height)))
+    omega (
+      arith,
+      mul-le-mul {n₁ = d .width * d .height} {m₁ = c} {n₂ = 16384} {m₂ = 4} small (three-or-four (d .settings .channels) .1),
+      mul-assoc
+          (d .width) c (d .height),
+      mul-comm c (d .height),
+      mul-assoc (d .width) (d .height) c,
+      ap (λ (n : ℕ). d .width * n) (mul-comm c (d .height)),
+    )
 
 pub short-enough : (input : List ℕ) → firstOf (requestRules input) .number ≡ 0 → length input ≤ 65545
 short-enough input e =
     let d = frameOf input in
     let came = length (drop 9 input) in
     let n = append-finished (openingRules input) (bufferRules input) refl e in
-    let b = append-finished (matrixRules (d .settings .matrix)) (lentRules d (d .height) (sourceStride d) came (lumaSize d) (chromaSize d) (chromaSize d)) refl (n .1) .1 in
-    let a = accepted-buffers (sourceOf d (d .height) (sourceStride d) came) (yOf d (lumaSize d)) (uOf d (chromaSize d)) (vOf d (chromaSize d)) b in
+    let b = append-finished (matrixRules (d .settings .matrix)) (lentRules d (d .height) (sourceStride d) (packedLengths d came)) refl (n .1) .1 in
+    let a = buffers d (d .height) (sourceStride d) (packedLengths d came) b in
     let k = checked input (n .0) in
-    omega (arith, a .source-whole .exact, rows-small d (k .area), length-drop 9 input, k .header)
+    omega (arith, a .source-size, rows-small d (k .area), length-drop 9 input, k .header)
 
 -- ---- an input cut
 
@@ -56,7 +64,18 @@ module _ (input : List ℕ) (long : 65546 < length input) where
 
   cut-frame : frameOf (cut input) ≡ frameOf input
   unfolding frameOf settingsOf
-  cut-frame = rw (byte 0 (lit< tt), byte 1 (lit< tt), byte 2 (lit< tt), byte 3 (lit< tt), byte 4 (lit< tt), byte 5 (lit< tt), byte 6 (lit< tt), byte 7 (lit< tt), byte 8 (lit< tt))
+  cut-frame = rw (
+    byte 0 (lit< tt),
+    byte 1 (lit< tt),
+    byte 2 (lit< tt),
+    byte 3 (lit< tt),
+    byte 4 (lit< tt),
+    byte 5 (lit< tt),
+    byte 6 (lit< tt),
+    byte 7
+        (lit< tt),
+    byte 8 (lit< tt),
+  )
 
   cut-malformed : malformed (cut input) ≡ malformed input
   unfolding malformed
@@ -67,7 +86,8 @@ too-long : (need came : ℕ) → need < came → lengthAnswer need came .number 
 too-long need came l = rw (le-ltb came need (omega arith), lt-ltb need came l)
 
 -- what is asked first is the same, and what is asked last has the same number
-same-number : (m z a : Bool) (p q r s t : Numbers) → (a ≡ false → s .number ≡ t .number) → cond m p (cond z q (cond a r s)) .number ≡ cond m p (cond z q (cond a r t)) .number
+same-number : (m z a : Bool) (p q r s t : Numbers) → (a ≡ false → s .number ≡ t .number)
+    → cond m p (cond z q (cond a r s)) .number ≡ cond m p (cond z q (cond a r t)) .number
 same-number true z a p q r s t e = refl
 same-number false true a p q r s t e = refl
 same-number false false true p q r s t e = refl
@@ -87,5 +107,6 @@ pub read-enough : (input : List ℕ) → firstOf (requestRules (take 65546 input
 unfolding cut
 read-enough input =
     below? 65546 (length input)
-    (λ long. ap (λ (n : Numbers). n .number) (request-answer (cut input)) ∙ cut-answer input long ∙ sym (ap (λ (n : Numbers). n .number) (request-answer input)))
+    (λ long. ap (λ (n : Numbers). n .number) (request-answer (cut input)) ∙ cut-answer input long
+    ∙ sym (ap (λ (n : Numbers). n .number) (request-answer input)))
     (λ short. rw (take-all 65546 input short))

@@ -28,10 +28,17 @@ use Rattle.frame_request.proofs.Reading.{short-enough, read-enough}
 -- ---- a text at the start of a list
 
 -- a text, and one more behind it
-pub begins-more : (s e o p q : List ℕ) (a k : ℕ) → length s ≡ a → length e ≡ k → p ≡ s ++ drop a o → q ≡ take a p ++ (e ++ drop k (drop a p)) → Begins (s ++ e) o (a + k) q
+pub begins-more : (s e o p q : List ℕ) (a k : ℕ) → length s ≡ a → length e ≡ k → p ≡ s ++ drop a o → q ≡ take a p ++ (e ++ drop k (drop a p))
+    → Begins (s ++ e) o (a + k) q
 begins-more s e o p q a k ssize esize first second =
     let size : length (s ++ e) ≡ a + k = length-append s e ∙ omega arith in
-    let is : q ≡ (s ++ e) ++ drop (a + k) o = second ∙ rw (first, take-at s (drop a o) a ssize, drop-at s (drop a o) a ssize, drop-drop k a o, append-assoc s e (drop (a + k) o)) in
+    let is : q ≡ (s ++ e) ++ drop (a + k) o = second ∙ rw (
+      first,
+      take-at s (drop a o) a ssize,
+      drop-at s (drop a o) a ssize,
+      drop-drop k a o,
+      append-assoc s e (drop (a + k) o),
+    ) in
     let fits : a + k ≤ length q = omega (arith, ap length is, length-append (s ++ e) (drop (a + k) o)) in
     record {
       size = sym size;
@@ -61,8 +68,10 @@ painted-begins {n} {f} {d} {e} h p =
       size = sym (first-size f n);
       fits = fits;
       counted = sym long;
-      written = ext-getD 0 (take n e) (firstBytes f n) (long ∙ sym (first-size f n)) (λ k l. let below : k < n = omega (arith, long) in getD-take n e k 0 below ∙ painted-at p k below ∙ sym (first-at f n k below));
-      rest = ext-getD 0 (drop n e) (drop n d) (length-drop n e ∙ omega (arith, p .size, length-drop n d)) (λ k _. getD-drop n e k 0 ∙ painted-other p (n + k) (omega arith) ∙ sym (getD-drop n d k 0));
+      written = ext-getD 0 (take n e) (firstBytes f n) (long ∙ sym (first-size f n))
+          (λ k l. let below : k < n = omega (arith, long) in getD-take n e k 0 below ∙ painted-at p k below ∙ sym (first-at f n k below));
+      rest = ext-getD 0 (drop n e) (drop n d) (length-drop n e ∙ omega (arith, p .size, length-drop n d))
+          (λ k _. getD-drop n e k 0 ∙ painted-other p (n + k) (omega arith) ∙ sym (getD-drop n d k 0));
     }
 
 -- ---- the line of a refusal
@@ -76,7 +85,8 @@ number-most input =
     let came = length (drop 9 input) in
     rw (request-answer input) (go (malformed input) (eqb (d .width) 0 || eqb (d .height) 0) (ltb 16384 (lumaSize d)) (ltb came need) (ltb need came) need came)
   where
-    go : (m z a s l : Bool) (x y : ℕ) → cond m (numbers 1 0 0) (cond z (numbers 2 0 0) (cond a (numbers 3 0 0) (cond s (numbers 6 x y) (cond l (numbers 12 x y) (numbers 0 0 0))))) .number ≤ 12
+    go : (m z a s l : Bool) (x y : ℕ) → cond m (numbers 1 0 0) (cond z (numbers 2 0 0)
+        (cond a (numbers 3 0 0) (cond s (numbers 6 x y) (cond l (numbers 12 x y) (numbers 0 0 0))))) .number ≤ 12
     go true z a s l x y = lit≤ tt
     go false true a s l x y = lit≤ tt
     go false false true s l x y = lit≤ tt
@@ -88,7 +98,8 @@ number-most input =
 pub line-begins : (n k : ℕ) (digits o p q : List ℕ) → digits ≡ decimal n → length (digits ++ (10 ∷ [])) ≡ k
     → p ≡ refusedText ++ drop 8 o → q ≡ take 8 p ++ ((digits ++ (10 ∷ [])) ++ drop k (drop 8 p)) → Begins (refusalLine n) o (8 + k) q
 line-begins n k digits o p q is size first second =
-    subst (λ (xs : List ℕ). Begins (refusedText ++ (xs ++ (10 ∷ []))) o (8 + k) q) is (begins-more refusedText (digits ++ (10 ∷ [])) o p q 8 k refl size first second)
+    subst (λ (xs : List ℕ). Begins (refusedText ++ (xs ++ (10 ∷ []))) o (8 + k) q) is
+    (begins-more refusedText (digits ++ (10 ∷ [])) o p q 8 k refl size first second)
 
 -- ---- what is written
 

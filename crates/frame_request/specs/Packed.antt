@@ -2,13 +2,12 @@
 -- Assumes nothing.
 use Prim.Native.Nat.{ℕ, _≤_}
 use mathlib.Core.Path.{_≡_}
-use mathlib.Core.List.{List}
 use lib.ListN.{take, drop}
 use Rattle.yuv_support.specs.Sampling.{chromaWidth}
 use Rattle.yuv_error.specs.declared.YuvAnswer.{YuvAnswer}
 use Rattle.yuv_error.specs.declared.YuvAnswer.the-variants.{Finished, Refused}
 use Rattle.definitions.specs.declared.FrameDescription.{FrameDescription}
-use Rattle.sharp_rgba_to_yuv.specs.Frame.{FramePost}
+use Rattle.sharp_rgba_to_yuv.specs.FrameCall.{FrameCall, frameCall, FramePost}
 use Rattle.frame_request.specs.declared.PlaneSizes.{PlaneSizes}
 use Rattle.frame_request.specs.declared.Response.{Response}
 use Rattle.frame_request.specs.declared.Response.the-variants.{Planes, Refused as Refuses}
@@ -26,10 +25,16 @@ pub record Packed (d : FrameDescription) (sizes : PlaneSizes) : Type 0 where
   pub chroma : sizes .chroma ≡ chromaSize d
   pub chroma-most : sizes .chroma ≤ 16384
 
--- a frame call whose planes are the first bytes of y, u and v: what it promises of them, and that y is as it was past its plane
-pub record PlanesPost (d : FrameDescription) (stride : ℕ) (source : List ℕ) (sizes : PlaneSizes) (y u v : List ℕ) (a : YuvAnswer) (y′ u′ v′ : List ℕ) : Type 0 where
-  pub called : FramePost d stride source (take (sizes .luma) y) (take (sizes .chroma) u) (take (sizes .chroma) v) a (take (sizes .luma) y′) (take (sizes .chroma) u′) (take (sizes .chroma) v′)
-  pub past : drop (sizes .luma) y′ ≡ drop (sizes .luma) y
+-- a frame call on the first bytes of the buffers that stand for its planes
+abbrev pub onFirst : PlaneSizes → FrameCall → FrameCall
+onFirst n k =
+    frameCall (k .frame) (k .stride) (k .source) (take (n .luma) (k .y)) (take (n .chroma) (k .u)) (take (n .chroma) (k .v))
+    (k .answer) (take (n .luma) (k .y′)) (take (n .chroma) (k .u′)) (take (n .chroma) (k .v′))
+
+-- such a call: what it promises of its planes, and that y is as it was past its plane
+pub record PlanesPost (n : PlaneSizes) (k : FrameCall) : Type 0 where
+  pub called : FramePost (onFirst n k)
+  pub past : drop (n .luma) (k .y′) ≡ drop (n .luma) (k .y)
 
 -- the answer of a frame call as a response, with the bytes of the planes
 abbrev pub responseOf : YuvAnswer → ℕ → Response

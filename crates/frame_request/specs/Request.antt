@@ -21,7 +21,8 @@ use Rattle.yuv_error.specs.Numbers.{Numbers, numbers, errorNumbers}
 use Rattle.yuv_error.specs.Rules.{Rule, rule, firstOf, sizeRules, matrixRules}
 use Rattle.definitions.specs.declared.FrameDescription.{FrameDescription}
 use Rattle.definitions.specs.Image.{Image, sourceImage, lumaAt, cbAt, crAt}
-use Rattle.sharp_rgba_to_yuv.specs.Frame.{lentRules}
+use Rattle.yuv_error.specs.declared.Lengths.{Lengths}
+use Rattle.yuv_error.specs.Lent.{lentRules}
 use Rattle.frame_request.specs.declared.Response.{Response}
 use Rattle.frame_request.specs.declared.Response.the-variants.{Planes, Refused}
 
@@ -86,11 +87,15 @@ areaRules w h = rule 3 (ltb 16384 (w * h)) 0 0 ∷ []
 abbrev pub openingRules : List ℕ → List Rule
 openingRules input = let d = frameOf input in headerRules input ++ (sizeRules (d .width) (d .height) ++ areaRules (d .width) (d .height))
 
--- 4 and 6 to 12, of planes without padding
+-- the lengths of a source and of planes without padding
+abbrev pub packedLengths : FrameDescription → (source : ℕ) → Lengths
+packedLengths d source = record { source = source; y = lumaSize d; u = chromaSize d; v = chromaSize d }
+
+-- 4 and 6 to 12
 abbrev pub bufferRules : List ℕ → List Rule
 bufferRules input =
     let d = frameOf input in
-    matrixRules (d .settings .matrix) ++ lentRules d (d .height) (sourceStride d) (length (drop 9 input)) (lumaSize d) (chromaSize d) (chromaSize d)
+    matrixRules (d .settings .matrix) ++ lentRules d (d .height) (sourceStride d) (packedLengths d (length (drop 9 input)))
 
 abbrev pub requestRules : List ℕ → List Rule
 requestRules input = openingRules input ++ bufferRules input

@@ -11,8 +11,10 @@ ghost use Rattle.definitions.specs.Painted.{Painted};
 ghost use Rattle.yuv_error.specs.Numbers.{numbersOf};
 ghost use Rattle.yuv_error.specs.Rules.{firstOf, sizeRules};
 ghost use Rattle.definitions.specs.Image.{sourceImage};
-ghost use Rattle.sharp_rgba_to_yuv.specs.Frame.{frameRules, taken};
-ghost use Rattle.frame_request.specs.Request.{settingsOf, frameOf, sourceStride, lumaSize, chromaSize, hasUnknown, headerRules, areaRules, openingRules, outputAt, outputSize, RequestPost};
+ghost use Rattle.yuv_error.specs.Lent.{taken};
+ghost use Rattle.sharp_rgba_to_yuv.specs.FrameCall.{frameCall, frameRules};
+ghost use Rattle.frame_request.specs.Request.{settingsOf, frameOf, sourceStride, lumaSize, chromaSize, packedLengths};
+ghost use Rattle.frame_request.specs.Request.{hasUnknown, headerRules, areaRules, openingRules, outputAt, outputSize, RequestPost};
 ghost use Rattle.frame_request.specs.Packed.{Packed, PlanesPost, responseOf};
 ghost use Rattle.frame_request.specs.Reply.{refusalLine, reply, Begins};
 
@@ -182,7 +184,8 @@ fn convert_planes(
     v: &mut [u8],
 ) -> YuvAnswer
     requires { ⌜ (sizes .luma ≤ length (now y)) × (sizes .chroma ≤ length (now u)) × (sizes .chroma ≤ length (now v)) ⌝ }
-    ensures { λ a. ⌜ PlanesPost frame stride (now (source .entry)) sizes (now (y .entry)) (now (u .entry)) (now (v .entry)) a (now (y .exit)) (now (u .exit)) (now (v .exit)) ⌝ }
+    ensures { λ a. ⌜ PlanesPost sizes (frameCall frame stride (now (source .entry)) (now (y .entry)) (now (u .entry)) (now (v .entry))
+        a (now (y .exit)) (now (u .exit)) (now (v .exit))) ⌝ }
 {
     let luma = sizes.luma;
     let chroma = sizes.chroma;
@@ -206,8 +209,9 @@ fn convert_into(
 ) -> YuvAnswer
     requires { ⌜ Packed frame sizes ⌝ }
     requires { ⌜ 49152 ≤ length (now output) ⌝ }
-    ensures { λ a. ⌜ numbersOf a ≡ firstOf (frameRules frame stride (length (now (source .entry))) (lumaSize frame) (chromaSize frame) (chromaSize frame)) ⌝ }
-    ensures { λ a. ⌜ Painted (taken a (outputSize frame)) (outputAt frame (sourceImage frame stride (now (source .entry)))) (now (output .entry)) (now (output .exit)) ⌝ }
+    ensures { λ a. ⌜ numbersOf a ≡ firstOf (frameRules frame stride (packedLengths frame (length (now (source .entry))))) ⌝ }
+    ensures { λ a. ⌜ Painted (taken a (outputSize frame)) (outputAt frame (sourceImage frame stride (now (source .entry))))
+        (now (output .entry)) (now (output .exit)) ⌝ }
 {
     let mut u = plane();
     let mut v = plane();

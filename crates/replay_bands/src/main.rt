@@ -1,7 +1,7 @@
 // Makes the openings and band calls of a stored list, its standard input, and prints a line of what came of each. vectors/README.md has
 // both forms.
-use sharp_bands::FrameAnswer;
-use sharp_bands::FrameState;
+use band_calls::FrameAnswer;
+use band_calls::FrameState;
 
 fn print_answered(answered: FrameAnswer) {
     let answer = answered.answer;

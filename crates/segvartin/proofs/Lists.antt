@@ -13,15 +13,18 @@ use Rattle.yuv_error.specs.declared.YuvAnswer.the-variants.{Finished, Refused}
 use Rattle.yuv_error.specs.Numbers.{Numbers, numbersOf, answerOf}
 use Rattle.yuv_error.specs.Rules.{Rule, rule, firstOf}
 use Rattle.yuv_error.proofs.Numbers.{found, is-finished}
-use Rattle.sharp_rgba_to_yuv.specs.Frame.{openingRules, taken, FramePost}
+use Rattle.yuv_error.specs.Lent.{openingRules, taken}
+use Rattle.sharp_rgba_to_yuv.specs.FrameCall.{FramePost, Unwritten}
 use Rattle.sharp_rgba_to_yuv.proofs.Post as frame
-use Rattle.sharp_bands.specs.declared.FrameState.{FrameState}
-use Rattle.sharp_bands.specs.Band.{OpenPost}
-use Rattle.sharp_bands.specs.Calls.{Met, AllMet, either}
-use Rattle.sharp_bands.proofs.Post as band
-use Rattle.segvartin.specs.Codes.{isMalformed}
-use Rattle.segvartin.specs.Calls.{ExportedFrame, strideOfFrame, frameOfFrame, frameRulesOf, rulesOfFrame, FrameKept, ExportedOpening, frameOfOpening, rulesOfOpening, handed, OpenKept, ExportedBand, bandRulesOf, rulesOfBand, Kept, BandKept}
-use Rattle.segvartin.specs.Lists.{numbersTold, answerTold, doneTold, asBand, asBands, AllKept, RefusedKept}
+use Rattle.band_calls.specs.declared.FrameState.{FrameState}
+use Rattle.band_calls.specs.BandCall.{OpenPost, BandPost}
+use Rattle.band_lists.specs.BandLists.{AllMet, either}
+use Rattle.band_calls.proofs.Post as band
+use Rattle.call_numbers.specs.Codes.{isMalformed}
+use Rattle.segvartin.specs.Calls.{ExportedFrame, frameWith, frameRulesOf, rulesOfFrame, FrameKept}
+use Rattle.segvartin.specs.Calls.{ExportedOpening, frameOfOpening, rulesOfOpening, handed, OpenKept}
+use Rattle.segvartin.specs.Calls.{ExportedBand, bandWith, bandRulesOf, rulesOfBand, Kept, BandKept}
+use Rattle.segvartin.specs.Lists.{numbersTold, answerTold, doneTold, asFrame, asBand, asBands, AllKept, RefusedKept}
 
 -- ---- by cases
 
@@ -59,14 +62,12 @@ module _ {k : ExportedFrame} (p : FrameKept k) where
       (λ t q. refused-1 (frameRulesOf k) t (frame-told ∙ ap numbersOf (q .0)))
       (λ t q. passed-1 (frameRulesOf k) t (frame-told ∙ q .answered))
 
-  pub frame-writes-nothing : 1 ≤ k .number → (k .y′ ≡ k .y) × (k .u′ ≡ k .u) × (k .v′ ≡ k .v)
+  pub frame-writes-nothing : 1 ≤ k .number → Unwritten (asFrame k)
   frame-writes-nothing l =
-      either-way (isMalformed 1 (k .numbers)) (p .answered) (λ t q. (q .1, q .2, q .3))
-      (λ t q. frame.refused-writes-nothing (is-refused (p .answer) (frame-refused l) .1) q)
+      either-way (isMalformed 1 (k .numbers)) (p .answered) (λ t q. q .1)
+      (λ t q. frame.refused-writes-nothing (frameWith k (p .answer)) (is-refused (p .answer) (frame-refused l) .1) q)
 
-  pub frame-accepted : k .number ≡ 0
-      → (answerTold (k .number) (k .told) ≡ Finished)
-      × FramePost (frameOfFrame k) (strideOfFrame k) (k .source) (k .y) (k .u) (k .v) (answerTold (k .number) (k .told)) (k .y′) (k .u′) (k .v′)
+  pub frame-accepted : k .number ≡ 0 → (asFrame k .answer ≡ Finished) × FramePost (asFrame k)
   frame-accepted z =
       let is = is-finished (p .answer) (sym (p .number) ∙ z) in
       let same : answerTold (k .number) (k .told) ≡ p .answer = ap answerOf frame-told ∙ found (p .answer) in
@@ -120,9 +121,11 @@ module _ {k : ExportedBand} (p : BandKept k) where
       let refused = subst (λ (n : ℕ). 1 ≤ n) (p .number) l in
       either-way (isMalformed 3 (k .numbers)) (p .answered)
       (λ t q. (done-told ∙ q .1 .0, q .1 .1, q .1 .2, q .1 .3, q .1 .4))
-      (λ t q. let w = band.refused-writes-nothing (none-taken (p .answer) refused) q in (done-told ∙ ap (λ (s : FrameState). s .done) (w .0), w .1, w .2, w .3, w .4))
+      (λ t q.
+      let w = band.refused-writes-nothing {k = bandWith k (p .answer) (p .done)} (none-taken (p .answer) refused) q in
+      (done-told ∙ ap (λ (s : FrameState). s .done) (w .0), w .1, w .2, w .3, w .4))
 
-  pub band-met : isMalformed 3 (k .numbers) ≡ false → Met (asBand k)
+  pub band-met : isMalformed 3 (k .numbers) ≡ false → BandPost (asBand k)
   band-met f =
       let same : answerTold (k .number) (k .told) ≡ p .answer = ap answerOf band-told ∙ found (p .answer) in
       either-way (isMalformed 3 (k .numbers)) (p .answered)

@@ -12,12 +12,13 @@ use Rattle.yuv_error.specs.declared.YuvAnswer.the-variants.{Refused}
 use Rattle.yuv_error.specs.Numbers.{numbersOf}
 use Rattle.definitions.specs.declared.FrameDescription.{FrameDescription}
 use Rattle.yuv_error.specs.Rules.{Rule}
-use Rattle.sharp_rgba_to_yuv.specs.Frame.{openingRules, frameRules, FramePost}
-use Rattle.sharp_bands.specs.declared.FrameState.{FrameState}
-use Rattle.sharp_bands.specs.declared.FrameAnswer.{FrameAnswer}
-use Rattle.sharp_bands.specs.Band.{stateOf, bandRules, OpenPost, BandPost}
-use Rattle.sharp_bands.specs.Calls.{either}
-use Rattle.segvartin.specs.Codes.{at, descriptionOf, isMalformed, numberRules}
+use Rattle.yuv_error.specs.Lent.{lengthsOf, openingRules}
+use Rattle.sharp_rgba_to_yuv.specs.FrameCall.{FrameCall, frameCall, frameRules, FramePost, Unwritten}
+use Rattle.band_calls.specs.declared.FrameState.{FrameState}
+use Rattle.band_calls.specs.declared.FrameAnswer.{FrameAnswer}
+use Rattle.band_calls.specs.BandCall.{stateOf, bandRules, OpenPost, BandCall, bandCall, BandPost}
+use Rattle.band_lists.specs.BandLists.{either}
+use Rattle.call_numbers.specs.Codes.{at, descriptionOf, isMalformed, numberRules}
 
 -- ---- `segvartin_call_frame`
 
@@ -35,8 +36,8 @@ pub record ExportedFrame : Type 0 where
   pub u′ : List ℕ
   pub v′ : List ℕ
 
-abbrev pub frameCall : (numbers : List ℕ) (custom : List Float) (source y u v : List ℕ) (number : ℕ) (told y′ u′ v′ : List ℕ) → ExportedFrame
-frameCall numbers custom source y u v number told y′ u′ v′ =
+abbrev pub exportedFrame : (numbers : List ℕ) (custom : List Float) (source y u v : List ℕ) (number : ℕ) (told y′ u′ v′ : List ℕ) → ExportedFrame
+exportedFrame numbers custom source y u v number told y′ u′ v′ =
     record { numbers = numbers; custom = custom; source = source; y = y; u = u; v = v; number = number; told = told; y′ = y′; u′ = u′; v′ = v′ }
 
 -- the source's stride, then the description
@@ -46,9 +47,13 @@ strideOfFrame k = at (k .numbers) 0
 abbrev pub frameOfFrame : ExportedFrame → FrameDescription
 frameOfFrame k = descriptionOf (drop 1 (k .numbers)) (k .custom)
 
+-- the frame call that the numbers describe, with an answer
+abbrev pub frameWith : ExportedFrame → YuvAnswer → FrameCall
+frameWith k answer = frameCall (frameOfFrame k) (strideOfFrame k) (k .source) (k .y) (k .u) (k .v) answer (k .y′) (k .u′) (k .v′)
+
 -- refusal 1, then the frame call's own
 abbrev pub frameRulesOf : ExportedFrame → List Rule
-frameRulesOf k = frameRules (frameOfFrame k) (strideOfFrame k) (length (k .source)) (length (k .y)) (length (k .u)) (length (k .v))
+frameRulesOf k = frameRules (frameOfFrame k) (strideOfFrame k) (lengthsOf (k .source) (k .y) (k .u) (k .v))
 
 abbrev pub rulesOfFrame : ExportedFrame → List Rule
 rulesOfFrame k = numberRules 1 (k .numbers) ++ frameRulesOf k
@@ -56,8 +61,7 @@ rulesOfFrame k = numberRules 1 (k .numbers) ++ frameRulesOf k
 -- a frame call's promise, with refusal 1 before it
 abbrev pub FrameAnswered : ExportedFrame → YuvAnswer → Type 0
 FrameAnswered k answer =
-    either (isMalformed 1 (k .numbers)) ((answer ≡ Refused MalformedRequest) × (k .y′ ≡ k .y) × (k .u′ ≡ k .u) × (k .v′ ≡ k .v))
-    (FramePost (frameOfFrame k) (strideOfFrame k) (k .source) (k .y) (k .u) (k .v) answer (k .y′) (k .u′) (k .v′))
+    either (isMalformed 1 (k .numbers)) ((answer ≡ Refused MalformedRequest) × Unwritten (frameWith k answer)) (FramePost (frameWith k answer))
 
 -- everything of a call: the number that it returns, and what it tells, are those of an answer that the frame call gives
 pub record FrameKept (k : ExportedFrame) : Type 0 where
@@ -74,8 +78,8 @@ pub record ExportedOpening : Type 0 where
   pub number : ℕ
   pub told : List ℕ
 
-abbrev pub openCall : (numbers : List ℕ) (custom : List Float) (number : ℕ) (told : List ℕ) → ExportedOpening
-openCall numbers custom number told = record { numbers = numbers; custom = custom; number = number; told = told }
+abbrev pub exportedOpening : (numbers : List ℕ) (custom : List Float) (number : ℕ) (told : List ℕ) → ExportedOpening
+exportedOpening numbers custom number told = record { numbers = numbers; custom = custom; number = number; told = told }
 
 abbrev pub frameOfOpening : ExportedOpening → FrameDescription
 frameOfOpening k = descriptionOf (drop 0 (k .numbers)) (k .custom)
@@ -90,7 +94,8 @@ handed d answer done = record { state = stateOf d done; answer = answer }
 -- an opening's promise, with refusal 1 before it. What a refused opening hands back is left free: no row is done, here too.
 abbrev pub OpenAnswered : ExportedOpening → YuvAnswer → (done : ℕ) → Type 0
 OpenAnswered k answer done =
-    either (isMalformed 0 (k .numbers)) ((answer ≡ Refused MalformedRequest) × (done ≡ 0)) (OpenPost (frameOfOpening k) (handed (frameOfOpening k) answer done))
+    either (isMalformed 0 (k .numbers)) ((answer ≡ Refused MalformedRequest) × (done ≡ 0))
+    (OpenPost (frameOfOpening k) (handed (frameOfOpening k) answer done))
 
 pub record OpenKept (k : ExportedOpening) : Type 0 where
   pub answer : YuvAnswer
@@ -116,8 +121,9 @@ pub record ExportedBand : Type 0 where
   pub v′ : List ℕ
   pub carried′ : List ℕ
 
-abbrev pub bandCall : (numbers : List ℕ) (custom : List Float) (source y u v carried : List ℕ) (number : ℕ) (told y′ u′ v′ carried′ : List ℕ) → ExportedBand
-bandCall numbers custom source y u v carried number told y′ u′ v′ carried′ = record {
+abbrev pub exportedBand : (numbers : List ℕ) (custom : List Float) (source y u v carried : List ℕ) (number : ℕ) (told y′ u′ v′ carried′ : List ℕ)
+    → ExportedBand
+exportedBand numbers custom source y u v carried number told y′ u′ v′ carried′ = record {
   numbers = numbers;
   custom = custom;
   source = source;
@@ -150,8 +156,14 @@ frameOf k = descriptionOf (drop 3 (k .numbers)) (k .custom)
 abbrev pub stateGiven : ExportedBand → FrameState
 stateGiven k = stateOf (frameOf k) (doneOf k)
 
+-- the band call that they describe, with what it hands back
+abbrev pub bandWith : ExportedBand → YuvAnswer → (done : ℕ) → BandCall
+bandWith k answer done =
+    bandCall (stateGiven k) (rowsOf k) (strideOf k) (k .source) (k .y) (k .u) (k .v) (k .carried)
+    (handed (frameOf k) answer done) (k .y′) (k .u′) (k .v′) (k .carried′)
+
 abbrev pub bandRulesOf : ExportedBand → List Rule
-bandRulesOf k = bandRules (stateGiven k) (rowsOf k) (strideOf k) (length (k .source)) (length (k .y)) (length (k .u)) (length (k .v)) (length (k .carried))
+bandRulesOf k = bandRules (stateGiven k) (rowsOf k) (strideOf k) (lengthsOf (k .source) (k .y) (k .u) (k .v)) (length (k .carried))
 
 abbrev pub rulesOfBand : ExportedBand → List Rule
 rulesOfBand k = numberRules 3 (k .numbers) ++ bandRulesOf k
@@ -163,8 +175,7 @@ Kept k done = (done ≡ doneOf k) × (k .y′ ≡ k .y) × (k .u′ ≡ k .u) ×
 -- a band call's promise, with refusal 1 before it
 abbrev pub BandAnswered : ExportedBand → YuvAnswer → (done : ℕ) → Type 0
 BandAnswered k answer done =
-    either (isMalformed 3 (k .numbers)) ((answer ≡ Refused MalformedRequest) × Kept k done)
-    (BandPost (stateGiven k) (rowsOf k) (strideOf k) (k .source) (k .y) (k .u) (k .v) (k .carried) (handed (frameOf k) answer done) (k .y′) (k .u′) (k .v′) (k .carried′))
+    either (isMalformed 3 (k .numbers)) ((answer ≡ Refused MalformedRequest) × Kept k done) (BandPost (bandWith k answer done))
 
 pub record BandKept (k : ExportedBand) : Type 0 where
   pub answer : YuvAnswer

@@ -1,4 +1,3 @@
 -- What the functions that C links mean.
-pub mod Codes
 pub mod Calls
 pub mod Lists

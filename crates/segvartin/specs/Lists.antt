@@ -5,11 +5,11 @@ use mathlib.Core.Bool.{cond}
 use mathlib.Core.List.{List, [], _∷_}
 use Rattle.yuv_error.specs.declared.YuvAnswer.{YuvAnswer}
 use Rattle.yuv_error.specs.Numbers.{Numbers, numbers, answerOf}
-use Rattle.sharp_bands.specs.declared.FrameState.{FrameState}
-use Rattle.sharp_bands.specs.Band.{stateOf}
-use Rattle.sharp_bands.specs.Calls.{BandCall, FrameCall}
-use Rattle.segvartin.specs.Codes.{at, isMalformed}
-use Rattle.segvartin.specs.Calls.{ExportedFrame, strideOfFrame, frameOfFrame, ExportedOpening, frameOfOpening, handed, ExportedBand, rowsOf, strideOf, frameOf, stateGiven, Kept, BandKept}
+use Rattle.band_calls.specs.declared.FrameState.{FrameState}
+use Rattle.sharp_rgba_to_yuv.specs.FrameCall.{FrameCall}
+use Rattle.band_calls.specs.BandCall.{stateOf, BandCall}
+use Rattle.call_numbers.specs.Codes.{at, isMalformed}
+use Rattle.segvartin.specs.Calls.{ExportedFrame, frameWith, ExportedOpening, frameOfOpening, ExportedBand, bandWith, Kept, BandKept}
 
 -- number, expected and received, as a call told them
 abbrev pub numbersTold : (number : ℕ) → (told : List ℕ) → Numbers
@@ -28,35 +28,10 @@ openedState k = stateOf (frameOfOpening k) (doneTold (k .told))
 
 -- a frame call, and a band call, that came as numbers
 abbrev pub asFrame : ExportedFrame → FrameCall
-asFrame k = record {
-  frame = frameOfFrame k;
-  stride = strideOfFrame k;
-  source = k .source;
-  y = k .y;
-  u = k .u;
-  v = k .v;
-  result = answerTold (k .number) (k .told);
-  y′ = k .y′;
-  u′ = k .u′;
-  v′ = k .v′;
-}
+asFrame k = frameWith k (answerTold (k .number) (k .told))
 
 abbrev pub asBand : ExportedBand → BandCall
-asBand k = record {
-  state = stateGiven k;
-  rows = rowsOf k;
-  stride = strideOf k;
-  source = k .source;
-  y = k .y;
-  u = k .u;
-  v = k .v;
-  carried = k .carried;
-  result = handed (frameOf k) (answerTold (k .number) (k .told)) (doneTold (k .told));
-  y′ = k .y′;
-  u′ = k .u′;
-  v′ = k .v′;
-  carried′ = k .carried′;
-}
+asBand k = bandWith k (answerTold (k .number) (k .told)) (doneTold (k .told))
 
 -- the calls of a list whose numbers have a meaning; the others are refused with 1, and are no band calls
 abbrev pub asBands : List ExportedBand → List BandCall

@@ -2,6 +2,7 @@
 ghost use mathlib.Core.Path.{_≡_};
 ghost use lib.ListN.{getD};
 ghost use Rattle.setting_codes.specs.Codes.{channelsCodes, samplingCodes, rangeCodes, matrixCodes, transferCodes};
+ghost use Rattle.setting_codes.specs.Codes.{samplingCode, rangeCode, matrixCode, transferCode};
 use sharp_gamma::SharpYuvGammaTransfer;
 use yuv_support::YuvChromaSubsampling;
 use yuv_support::YuvRange;
@@ -65,5 +66,50 @@ pub fn transfer_of(code: u32) -> SharpYuvGammaTransfer
         2 => SharpYuvGammaTransfer::Gamma2p2,
         3 => SharpYuvGammaTransfer::Gamma2p8,
         _ => SharpYuvGammaTransfer::Srgb,
+    }
+}
+
+// The code of a setting, the other way round.
+pub fn sampling_code(sampling: YuvChromaSubsampling) -> u32
+    ensures { λ r. ⌜ r ≡ samplingCode sampling ⌝ }
+{
+    match sampling {
+        YuvChromaSubsampling::Yuv420 => 0,
+        YuvChromaSubsampling::Yuv422 => 1,
+    }
+}
+
+pub fn range_code(range: YuvRange) -> u32
+    ensures { λ r. ⌜ r ≡ rangeCode range ⌝ }
+{
+    match range {
+        YuvRange::Limited => 0,
+        YuvRange::Full => 1,
+    }
+}
+
+// Every Custom matrix has the code 6: kr and kb are no part of it.
+pub fn matrix_code(matrix: YuvStandardMatrix) -> u32
+    ensures { λ r. ⌜ r ≡ matrixCode matrix ⌝ }
+{
+    match matrix {
+        YuvStandardMatrix::Bt601 => 0,
+        YuvStandardMatrix::Bt709 => 1,
+        YuvStandardMatrix::Bt2020 => 2,
+        YuvStandardMatrix::Smpte240 => 3,
+        YuvStandardMatrix::Bt470_6 => 4,
+        YuvStandardMatrix::Fcc => 5,
+        YuvStandardMatrix::Custom(_, _) => 6,
+    }
+}
+
+pub fn transfer_code(transfer: SharpYuvGammaTransfer) -> u32
+    ensures { λ r. ⌜ r ≡ transferCode transfer ⌝ }
+{
+    match transfer {
+        SharpYuvGammaTransfer::Srgb => 0,
+        SharpYuvGammaTransfer::Rec709 => 1,
+        SharpYuvGammaTransfer::Gamma2p2 => 2,
+        SharpYuvGammaTransfer::Gamma2p8 => 3,
     }
 }

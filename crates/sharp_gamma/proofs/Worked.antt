@@ -42,7 +42,29 @@ pub record Ends (t : SharpYuvGammaTransfer) : Type 0 where
 
 pub ends : (t : SharpYuvGammaTransfer) → Ends t
 unfolding underCurve underInverse
-ends Srgb = record { linear-0 = linear-is Srgb 0 0 (lit< tt) tt; linear-255 = linear-is Srgb 255 65535 (lit< tt) tt; gamma-0 = gamma-is Srgb 0 0 (lit< tt) tt; gamma-65535 = gamma-is Srgb 65535 255 (lit< tt) tt }
-ends Rec709 = record { linear-0 = linear-is Rec709 0 0 (lit< tt) tt; linear-255 = linear-is Rec709 255 65535 (lit< tt) tt; gamma-0 = gamma-is Rec709 0 0 (lit< tt) tt; gamma-65535 = gamma-is Rec709 65535 255 (lit< tt) tt }
-ends Gamma2p2 = record { linear-0 = linear-is Gamma2p2 0 0 (lit< tt) tt; linear-255 = linear-is Gamma2p2 255 65535 (lit< tt) tt; gamma-0 = gamma-is Gamma2p2 0 0 (lit< tt) tt; gamma-65535 = gamma-is Gamma2p2 65535 255 (lit< tt) tt }
-ends Gamma2p8 = record { linear-0 = linear-is Gamma2p8 0 0 (lit< tt) tt; linear-255 = linear-is Gamma2p8 255 65535 (lit< tt) tt; gamma-0 = gamma-is Gamma2p8 0 0 (lit< tt) tt; gamma-65535 = gamma-is Gamma2p8 65535 255 (lit< tt) tt }
+ends Srgb = record {
+  linear-0 = linear-is Srgb 0 0 (lit< tt) tt;
+  linear-255 = linear-is Srgb 255 65535 (lit< tt) tt;
+  gamma-0 = gamma-is Srgb 0 0
+      (lit< tt) tt;
+  gamma-65535 = gamma-is Srgb 65535 255 (lit< tt) tt;
+}
+ends Rec709 = record {
+  linear-0 = linear-is Rec709 0 0 (lit< tt) tt;
+  linear-255 = linear-is Rec709 255 65535 (lit< tt) tt;
+  gamma-0 = gamma-is Rec709 0 0
+      (lit< tt) tt;
+  gamma-65535 = gamma-is Rec709 65535 255 (lit< tt) tt;
+}
+ends Gamma2p2 = record {
+  linear-0 = linear-is Gamma2p2 0 0 (lit< tt) tt;
+  linear-255 = linear-is Gamma2p2 255 65535 (lit< tt) tt;
+  gamma-0 = gamma-is Gamma2p2 0 0 (lit< tt) tt;
+  gamma-65535 = gamma-is Gamma2p2 65535 255 (lit< tt) tt;
+}
+ends Gamma2p8 = record {
+  linear-0 = linear-is Gamma2p8 0 0 (lit< tt) tt;
+  linear-255 = linear-is Gamma2p8 255 65535 (lit< tt) tt;
+  gamma-0 = gamma-is Gamma2p8 0 0 (lit< tt) tt;
+  gamma-65535 = gamma-is Gamma2p8 65535 255 (lit< tt) tt;
+}

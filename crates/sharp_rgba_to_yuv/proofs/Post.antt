@@ -1,43 +1,43 @@
 -- The promise of a frame call, from what its two answers give: refused, no byte moved; finished, the band of all rows is the frame.
 -- Assumes nothing.
-use Prim.Native.Nat.{ℕ, _+_, _*_, _-_, _≤_, _<_}
-use mathlib.Core.Path.{_≡_, refl, sym, ap, subst, _∙_}
+use Prim.Native.Nat.{ℕ, _+_}
+use mathlib.Core.Path.{_≡_, refl, sym, subst}
 use mathlib.Core.List.{List}
 use native.Mathlib.Nat.{le-refl}
 use native.Mathlib.Omega.{arith}
-use lib.ListN.{length}
 use Rattle.yuv_error.specs.declared.YuvError.{YuvError}
 use Rattle.yuv_error.specs.declared.YuvAnswer.{YuvAnswer}
 use Rattle.yuv_error.specs.declared.YuvAnswer.the-variants.{Finished, Refused}
 use Rattle.yuv_error.specs.Numbers.{numbersOf}
 use Rattle.yuv_error.specs.Rules.{firstOf}
+use Rattle.yuv_error.specs.Lent.{lengthsOf, taken}
 use Rattle.definitions.specs.declared.FrameDescription.{FrameDescription}
 use Rattle.definitions.specs.Image.{Image, sourceImage}
 use Rattle.definitions.specs.Bands.{bandImage, Sharpened}
 use Rattle.definitions.proofs.Planes.{plane-same}
-use Rattle.definitions.proofs.Bands.{sharpened-none, whole-image}
+use Rattle.definitions.proofs.Bands.{sharpened-none, all-rows-image}
 use Rattle.sharp_rgba_to_yuv.proofs.Accepted.{allRows}
-use Rattle.sharp_rgba_to_yuv.specs.Frame.{frameRules, taken, FramePost}
+use Rattle.sharp_rgba_to_yuv.specs.FrameCall.{FrameCall, frameCall, frameRules, FramePost, Unwritten}
 
-module _ (d : FrameDescription) (stride : ℕ) (source y u v : List ℕ) (answer : YuvAnswer) where
-  pub refused : {e : YuvError} → answer ≡ Refused e → numbersOf answer ≡ firstOf (frameRules d stride (length source) (length y) (length u) (length v)) → FramePost d stride source y u v answer y u v
-  refused is numbers = record {
+module _ (d : FrameDescription) (stride : ℕ) (source y u v : List ℕ) (answer : YuvAnswer)
+    (numbers : numbersOf answer ≡ firstOf (frameRules d stride (lengthsOf source y u v))) where
+  pub refused : {e : YuvError} → answer ≡ Refused e → FramePost (frameCall d stride source y u v answer y u v)
+  refused is = record {
     answered = numbers;
     planes = subst (λ (a : YuvAnswer). Sharpened d 0 (taken a (d .height)) (sourceImage d stride source) y u v y u v) (sym is) (sharpened-none d 0 _ y u v);
   }
 
-  pub finished : answer ≡ Finished → numbersOf answer ≡ firstOf (frameRules d stride (length source) (length y) (length u) (length v)) → (y′ u′ v′ : List ℕ)
-      → Sharpened d 0 (0 + d .height) (bandImage (allRows d stride) source source) y u v y′ u′ v′ → FramePost d stride source y u v answer y′ u′ v′
-  finished is numbers y′ u′ v′ h = record {
+  pub finished : answer ≡ Finished → (y′ u′ v′ : List ℕ) → Sharpened d 0 (0 + d .height) (bandImage (allRows d stride) source source) y u v y′ u′ v′
+      → FramePost (frameCall d stride source y u v answer y′ u′ v′)
+  finished is y′ u′ v′ h = record {
     answered = numbers;
     planes = subst (λ (a : YuvAnswer). Sharpened d 0 (taken a (d .height)) (sourceImage d stride source) y u v y′ u′ v′) (sym is)
         (subst (λ (n : ℕ). Sharpened d 0 n (sourceImage d stride source) y u v y′ u′ v′) (let e : 0 + d .height ≡ d .height = omega arith in e)
-        (subst (λ (image : Image). Sharpened d 0 (0 + d .height) image y u v y′ u′ v′) (whole-image (allRows d stride) source source refl) h));
+        (subst (λ (image : Image). Sharpened d 0 (0 + d .height) image y u v y′ u′ v′) (all-rows-image (allRows d stride) source source refl) h));
   }
 
 -- "a refusal writes no byte"
-pub refused-writes-nothing : {d : FrameDescription} {stride : ℕ} {source y u v y′ u′ v′ : List ℕ} {answer : YuvAnswer} {e : YuvError} → answer ≡ Refused e
-    → FramePost d stride source y u v answer y′ u′ v′ → (y′ ≡ y) × (u′ ≡ u) × (v′ ≡ v)
-refused-writes-nothing is p =
+pub refused-writes-nothing : (k : FrameCall) {e : YuvError} → k .answer ≡ Refused e → FramePost k → Unwritten k
+refused-writes-nothing k is p =
     let none = rw is at (p .planes) in
     (plane-same _ _ _ _ _ _ _ (le-refl _) (none .luma), plane-same _ _ _ _ _ _ _ (le-refl _) (none .cb), plane-same _ _ _ _ _ _ _ (le-refl _) (none .cr))

@@ -29,8 +29,10 @@ module _ (d : FrameDescription) (ys us vs : ℕ) (image : Image) where
 
     pub cb-strides : PlaneIs from to stride n (cbAt other image) x x′ → PlaneIs from to stride n (cbAt d image) x x′
     unfolding cbAt cbRow
-    cb-strides p = plane-like _ _ _ _ _ _ _ _ (λ k j _ _ _. ap (λ (f : ℕ → ℕ). ofColour (d .settings) (cbOf (d .settings)) f) (same-input (d .settings .sampling) k j)) p
+    cb-strides p = plane-like _ _ _ _ _ _ _ _ (λ k j _ _ _. ap (λ (f : ℕ → ℕ). ofColour (d .settings) (cbOf (d .settings)) f)
+        (same-input (d .settings .sampling) k j)) p
 
     pub cr-strides : PlaneIs from to stride n (crAt other image) x x′ → PlaneIs from to stride n (crAt d image) x x′
     unfolding crAt crRow
-    cr-strides p = plane-like _ _ _ _ _ _ _ _ (λ k j _ _ _. ap (λ (f : ℕ → ℕ). ofColour (d .settings) (crOf (d .settings)) f) (same-input (d .settings .sampling) k j)) p
+    cr-strides p = plane-like _ _ _ _ _ _ _ _ (λ k j _ _ _. ap (λ (f : ℕ → ℕ). ofColour (d .settings) (crOf (d .settings)) f)
+        (same-input (d .settings .sampling) k j)) p

@@ -1,3 +1,3 @@
 -- The frame call.
-pub mod Frame
+pub mod FrameCall
 pub mod Same

@@ -1,61 +1,64 @@
 -- What a caller knows once no refusal was answered: no condition holds, so each bound does. Assumes nothing.
 use Prim.Native.Nat.{ℕ, _*_, _≤_}
 use mathlib.Core.Bool.{Bool, true, false, _||_, true≢false}
-use mathlib.Core.List.{List, _++_}
-use mathlib.Core.Path.{_≡_, refl}
+use mathlib.Core.List.{List}
+use mathlib.Core.Path.{_≡_, refl, sym, subst}
 use native.Mathlib.Omega.{arith}
-use lib.Dec.{ltb, eqb}
+use lib.Dec.{T, ltb, eqb}
 use borrow.Author.Tests.{ltb-false, eqb-true, eqb-false, not-false}
-use Rattle.yuv_support.specs.declared.YuvStandardMatrix.{YuvStandardMatrix}
 use Rattle.yuv_support.specs.Matrix.{accepted}
-use Rattle.yuv_error.specs.Rules.{Rule, firstOf, sizeRules, matrixRules, bufferRules, tooNarrow, tooShort, notWhole}
-use Rattle.yuv_error.specs.Lowest.{rising, NoneHolds}
+use Rattle.definitions.specs.declared.FrameDescription.{FrameDescription}
+use Rattle.definitions.specs.Image.{rowSize}
+use Rattle.yuv_error.specs.Rules.{Rule, firstOf, bufferRules, tooNarrow, notWhole}
+use Rattle.yuv_error.specs.Lowest.{inOrder, NoneHolds}
+use Rattle.yuv_error.specs.Lent.{sourceOf, yOf, uOf, vOf, openingRules, lentRules}
+use Rattle.yuv_error.specs.Known.{Sized, PlanesLent}
 use Rattle.yuv_error.specs.declared.LentBuffer.{LentBuffer}
+use Rattle.yuv_error.specs.declared.Lengths.{Lengths}
 use Rattle.yuv_error.proofs.Lowest.{first-is-lowest}
 
-pub record AcceptedFrame (w h : ℕ) (m : YuvStandardMatrix) : Type 0 where
-  pub w-least : 1 ≤ w
-  pub w-most : w ≤ 16384
-  pub h-least : 1 ≤ h
-  pub h-most : h ≤ 16384
-  pub matrix : accepted m ≡ true
-
--- the stride is wide enough, and all rows are whole
-pub record Whole (b : LentBuffer) : Type 0 where
-  pub wide : b .row ≤ b .stride
-  pub exact : b .len ≡ b .stride * b .rows
-
-pub record AcceptedBuffers (source y u v : LentBuffer) : Type 0 where
-  pub source-whole : Whole source
-  pub y-whole : Whole y
-  pub u-whole : Whole u
-  pub v-whole : Whole v
-
 -- number 0 is answered where no condition holds
-pub none-holds : (rs : List Rule) → rising 1 rs ≡ true → firstOf rs .number ≡ 0 → NoneHolds rs
+pub none-holds : (rs : List Rule) → inOrder 0 rs ≡ true → firstOf rs .number ≡ 0 → NoneHolds rs
 none-holds rs up e = first-is-lowest rs (firstOf rs) up .0 refl .finished .0 e
 
 pub neither : (a b : Bool) → a || b ≡ false → (a ≡ false) × (b ≡ false)
 neither true b h = absurd (true≢false h)
 neither false b h = (refl, h)
 
-pub accepted-frame : (w h : ℕ) (m : YuvStandardMatrix) → firstOf (sizeRules w h ++ matrixRules m) .number ≡ 0 → AcceptedFrame w h m
-accepted-frame w h m e =
-    let none = none-holds (sizeRules w h ++ matrixRules m) refl e in
+-- ---- 2, 3, 4
+
+pub opened : (d : FrameDescription) → firstOf (openingRules d) .number ≡ 0 → Sized d
+opened d e =
+    let w = d .width in
+    let h = d .height in
+    let none = none-holds (openingRules d) refl e in
     let some = neither (eqb w 0) (eqb h 0) (neither (eqb w 0 || eqb h 0) false (none 2) .0) in
     let few = neither (ltb 16384 w) (ltb 16384 h) (neither (ltb 16384 w || ltb 16384 h) false (none 3) .0) in
     record {
-      w-least = omega (arith, eqb-false w 0 (some .0));
-      w-most = ltb-false _ _ (few .0);
-      h-least = omega (arith, eqb-false h 0 (some .1));
-      h-most = ltb-false _ _ (few .1);
-      matrix = not-false (accepted m) (neither _ _ (none 4) .0);
+      width-least = omega (arith, eqb-false w 0 (some .0));
+      width-most = ltb-false _ _ (few .0);
+      height-least = omega (arith, eqb-false h 0 (some .1));
+      height-most = ltb-false _ _ (few .1);
+      matrix = subst T (sym (not-false (accepted (d .settings .matrix)) (neither _ _ (none 4) .0))) tt;
     }
 
-whole : (b : LentBuffer) → tooNarrow b ≡ false → notWhole b ≡ false → Whole b
-whole b n e = record { wide = ltb-false _ _ n; exact = eqb-true _ _ (not-false _ e) }
+-- ---- 6 to 12
 
-pub accepted-buffers : (source y u v : LentBuffer) → firstOf (bufferRules source y u v) .number ≡ 0 → AcceptedBuffers source y u v
+-- the stride is wide enough, and all rows are whole
+pub record WholeRows (b : LentBuffer) : Type 0 where
+  pub wide : b .row ≤ b .stride
+  pub exact : b .len ≡ b .stride * b .rows
+
+whole-rows : (b : LentBuffer) → tooNarrow b ≡ false → notWhole b ≡ false → WholeRows b
+whole-rows b n e = record { wide = ltb-false _ _ n; exact = eqb-true _ _ (not-false _ e) }
+
+pub record AcceptedBuffers (source y u v : LentBuffer) : Type 0 where
+  pub source-rows : WholeRows source
+  pub y-rows : WholeRows y
+  pub u-rows : WholeRows u
+  pub v-rows : WholeRows v
+
+accepted-buffers : (source y u v : LentBuffer) → firstOf (bufferRules source y u v) .number ≡ 0 → AcceptedBuffers source y u v
 accepted-buffers source y u v e =
     let none = none-holds (bufferRules source y u v) refl e in
     let s12 = neither (notWhole source) _ (none 12) in
@@ -63,8 +66,30 @@ accepted-buffers source y u v e =
     let u12 = neither (notWhole u) _ (y12 .1) in
     let v12 = neither (notWhole v) _ (u12 .1) in
     record {
-      source-whole = whole source (neither (tooNarrow source) _ (none 7) .0) (s12 .0);
-      y-whole = whole y (neither (tooNarrow y) _ (none 8) .0) (y12 .0);
-      u-whole = whole u (neither (tooNarrow u) _ (none 10) .0) (u12 .0);
-      v-whole = whole v (neither (tooNarrow v) _ (none 11) .0) (v12 .0);
+      source-rows = whole-rows source (neither (tooNarrow source) _ (none 7) .0) (s12 .0);
+      y-rows = whole-rows y (neither (tooNarrow y) _ (none 8) .0) (y12 .0);
+      u-rows = whole-rows u (neither (tooNarrow u) _ (none 10) .0) (u12 .0);
+      v-rows = whole-rows v (neither (tooNarrow v) _ (none 11) .0) (v12 .0);
+    }
+
+-- the source of so many rows, and the planes
+pub record Buffers (d : FrameDescription) (rows stride : ℕ) (n : Lengths) : Type 0 where
+  pub source-row : rowSize d ≤ stride
+  pub source-size : n .source ≡ stride * rows
+  pub planes : PlanesLent d (n .y) (n .u) (n .v)
+
+pub buffers : (d : FrameDescription) (rows stride : ℕ) (n : Lengths) → firstOf (lentRules d rows stride n) .number ≡ 0 → Buffers d rows stride n
+buffers d rows stride n e =
+    let b = accepted-buffers (sourceOf d rows stride (n .source)) (yOf d (n .y)) (uOf d (n .u)) (vOf d (n .v)) e in
+    record {
+      source-row = b .source-rows .wide;
+      source-size = b .source-rows .exact;
+      planes = record {
+        y-row = b .y-rows .wide;
+        y-size = b .y-rows .exact;
+        u-row = b .u-rows .wide;
+        u-size = b .u-rows .exact;
+        v-row = b .v-rows .wide;
+        v-size = b .v-rows .exact;
+      };
     }

@@ -42,10 +42,12 @@ append-finished xs ys n e = go (eqb (firstOf xs .number) 0) refl
   where
     go : (b : Bool) → eqb (firstOf xs .number) 0 ≡ b → (firstOf xs .number ≡ 0) × (firstOf ys .number ≡ 0)
     go true t = (eqb-true _ _ t, sym (ap (λ (x : Numbers). x .number) (first-append xs ys n ∙ ap (λ (b : Bool). cond b (firstOf ys) (firstOf xs)) t)) ∙ e)
-    go false t = absurd (eqb-false _ _ t (sym (ap (λ (x : Numbers). x .number) (first-append xs ys n ∙ ap (λ (b : Bool). cond b (firstOf ys) (firstOf xs)) t)) ∙ e))
+    go false t = absurd (eqb-false _ _ t (sym (ap (λ (x : Numbers). x .number)
+        (first-append xs ys n ∙ ap (λ (b : Bool). cond b (firstOf ys) (firstOf xs)) t)) ∙ e))
 
 -- after a check that refused, for a caller that returns its answer
-pub after-refused : {a : YuvAnswer} {e : YuvError} (xs ys : List Rule) → numbered xs ≡ true → a ≡ Refused e → numbersOf a ≡ firstOf xs → numbersOf a ≡ firstOf (xs ++ ys)
+pub after-refused : {a : YuvAnswer} {e : YuvError} (xs ys : List Rule) → numbered xs ≡ true → a ≡ Refused e → numbersOf a ≡ firstOf xs
+    → numbersOf a ≡ firstOf (xs ++ ys)
 after-refused {a} {e} xs ys n t p = rw t (sym (rw (← p, t, refused-number e) at (first-append xs ys n)))
 
 -- after a check that did not, for a caller that goes on

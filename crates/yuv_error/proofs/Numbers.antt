@@ -7,7 +7,10 @@ use lib.Dec.{eqb}
 use borrow.Author.Tests.{ne-eqb}
 use Rattle.yuv_error.specs.Numbers.{numbersOf, errorNumbers, answerOf}
 use Rattle.yuv_error.specs.declared.YuvError.{YuvError}
-use Rattle.yuv_error.specs.declared.YuvError.the-variants.{MalformedRequest, ZeroBaseSize, SizeTooLarge, MatrixNotAccepted, BandRowsMismatch, DestinationSizeMismatch, MinimumStrideSizeMismatch, LumaPlaneMinimumSizeMismatch, LumaPlaneSizeMismatch, UPlaneMinimumSizeMismatch, VPlaneMinimumSizeMismatch, WholeRowsMismatch, CarriedRowSizeMismatch}
+use Rattle.yuv_error.specs.declared.YuvError.the-variants.{MalformedRequest, ZeroBaseSize, SizeTooLarge, MatrixNotAccepted, BandRowsMismatch}
+use Rattle.yuv_error.specs.declared.YuvError.the-variants.{DestinationSizeMismatch, MinimumStrideSizeMismatch, LumaPlaneMinimumSizeMismatch}
+use Rattle.yuv_error.specs.declared.YuvError.the-variants.{LumaPlaneSizeMismatch, UPlaneMinimumSizeMismatch, VPlaneMinimumSizeMismatch}
+use Rattle.yuv_error.specs.declared.YuvError.the-variants.{WholeRowsMismatch, CarriedRowSizeMismatch}
 use Rattle.yuv_error.specs.declared.YuvAnswer.{YuvAnswer}
 use Rattle.yuv_error.specs.declared.YuvAnswer.the-variants.{Finished, Refused}
 

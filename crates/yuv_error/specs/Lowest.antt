@@ -1,13 +1,15 @@
 -- What the first rule that holds has to do with document 01's sentence, "The call arrives":
--- "The lowest number whose condition holds is answered, and no number without its condition."
+-- "The lowest number whose condition holds is answered, and no number without its condition." The lowest is the one that stands first in the order.
 -- Assumes nothing.
 use Prim.Native.Nat.{ℕ, _≤_, _<_}
 use mathlib.Core.Bool.{Bool, true, false, cond, _&&_, _||_}
 use mathlib.Core.List.{List, [], _∷_}
 use mathlib.Core.Logic.{_↔_}
 use mathlib.Core.Path.{_≡_}
-use lib.Dec.{leb, eqb}
+use lib.Dec.{leb, ltb, eqb}
+use lib.ListN.{length}
 use Rattle.yuv_error.specs.Numbers.{Numbers}
+use Rattle.yuv_error.specs.Order.{order, rank}
 use Rattle.yuv_error.specs.Rules.{Rule, firstOf}
 
 -- condition n holds: a rule of number n does
@@ -20,14 +22,14 @@ abbrev pub ofNumber : ℕ → List Rule → List Rule
 ofNumber n [] = []
 ofNumber n (r ∷ rs) = cond (eqb (r .says .number) n) (r ∷ ofNumber n rs) (ofNumber n rs)
 
--- the rules stand by number, from k on
-abbrev pub rising : ℕ → List Rule → Bool
-rising k [] = true
-rising k (r ∷ rs) = leb k (r .says .number) && rising (r .says .number) rs
+-- the rules stand in the order of the refusals, from place k on
+abbrev pub inOrder : ℕ → List Rule → Bool
+inOrder k [] = true
+inOrder k (r ∷ rs) = let place = rank (r .says .number) in leb k place && (ltb place (length order) && inOrder place rs)
 
--- n's condition holds, and that of no lower number
+-- n's condition holds, and that of no number before it
 abbrev pub IsLowest : List Rule → ℕ → Type 0
-IsLowest rs n = (conditionHolds rs n ≡ true) × ((m : ℕ) → m < n → conditionHolds rs m ≡ false)
+IsLowest rs n = (conditionHolds rs n ≡ true) × ((m : ℕ) → rank m < rank n → conditionHolds rs m ≡ false)
 
 abbrev pub NoneHolds : List Rule → Type 0
 NoneHolds rs = (n : ℕ) → conditionHolds rs n ≡ false
@@ -39,6 +41,6 @@ pub record Lowest (rs : List Rule) (x : Numbers) : Type 0 where
   pub finished : (x .number ≡ 0) ↔ NoneHolds rs
   pub sizes : x ≡ firstOf (ofNumber (x .number) rs)
 
--- the first rule that holds is the right answer, and no other is, wherever the rules stand by number from 1 on
+-- the first rule that holds is the right answer, and no other is, wherever the rules stand in order
 abbrev pub FirstIsLowest : Type 0
-FirstIsLowest = (rs : List Rule) (x : Numbers) → rising 1 rs ≡ true → (x ≡ firstOf rs) ↔ Lowest rs x
+FirstIsLowest = (rs : List Rule) (x : Numbers) → inOrder 0 rs ≡ true → (x ≡ firstOf rs) ↔ Lowest rs x

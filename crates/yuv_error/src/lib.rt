@@ -1,11 +1,15 @@
 // The refusals: the errors and checks of the Rust's yuv_error.rs, with document 01's own beside them.
 ghost use mathlib.Core.Path.{_≡_};
 ghost use mathlib.Core.List.{_++_};
-ghost use Prim.Native.Nat.{_*_};
+ghost use Prim.Native.Nat.{_*_, _≤_};
 ghost use Rattle.yuv_error.specs.Numbers.{sized, errorNumbers, numbersOf};
 ghost use Rattle.yuv_error.specs.Bounded.{Bounded};
 ghost use Rattle.yuv_error.specs.Checks.{andThen, planeRulesSaying, chromaNumber};
-ghost use Rattle.yuv_error.specs.Rules.{firstOf, sizeRules, matrixRules, leastOf, wholeOf, tooShort, tooNarrow, sourceRules, planeRules, wholeRules, bufferRules};
+ghost use Rattle.yuv_error.specs.Rules.{firstOf, sizeRules, matrixRules, leastOf, wholeOf, tooShort, tooNarrow};
+ghost use Rattle.yuv_error.specs.Rules.{sourceRules, planeRules, wholeRules, bufferRules};
+ghost use Rattle.yuv_error.specs.Lent.{openingRules, lentRules};
+ghost use Rattle.yuv_error.specs.Known.{Sized};
+use definitions::FrameDescription;
 use yuv_support::YuvStandardMatrix;
 
 // The most pixels a side, of document 01's refusal 3.
@@ -17,7 +21,7 @@ pub struct MismatchedSize {
     pub received: usize,
 }
 
-// The refusals, lowest number first. Where the Rust has an error for one, it has the Rust's name;
+// The refusals, by number. Where the Rust has an error for one, it has the Rust's name;
 // its ChromaPlaneMinimumSizeMismatch is one for each chroma plane here.
 pub enum YuvError {
     MalformedRequest,
@@ -47,6 +51,14 @@ pub struct LentBuffer {
     pub rows: usize,
     pub stride: u32,
     pub len: usize,
+}
+
+// The lengths of what a call is lent.
+pub struct Lengths {
+    pub source: usize,
+    pub y: usize,
+    pub u: usize,
+    pub v: usize,
 }
 
 impl YuvAnswer {
@@ -154,10 +166,12 @@ fn check_matrix(matrix: YuvStandardMatrix) -> YuvAnswer
 }
 
 // Refuses a side of 0 (2), a side above 16,384 (3), a matrix that is not accepted (4).
-pub fn check_size_and_matrix(width: u32, height: u32, matrix: YuvStandardMatrix) -> YuvAnswer
-    ensures { λ r. ⌜ numbersOf r ≡ firstOf (sizeRules width height ++ matrixRules matrix) ⌝ }
+pub fn check_opening(frame: FrameDescription) -> YuvAnswer
+    ensures { λ r. ⌜ numbersOf r ≡ firstOf (openingRules frame) ⌝ }
 {
-    check_size(width, height).and(check_matrix(matrix))
+    let settings = frame.settings;
+    let matrix = settings.matrix;
+    check_size(frame.width, frame.height).and(check_matrix(matrix))
 }
 
 // The Rust's check_rgba_destination.
@@ -226,8 +240,8 @@ fn check_whole_rows(lent: LentBuffer) -> YuvAnswer
 }
 
 // Refuses a source (6, 7), a luma plane (8, 9), a chroma plane (10, 11) too short or too narrow for its rows, then one whose
-// rows are not whole (12). The sizes are those that `check_size_and_matrix` lets through.
-pub fn check_buffers(source: LentBuffer, y: LentBuffer, u: LentBuffer, v: LentBuffer) -> YuvAnswer
+// rows are not whole (12). The sizes are those that `check_opening` lets through.
+fn check_buffers(source: LentBuffer, y: LentBuffer, u: LentBuffer, v: LentBuffer) -> YuvAnswer
     requires { ⌜ Bounded source ⌝ }
     requires { ⌜ Bounded y ⌝ }
     requires { ⌜ Bounded u ⌝ }
@@ -243,4 +257,46 @@ pub fn check_buffers(source: LentBuffer, y: LentBuffer, u: LentBuffer, v: LentBu
         .and(check_whole_rows(u))
         .and(check_whole_rows(v));
     sizes.and(whole)
+}
+
+// Refusals 6 to 12, for a source of `rows` rows.
+pub fn check_lent(frame: FrameDescription, rows: usize, stride: u32, lent: Lengths) -> YuvAnswer
+    requires { ⌜ Sized frame ⌝ }
+    requires { ⌜ (1 ≤ rows) × (rows ≤ 16384) ⌝ }
+    ensures { λ r. ⌜ numbersOf r ≡ firstOf (lentRules frame rows stride lent) ⌝ }
+{
+    let settings = frame.settings;
+    let channels = settings.channels;
+    let sampling = settings.sampling;
+    let width = frame.width as usize;
+    let height = frame.height as usize;
+    let row = width * channels.get_channels_count();
+    let chroma_width = yuv_support::chroma_width(width);
+    let chroma_height = sampling.chroma_height(height);
+    check_buffers(
+        LentBuffer {
+            row,
+            rows,
+            stride,
+            len: lent.source,
+        },
+        LentBuffer {
+            row: width,
+            rows: height,
+            stride: frame.y_stride,
+            len: lent.y,
+        },
+        LentBuffer {
+            row: chroma_width,
+            rows: chroma_height,
+            stride: frame.u_stride,
+            len: lent.u,
+        },
+        LentBuffer {
+            row: chroma_width,
+            rows: chroma_height,
+            stride: frame.v_stride,
+            len: lent.v,
+        },
+    )
 }

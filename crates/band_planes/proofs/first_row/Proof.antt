@@ -5,9 +5,9 @@ use native.Mathlib.Nat.{le-refl}
 use native.Mathlib.Omega.{arith}
 use Rattle.definitions.specs.Bands.{bandImage}
 use Rattle.definitions.proofs.Bands.{band-carried}
-use Rattle.band_planes.specs.Steps.{bandOf}
-use Rattle.band_planes.proofs.Places.{row-is, inside, step-fits, source-at, y-at, chroma-at}
-use Rattle.band_planes.proofs.Steps.{sees-own, first-stepped}
+use Rattle.band_steps.specs.Steps.{bandOf}
+use Rattle.band_steps.proofs.Places.{row-is, inside, step-fits, source-at, y-at, chroma-at}
+use Rattle.band_steps.proofs.Steps.{sees-own, first-stepped}
 use borrow.Author.Needs.{needs}
 use Rattle.band_planes.proofs.first_row.Statement.{statement}
 use Rattle.band_planes.proofs.first_row.Tie as tie
@@ -63,7 +63,8 @@ returns c =
     let sees = sees-own w (a .source .now) (a .carried .now) in
     let before : s .step-at .result .row - 1 < w .done = omega (arith, row, odd) in
     let above = band-carried (bandOf w) (a .source .now) (a .carried .now) _ before in
-    first-stepped (p .sampling) odd (inside w (p .lent) (le-refl _) (some (s .before))) (rw row at (l .luma-step .ensures image sees)) (rw row at (r .carried-step .ensures image sees above))
+    first-stepped (p .sampling) odd (inside w (p .lent) (le-refl _) (some (s .before))) (rw row at (l .luma-step .ensures image sees))
+    (rw row at (r .carried-step .ensures image sees above))
 
 pub first-row-spec : {M : Type 1} → statement M
 first-row-spec =

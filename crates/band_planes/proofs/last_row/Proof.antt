@@ -2,8 +2,8 @@
 -- Assumes nothing.
 use Prim.Native.Nat.{_+_, _<_}
 use native.Mathlib.Omega.{arith}
-use Rattle.band_planes.proofs.Places.{row-is, inside, step-fits, source-at, y-at, chroma-at}
-use Rattle.band_planes.proofs.Steps.{last-stepped, open-stepped}
+use Rattle.band_steps.proofs.Places.{row-is, inside, step-fits, source-at, y-at, chroma-at}
+use Rattle.band_steps.proofs.Steps.{last-stepped, open-stepped}
 use borrow.Author.Needs.{needs}
 use Rattle.band_planes.proofs.last_row.Statement.{statement}
 use Rattle.band_planes.proofs.last_row.Tie as tie
@@ -55,7 +55,8 @@ returns c =
     let s = l .before .before in
     let q = Start (s .before) in
     let row = row-is (q .args .work) (s .step-at .ensures) in
-    λ image sees. last-stepped (q .pre .0 .sampling) (q .pre .1 .2) (t .if1 .taken) (rw row at (l .luma-step .ensures image sees)) (rw row at (r .alone-step .ensures image sees))
+    λ image sees. last-stepped (q .pre .0 .sampling) (q .pre .1 .2) (t .if1 .taken) (rw row at (l .luma-step .ensures image sees))
+    (rw row at (r .alone-step .ensures image sees))
 
 returns-2 : tie.Need-returns-2
 returns-2 c =

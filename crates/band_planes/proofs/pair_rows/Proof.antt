@@ -4,9 +4,9 @@ use Prim.Native.Nat.{_+_, _-_, _%_, _≤_, _<_}
 use mathlib.Core.Path.{_≡_}
 use native.Mathlib.Omega.{arith}
 use lib.ListN.{length}
-use Rattle.band_planes.specs.Known.{Lent}
-use Rattle.band_planes.specs.Steps.{bandOf}
-use Rattle.band_planes.proofs.Places.{row-is, step-fits, source-at, y-at, chroma-at, pair-at}
+use Rattle.yuv_error.specs.Known.{Lent}
+use Rattle.band_steps.specs.Steps.{bandOf}
+use Rattle.band_steps.proofs.Places.{row-is, step-fits, source-at, y-at, chroma-at, pair-at}
 use Rattle.band_planes.proofs.Walked.{Walked, walked-none, walked-then, walked-some, lent-after}
 use Rattle.band_planes.proofs.pair_rows.Statement.{statement}
 use Rattle.band_planes.proofs.pair_rows.Tie as tie
@@ -31,7 +31,8 @@ module _ (t : tie.In-loop Inv-loop μ-loop) where
   most : t .before .loop .row + 2 ≤ Start (t .before) .args .work .done + Start (t .before) .args .work .count
   most = omega (arith, t .loop-test .taken)
 
-  lent : let a = Start (t .before) .args in Lent (bandOf (a .work)) (length (a .source .now)) (length (t .before .loop .y)) (length (t .before .loop .u)) (length (t .before .loop .v))
+  lent : let a = Start (t .before) .args in Lent (bandOf (a .work)) (length (a .source .now)) (length (t .before .loop .y)) (length (t .before .loop .u))
+      (length (t .before .loop .v))
   lent = lent-after (walked-some (t .before .loop .inv .0)) (Start (t .before) .pre .0 .lent)
 
 add-end : tie.Need-add-end Inv-loop μ-loop

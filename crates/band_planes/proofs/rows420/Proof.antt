@@ -7,8 +7,8 @@ use native.Mathlib.Omega.{arith}
 use Rattle.definitions.specs.Image.{Image}
 use Rattle.definitions.specs.Bands.{bandImage, Sharpened}
 use Rattle.definitions.proofs.Bands.{sharpened-none, sharpened-then}
-use Rattle.band_planes.specs.Steps.{bandOf, frameOf, Sees}
-use Rattle.band_planes.proofs.Steps.{sees-own}
+use Rattle.band_steps.specs.Steps.{bandOf, frameOf, Sees}
+use Rattle.band_steps.proofs.Steps.{sees-own}
 use Rattle.band_planes.proofs.Walked.{lent-after, sharpened-to, sharpened-as}
 use borrow.Author.Needs.{needs}
 use Rattle.band_planes.proofs.rows420.Statement.{statement}
@@ -35,12 +35,15 @@ module _ (j : tie.Joined1) where
   from-most = omega (arith, Start j .pre .0 .lent .given .rows-least)
 
   -- a first row, or none
-  first : let a = Start j .args in Sharpened (frameOf (a .work)) (a .work .done) from image (a .y .now) (a .u .now) (a .v .now) (j .if1 .y) (j .if1 .u) (j .if1 .v)
+  first : let a = Start j .args in Sharpened (frameOf (a .work)) (a .work .done) from image (a .y .now) (a .u .now) (a .v .now) (j .if1 .y) (j .if1 .u)
+      (j .if1 .v)
   first =
       let w = Start j .args .work in
       ⊎-elim
-      (λ came. let one : w .done + 1 ≡ from = omega (arith, came .0 .taken) in sharpened-as (came .11) (came .12) (came .13) (sharpened-to one (came .4 .ensures)))
-      (λ came. let none : w .done ≡ from = omega (arith, came .0 .left) in sharpened-as (came .1) (came .2) (came .3) (sharpened-to none (sharpened-none _ _ _ _ _ _)))
+      (λ came. let one : w .done + 1 ≡ from = omega (arith, came .0 .taken) in sharpened-as (came .11) (came .12) (came .13)
+      (sharpened-to one (came .4 .ensures)))
+      (λ came. let none : w .done ≡ from = omega (arith, came .0 .left) in sharpened-as (came .1) (came .2) (came .3)
+      (sharpened-to none (sharpened-none _ _ _ _ _ _)))
       (j .if1 .came)
 
 -- the pairs after it
@@ -50,7 +53,8 @@ pairs : (r : tie.After-pair-rows) → let a = Start (Joined r) .args in
 pairs r =
     let j = Joined r in
     let rows = r .pair-rows .ensures .0 in
-    sharpened-then (omega arith) (rows .0) (omega (arith, rows .1, Start j .pre .0 .lent .given .rows-most)) (first j) (r .pair-rows .ensures .1 (image j) (sees j))
+    sharpened-then (omega arith) (rows .0) (omega (arith, rows .1, Start j .pre .0 .lent .given .rows-most)) (first j)
+    (r .pair-rows .ensures .1 (image j) (sees j))
 
 first-row-requires : tie.Need-first-row-requires
 first-row-requires c κs =
@@ -69,8 +73,10 @@ last-row-requires c κs =
     let t = c .before .before .before in
     let r = t .before .before .before .before .before .before .before in
     let p = Start (Joined r) .pre .0 in
-    let rows = r .pair-rows .ensures .0 in
-    (record { prepared = p .prepared; sampling = p .sampling; lent = lent-after (pairs r) (p .lent) }, (omega (arith, rows), omega (arith, rows, t .if2 .taken), rows .3))
+    let rows = r .pair-rows .ensures .0 in (
+      record { prepared = p .prepared; sampling = p .sampling; lent = lent-after (pairs r) (p .lent) },
+      (omega (arith, rows), omega (arith, rows, t .if2 .taken), rows .3),
+    )
 
 returns : tie.Need-returns
 returns c =
@@ -81,7 +87,8 @@ returns c =
     let w = Start j .args .work in
     let rows = r .pair-rows .ensures .0 in
     let end : r .pair-rows .result + 1 ≡ w .done + w .count = omega (arith, rows, t .if2 .taken) in
-    sharpened-to end (sharpened-then (omega (arith, rows)) (omega arith) (omega (arith, end, Start j .pre .0 .lent .given .rows-most)) (pairs r) (l .last-row .ensures (image j) (sees j)))
+    sharpened-to end (sharpened-then (omega (arith, rows)) (omega arith) (omega (arith, end, Start j .pre .0 .lent .given .rows-most)) (pairs r)
+    (l .last-row .ensures (image j) (sees j)))
 
 returns-2 : tie.Need-returns-2
 returns-2 c =

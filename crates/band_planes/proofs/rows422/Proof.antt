@@ -4,9 +4,9 @@ use Prim.Native.Nat.{_+_, _-_, _≤_}
 use mathlib.Core.Path.{_≡_}
 use native.Mathlib.Omega.{arith}
 use lib.ListN.{length}
-use Rattle.band_planes.specs.Known.{Lent}
-use Rattle.band_planes.specs.Steps.{bandOf}
-use Rattle.band_planes.proofs.Places.{row-is, step-fits, source-at, y-at, chroma-at}
+use Rattle.yuv_error.specs.Known.{Lent}
+use Rattle.band_steps.specs.Steps.{bandOf}
+use Rattle.band_steps.proofs.Places.{row-is, step-fits, source-at, y-at, chroma-at}
 use Rattle.band_planes.proofs.Walked.{Walked, walked-none, walked-then, walked-some, lent-after, sharpened-to}
 use Rattle.band_planes.proofs.rows422.Statement.{statement}
 use Rattle.band_planes.proofs.rows422.Tie as tie
@@ -23,7 +23,8 @@ Start l = l .before .before .before .before .before .before
 small : (l : tie.At-loop Inv-loop μ-loop) → l .loop .row ≤ 16384
 small l = let lent = Start l .pre .lent in omega (arith, l .loop .inv .most, lent .given .rows-most, lent .sized .height-most)
 
-lent : (t : tie.In-loop Inv-loop μ-loop) → let a = Start (t .before) .args in Lent (bandOf (a .work)) (length (a .source .now)) (length (t .before .loop .y)) (length (t .before .loop .u)) (length (t .before .loop .v))
+lent : (t : tie.In-loop Inv-loop μ-loop) → let a = Start (t .before) .args in Lent (bandOf (a .work)) (length (a .source .now))
+    (length (t .before .loop .y)) (length (t .before .loop .u)) (length (t .before .loop .v))
 lent t = lent-after (walked-some (t .before .loop .inv)) (Start (t .before) .pre .lent)
 
 add-end : tie.Need-add-end Inv-loop μ-loop
@@ -66,7 +67,8 @@ loop-again c =
     let t = s .before in
     let q = Start (t .before) in
     let row = row-is (q .args .work) (s .step-at .ensures) in
-    walked-then (q .pre .lent .given .rows-most) (t .before .loop .inv) (omega arith) (omega (arith, t .loop-test .taken)) (λ image sees. rw row at (r .row-step .ensures image sees))
+    walked-then (q .pre .lent .given .rows-most) (t .before .loop .inv) (omega arith) (omega (arith, t .loop-test .taken))
+    (λ image sees. rw row at (r .row-step .ensures image sees))
 
 returns : tie.Need-returns Inv-loop μ-loop
 returns c =

@@ -1,8 +1,8 @@
 -- `rows_of` meets its contract, a sampling at a time: the band's image has the band's own rows.
 -- Assumes nothing.
 use Rattle.definitions.specs.Bands.{bandImage}
-use Rattle.band_planes.specs.Steps.{bandOf}
-use Rattle.band_planes.proofs.Steps.{sees-own}
+use Rattle.band_steps.specs.Steps.{bandOf}
+use Rattle.band_steps.proofs.Steps.{sees-own}
 use borrow.Author.Needs.{needs}
 use Rattle.band_planes.proofs.rows_of.Statement.{statement}
 use Rattle.band_planes.proofs.rows_of.Tie as tie

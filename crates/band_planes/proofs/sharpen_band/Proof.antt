@@ -12,7 +12,7 @@ use Rattle.definitions.specs.Bands.{bandImage, Sharpened}
 use Rattle.sharpen_row.specs.declared.tables.Conversion.{Conversion}
 use Rattle.sharpen_row.specs.Weights.{Weighed}
 use Rattle.sharpen_row.specs.Tables.{Prepared}
-use Rattle.band_planes.specs.Known.{Lent}
+use Rattle.yuv_error.specs.Known.{Lent}
 use borrow.Author.Needs.{needs}
 use Rattle.band_planes.proofs.sharpen_band.Statement.{statement}
 use Rattle.band_planes.proofs.sharpen_band.Tie as tie
@@ -53,7 +53,11 @@ rows-of-requires c κs =
         summed = record { converts = record { cb = refl; cr = refl; shape = shape (g .before .before) }; tables = tables .sum-tables .ensures };
         corrects = g .gamma-map-table .ensures;
       }),
-      (subst⁻¹ (λ (rows : Conversion). Lent (bandBy (a .band) rows) (length (a .source .now)) (length (a .y .now)) (length (a .u .now)) (length (a .v .now))) e (q .pre .0), rw e (q .pre .1)),
+      (
+        subst⁻¹ (λ (rows : Conversion). Lent (bandBy (a .band) rows) (length (a .source .now)) (length (a .y .now)) (length (a .u .now))
+            (length (a .v .now))) e (q .pre .0),
+        rw e (q .pre .1),
+      ),
     )
 
 returns : tie.Need-returns
@@ -61,7 +65,8 @@ returns c =
     let r = c .before .before .before .before .before .before in
     let k = r .before .before .before .before .before .before .before .before .before in
     let a = Start (k .before .before .before .before .before .before) .args in
-    subst (λ (rows : Conversion). Sharpened (rows .frame) (a .band .done) (a .band .done + a .band .rows) (bandImage (bandBy (a .band) rows) (a .source .now) (a .carried .now)) (a .y .now) (a .u .now) (a .v .now)
+    subst (λ (rows : Conversion). Sharpened (rows .frame) (a .band .done) (a .band .done + a .band .rows)
+    (bandImage (bandBy (a .band) rows) (a .source .now) (a .carried .now)) (a .y .now) (a .u .now) (a .v .now)
     (r .rows-of .last .1 .1 .1 .0) (r .rows-of .last .1 .1 .1 .1 .0) (r .rows-of .last .1 .1 .1 .1 .1 .0)) (k .conversion-of .ensures) (r .rows-of .ensures)
 
 pub sharpen-band-spec : {M : Type 1} → statement M

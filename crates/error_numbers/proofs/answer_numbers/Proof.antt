@@ -6,15 +6,6 @@ use borrow.Author.Needs.{needs}
 use Rattle.error_numbers.proofs.answer_numbers.Statement.{statement}
 use Rattle.error_numbers.proofs.answer_numbers.Tie as tie
 
-enum-told : tie.Need-enum-told
-enum-told c = search needs
-
-enum-known-answer : tie.Need-enum-known-answer
-enum-known-answer c = search needs
-
-error-numbers-requires : tie.Need-error-numbers-requires
-error-numbers-requires c κs = search needs
-
 returns : tie.Need-returns
 returns c = sym (ap numbersOf (c .enum-told .given .1))
 
@@ -23,4 +14,4 @@ returns-2 c = c .error-numbers .ensures ∙ sym (ap numbersOf (c .before .before
 
 pub answer-numbers-spec : {M : Type 1} → statement M
 answer-numbers-spec =
-    tie.close (tie.spec enum-told enum-known-answer error-numbers-requires returns returns-2)
+    tie.close (tie.spec (λ c. search needs) (λ c. search needs) (λ c κs. search needs) returns returns-2)

@@ -6,45 +6,6 @@ use borrow.Author.Needs.{needs}
 use Rattle.error_numbers.proofs.error_numbers.Statement.{statement}
 use Rattle.error_numbers.proofs.error_numbers.Tie as tie
 
-enum-told : tie.Need-enum-told
-enum-told c = search needs
-
-enum-told-2 : tie.Need-enum-told-2
-enum-told-2 c = search needs
-
-enum-told-3 : tie.Need-enum-told-3
-enum-told-3 c = search needs
-
-enum-told-4 : tie.Need-enum-told-4
-enum-told-4 c = search needs
-
-enum-told-5 : tie.Need-enum-told-5
-enum-told-5 c = search needs
-
-enum-known-e : tie.Need-enum-known-e
-enum-known-e c = search needs
-
-enum-known-e-2 : tie.Need-enum-known-e-2
-enum-known-e-2 c = search needs
-
-enum-known-e-3 : tie.Need-enum-known-e-3
-enum-known-e-3 c = search needs
-
-enum-known-e-4 : tie.Need-enum-known-e-4
-enum-known-e-4 c = search needs
-
-enum-known-e-5 : tie.Need-enum-known-e-5
-enum-known-e-5 c = search needs
-
-enum-known-e-6 : tie.Need-enum-known-e-6
-enum-known-e-6 c = search needs
-
-enum-known-e-7 : tie.Need-enum-known-e-7
-enum-known-e-7 c = search needs
-
-enum-known-e-8 : tie.Need-enum-known-e-8
-enum-known-e-8 c = search needs
-
 returns : tie.Need-returns
 returns c = sym (ap errorNumbers (c .enum-told .given .1))
 
@@ -88,19 +49,19 @@ pub error-numbers-spec : {M : Type 1} → statement M
 error-numbers-spec =
     tie.close
     (tie.spec
-    enum-told
-    enum-told-2
-    enum-told-3
-    enum-told-4
-    enum-told-5
-    enum-known-e
-    enum-known-e-2
-    enum-known-e-3
-    enum-known-e-4
-    enum-known-e-5
-    enum-known-e-6
-    enum-known-e-7
-    enum-known-e-8
+    (λ c. search needs)
+    (λ c. search needs)
+    (λ c. search needs)
+    (λ c. search needs)
+    (λ c. search needs)
+    (λ c. search needs)
+    (λ c. search needs)
+    (λ c. search needs)
+    (λ c. search needs)
+    (λ c. search needs)
+    (λ c. search needs)
+    (λ c. search needs)
+    (λ c. search needs)
     returns
     returns-2
     returns-3

@@ -7,15 +7,6 @@ use borrow.Author.Needs.{needs}
 use Rattle.frame_request.proofs.answer_into.Statement.{statement}
 use Rattle.frame_request.proofs.answer_into.Tie as tie
 
-check-request-requires : tie.Need-check-request-requires
-check-request-requires c κs = search needs
-
-enum-known-checked : tie.Need-enum-known-checked
-enum-known-checked c = search needs
-
-enum-told : tie.Need-enum-told
-enum-told c = search needs
-
 convert-requires : tie.Need-convert-requires
 convert-requires c κs =
     let k = c .before .before .before in
@@ -28,20 +19,14 @@ returns c =
     let a = k .before .before .before .args in
     refused-early (a .input .now) (a .output .now) (c .before .checked .given .1) (k .check-request .ensures)
 
-same-length : tie.Need-same-length
-same-length c = search needs
-
-returns-2 : tie.Need-returns-2
-returns-2 c = search needs
-
 pub answer-into-spec : {M : Type 1} → statement M
 answer-into-spec =
     tie.close
     (tie.spec
-    check-request-requires
-    enum-known-checked
-    enum-told
+    (λ c κs. search needs)
+    (λ c. search needs)
+    (λ c. search needs)
     convert-requires
     returns
-    same-length
-    returns-2)
+    (λ c. search needs)
+    (λ c. search needs))

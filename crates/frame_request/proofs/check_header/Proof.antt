@@ -19,9 +19,6 @@ returns : tie.Need-returns
 unfolding malformed
 returns c = simp (short _ _ (c .if1 .taken) (omega arith))
 
-has-unknown-requires : tie.Need-has-unknown-requires
-has-unknown-requires c κs = search needs
-
 returns-2 : tie.Need-returns-2
 unfolding malformed
 returns-2 c = let k = c .before in simp (le-ltb _ _ (k .before .if1 .left), sym (k .has-unknown .ensures) ∙ c .if2 .taken)
@@ -31,4 +28,4 @@ unfolding malformed
 returns-3 c = let k = c .before in simp (le-ltb _ _ (k .before .if1 .left), sym (k .has-unknown .ensures) ∙ c .if2 .left)
 
 pub check-header-spec : {M : Type 1} → statement M
-check-header-spec = tie.close (tie.spec returns has-unknown-requires returns-2 returns-3)
+check-header-spec = tie.close (tie.spec returns (λ c κs. search needs) returns-2 returns-3)

@@ -21,22 +21,13 @@ abbrev sizes : FrameDescription → List Rule
 sizes d = sizeRules (d .width) (d .height) ++ areaRules (d .width) (d .height)
 
 -- src/lib.rt:121:9
-check-header-requires : tie.Need-check-header-requires
-check-header-requires c κs = search needs
-
 -- src/lib.rt:124:13
-enum-told : tie.Need-enum-told
-enum-told c = search needs
-
 -- src/lib.rt:124:13
 returns : tie.Need-returns
 returns c =
     let k = c .before .before in
     let input = k .before .before .args .input .now in
     after-refused (headerRules input) (sizes (frameOf input)) refl (c .enum-told .given .1) (k .check-header .ensures)
-
-enum-told-2 : tie.Need-enum-told-2
-enum-told-2 c = search needs
 
 -- src/lib.rt:128:9
 frame-of-requires : tie.Need-frame-of-requires
@@ -46,9 +37,6 @@ frame-of-requires c κs =
     header-long input (finished-number (headerRules input) (c .enum-told2 .given .1) (k .check-header .ensures))
 
 -- src/lib.rt:129:5
-check-size-requires : tie.Need-check-size-requires
-check-size-requires c κs = search needs
-
 -- src/lib.rt:118:1
 returns-2 : tie.Need-returns-2
 returns-2 c =
@@ -62,10 +50,10 @@ pub check-request-spec : {M : Type 1} → statement M
 check-request-spec =
     tie.close
     (tie.spec
-    check-header-requires
-    enum-told
+    (λ c κs. search needs)
+    (λ c. search needs)
     returns
-    enum-told-2
+    (λ c. search needs)
     frame-of-requires
-    check-size-requires
+    (λ c κs. search needs)
     returns-2)

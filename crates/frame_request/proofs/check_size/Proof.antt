@@ -28,12 +28,13 @@ returns c = rw (c .if1 .taken)
 
 -- src/lib.rt:110:16
 mul-area : tie.Need-mul-area
-mul-area c = let a = c .before .args in omega (arith, mul-le-mul {n₁ = a .width} {m₁ = a .height} {n₂ = 4294967295} {m₂ = 4294967295} (omega arith) (omega arith))
+mul-area c = let a = c .before .args in omega (
+  arith,
+  mul-le-mul {n₁ = a .width} {m₁ = a .height} {n₂ = 4294967295} {m₂ = 4294967295} (omega arith)
+      (omega arith),
+)
 
 -- src/lib.rt:111:65
-cast-if2 : tie.Need-cast-if2
-cast-if2 c = search needs
-
 -- src/lib.rt:112:9
 returns-2 : tie.Need-returns-2
 returns-2 c = let a = c .before .before .args in rw (c .before .if1 .left, same-says, most (a .width) (a .height) (c .if2 .taken))
@@ -43,4 +44,4 @@ returns-3 : tie.Need-returns-3
 returns-3 c = let a = c .before .before .args in rw (c .before .if1 .left, same-says, most (a .width) (a .height) (c .if2 .left))
 
 pub check-size-spec : {M : Type 1} → statement M
-check-size-spec = tie.close (tie.spec returns mul-area cast-if2 returns-2 returns-3)
+check-size-spec = tie.close (tie.spec returns mul-area (λ c. search needs) returns-2 returns-3)

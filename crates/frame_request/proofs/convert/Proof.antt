@@ -45,9 +45,6 @@ sub-convert-into c = omega (arith, known (Start (c .before .before)))
 part-convert-into-start : tie.Need-part-convert-into-start
 part-convert-into-start c = omega (arith, known (Start (c .before .before)))
 
-part-convert-into-end : tie.Need-part-convert-into-end
-part-convert-into-end c = search needs
-
 convert-into-requires : tie.Need-convert-into-requires
 convert-into-requires c κs =
     let p = c .before .before in
@@ -60,12 +57,6 @@ mul-respond c = omega (arith, fits (c .before .before .before .before .before .b
 add-respond : tie.Need-add-respond
 add-respond c = omega (arith, fits (c .before .before .before .before .before .before .before))
 
-respond-requires : tie.Need-respond-requires
-respond-requires c κs = search needs
-
-same-length : tie.Need-same-length
-same-length c = search needs
-
 returns : tie.Need-returns
 returns c =
     let k = c .before .before .before .before .before in
@@ -74,9 +65,11 @@ returns c =
     let s = Start f in
     let a = s .args in
     let w = fits p in
-    posted (a .input .now) (a .output .now) _ (k .convert-into .result) (p .plane-sizes .result .luma + 2 * p .plane-sizes .result .chroma) (c .respond .ensures) (omega (arith, w))
+    posted (a .input .now) (a .output .now) _ (k .convert-into .result) (p .plane-sizes .result .luma + 2 * p .plane-sizes .result .chroma)
+    (c .respond .ensures) (omega (arith, w))
     (called (a .input .now) (a .output .now) _ (f .frame-of .result) (p .before .source-stride .result) _ (k .convert-into .result) (f .frame-of .ensures)
-    (p .before .source-stride .ensures ∙ ap sourceStride (f .frame-of .ensures)) (rest (a .input .now)) (s .pre .0) (k .convert-into .ensures .0) (k .convert-into .ensures .1))
+    (p .before .source-stride .ensures ∙ ap sourceStride (f .frame-of .ensures)) (rest (a .input .now)) (s .pre .0) (k .convert-into .ensures .0)
+    (k .convert-into .ensures .1))
 
 pub convert-spec : {M : Type 1} → statement M
 convert-spec =
@@ -87,10 +80,10 @@ convert-spec =
     plane-sizes-requires
     sub-convert-into
     part-convert-into-start
-    part-convert-into-end
+    (λ c. search needs)
     convert-into-requires
     mul-respond
     add-respond
-    respond-requires
-    same-length
+    (λ c κs. search needs)
+    (λ c. search needs)
     returns)

@@ -13,13 +13,7 @@ use Rattle.yuv_support.proofs.YuvChromaSubsampling.chroma_height.Reads as chrom
 use Rattle.yuv_support.proofs.chroma_width.Reads as chroma-width-reads
 
 -- src/lib.rt:142:17
-cast-width : tie.Need-cast-width
-cast-width c = search needs
-
 -- src/lib.rt:143:18
-cast-height : tie.Need-cast-height
-cast-height c = search needs
-
 -- src/lib.rt:145:15
 mul-t6 : tie.Need-mul-t6
 mul-t6 c =
@@ -27,19 +21,17 @@ mul-t6 c =
     omega (arith, mul-le-mul {n₁ = k .args .frame .width} {m₁ = k .args .frame .height} {n₂ = 16384} {m₂ = 16384} (k .pre .0) (k .pre .2))
 
 -- src/lib.rt:146:17
-chroma-width-requires : tie.Need-chroma-width-requires
-chroma-width-requires c κs = search needs
-
 -- src/lib.rt:146:52
-chroma-height-requires : tie.Need-chroma-height-requires
-chroma-height-requires c κs = search needs
-
 -- src/lib.rt:146:17
 mul-t9 : tie.Need-mul-t9
 mul-t9 c =
     let k = c .before .before .before .before .before in
     let rows = chroma-rows (k .args .frame .settings .sampling) (k .args .frame .height) (k .pre .1) in
-    omega (arith, mul-le-mul {n₁ = c .before .chroma-width .result} {m₁ = c .chroma-height .result} {n₂ = 16384} {m₂ = 16384} (omega (arith, c .before .chroma-width .ensures, k .pre)) (omega (arith, c .chroma-height .ensures, rows, k .pre)))
+    omega (
+      arith,
+      mul-le-mul {n₁ = c .before .chroma-width .result} {m₁ = c .chroma-height .result} {n₂ = 16384} {m₂ = 16384}
+          (omega (arith, c .before .chroma-width .ensures, k .pre)) (omega (arith, c .chroma-height .ensures, rows, k .pre)),
+    )
 
 -- src/lib.rt:136:1
 returns : tie.Need-returns
@@ -49,10 +41,10 @@ pub plane-sizes-spec : {M : Type 1} → statement M
 plane-sizes-spec =
     tie.close
     (tie.spec
-    cast-width
-    cast-height
+    (λ c. search needs)
+    (λ c. search needs)
     mul-t6
-    chroma-width-requires
-    chroma-height-requires
+    (λ c κs. search needs)
+    (λ c κs. search needs)
     mul-t9
     returns)

@@ -13,7 +13,8 @@ use Rattle.frame_request.proofs.put.Statement.{statement}
 use Rattle.frame_request.proofs.put.Tie as tie
 
 -- all of the part that was lent is written over
-copied : (at size : ℕ) (part output last : List ℕ) → length part ≡ size → last ≡ take (length part) part ++ drop (length part) (take (at + size - at) (drop at output))
+copied : (at size : ℕ) (part output last : List ℕ) → length part ≡ size
+    → last ≡ take (length part) part ++ drop (length part) (take (at + size - at) (drop at output))
     → putMid at (at + size - at) output last ≡ putMid at size output part
 copied at size part output last long e =
     let width : at + size - at ≡ size = omega arith in
@@ -23,43 +24,35 @@ copied at size part output last long e =
 slice-aggregate-copy : tie.Need-slice-aggregate-copy
 slice-aggregate-copy c = let a = c .before .before .before .args in sym (first-size (a .size) (a .plane .now) (c .before .before .before .pre .0))
 
-add-copy : tie.Need-add-copy
-add-copy c = search needs
-
-sub-copy : tie.Need-sub-copy
-sub-copy c = search needs
-
-part-copy-start : tie.Need-part-copy-start
-part-copy-start c = search needs
-
-part-copy-end : tie.Need-part-copy-end
-part-copy-end c = search needs
-
 copy-requires : tie.Need-copy-requires
 copy-requires c κs =
     let s = c .before .before .before .before in
     let a = s .args in
-    omega (arith, s .pre, first-size (a .size) (a .plane .now) (s .pre .0), length-take (a .at + a .size - a .at) (drop (a .at) (a .output .now)), length-drop (a .at) (a .output .now))
-
-same-length : tie.Need-same-length
-same-length c = search needs
+    omega (
+      arith,
+      s .pre,
+      first-size (a .size) (a .plane .now) (s .pre .0),
+      length-take (a .at + a .size - a .at) (drop (a .at) (a .output .now)),
+      length-drop (a .at) (a .output .now),
+    )
 
 returns : tie.Need-returns
 returns c =
     let k = c .before .before in
     let s = k .before .before .before .before .before in
     let a = s .args in
-    copied (a .at) (a .size) (take (a .size) (a .plane .now)) (a .output .now) (k .copy .last .1 .0) (first-size (a .size) (a .plane .now) (s .pre .0)) (k .copy .ensures .1)
+    copied (a .at) (a .size) (take (a .size) (a .plane .now)) (a .output .now) (k .copy .last .1 .0) (first-size (a .size) (a .plane .now) (s .pre .0))
+    (k .copy .ensures .1)
 
 pub put-spec : {M : Type 1} → statement M
 put-spec =
     tie.close
     (tie.spec
     slice-aggregate-copy
-    add-copy
-    sub-copy
-    part-copy-start
-    part-copy-end
+    (λ c. search needs)
+    (λ c. search needs)
+    (λ c. search needs)
+    (λ c. search needs)
     copy-requires
-    same-length
+    (λ c. search needs)
     returns)

@@ -16,46 +16,14 @@ short n h is = rw (lt-ltb n 10 h, is)
 long : (n : ℕ) {d e : ℕ} → 10 ≤ n → d ≡ 48 + n / 10 → e ≡ 48 + n % 10 → d ∷ e ∷ [] ≡ decimal n
 long n h is and = rw (le-ltb n 10 h, is, and)
 
-slice-aggregate-put : tie.Need-slice-aggregate-put
-slice-aggregate-put c = search needs
-
-put-requires : tie.Need-put-requires
-put-requires c κs = search needs
-
-digit-requires : tie.Need-digit-requires
-digit-requires c κs = search needs
-
-slice-aggregate-put-2 : tie.Need-slice-aggregate-put-2
-slice-aggregate-put-2 c = search needs
-
-put-requires-2 : tie.Need-put-requires-2
-put-requires-2 c κs = search needs
-
-same-length : tie.Need-same-length
-same-length c = search needs
-
 returns : tie.Need-returns
 returns c =
     let e = c .before .before in
     let d = e .before .before .before in
     let t = d .before .before .before .before in
     let a = t .before .before .before .before .args in
-    line-begins (a .number) 2 (d .digit .result ∷ []) (a .output .now) _ _ (short (a .number) (d .before .if1 .taken) (d .digit .ensures)) refl (t .put .ensures) (e .put2 .ensures)
-
-digit-requires-2 : tie.Need-digit-requires-2
-digit-requires-2 c κs = search needs
-
-digit-requires-3 : tie.Need-digit-requires-3
-digit-requires-3 c κs = search needs
-
-slice-aggregate-put-3 : tie.Need-slice-aggregate-put-3
-slice-aggregate-put-3 c = search needs
-
-put-requires-3 : tie.Need-put-requires-3
-put-requires-3 c κs = search needs
-
-same-length-2 : tie.Need-same-length-2
-same-length-2 c = search needs
+    line-begins (a .number) 2 (d .digit .result ∷ []) (a .output .now) _ _ (short (a .number) (d .before .if1 .taken) (d .digit .ensures)) refl
+    (t .put .ensures) (e .put2 .ensures)
 
 returns-2 : tie.Need-returns-2
 returns-2 c =
@@ -64,22 +32,23 @@ returns-2 c =
     let d = u .before in
     let t = d .before .before .before .before in
     let a = t .before .before .before .before .args in
-    line-begins (a .number) 3 (d .digit2 .result ∷ u .digit3 .result ∷ []) (a .output .now) _ _ (long (a .number) (d .before .if1 .left) (d .digit2 .ensures) (u .digit3 .ensures)) refl (t .put .ensures) (e .put3 .ensures)
+    line-begins (a .number) 3 (d .digit2 .result ∷ u .digit3 .result ∷ []) (a .output .now) _ _
+    (long (a .number) (d .before .if1 .left) (d .digit2 .ensures) (u .digit3 .ensures)) refl (t .put .ensures) (e .put3 .ensures)
 
 pub put-refusal-spec : {M : Type 1} → statement M
 put-refusal-spec =
     tie.close
     (tie.spec
-    slice-aggregate-put
-    put-requires
-    digit-requires
-    slice-aggregate-put-2
-    put-requires-2
-    same-length
+    (λ c. search needs)
+    (λ c κs. search needs)
+    (λ c κs. search needs)
+    (λ c. search needs)
+    (λ c κs. search needs)
+    (λ c. search needs)
     returns
-    digit-requires-2
-    digit-requires-3
-    slice-aggregate-put-3
-    put-requires-3
-    same-length-2
+    (λ c κs. search needs)
+    (λ c κs. search needs)
+    (λ c. search needs)
+    (λ c κs. search needs)
+    (λ c. search needs)
     returns-2)

@@ -7,12 +7,6 @@ use borrow.Author.Needs.{needs}
 use Rattle.frame_request.proofs.respond.Statement.{statement}
 use Rattle.frame_request.proofs.respond.Tie as tie
 
-enum-told : tie.Need-enum-told
-enum-told c = search needs
-
-enum-known-answer : tie.Need-enum-known-answer
-enum-known-answer c = search needs
-
 returns : tie.Need-returns
 returns c = sym (ap (λ (a : YuvAnswer). responseOf a (c .before .before .args .bytes)) (c .enum-told .given .1))
 
@@ -20,4 +14,4 @@ returns-2 : tie.Need-returns-2
 returns-2 c = sym (ap (λ (a : YuvAnswer). responseOf a (c .before .before .before .args .bytes)) (c .before .answer .given .1))
 
 pub respond-spec : {M : Type 1} → statement M
-respond-spec = tie.close (tie.spec enum-told enum-known-answer returns returns-2)
+respond-spec = tie.close (tie.spec (λ c. search needs) (λ c. search needs) returns returns-2)

@@ -6,50 +6,20 @@ use borrow.Author.Needs.{needs}
 use Rattle.frame_request.proofs.settings_of.Statement.{statement}
 use Rattle.frame_request.proofs.settings_of.Tie as tie
 
-shared-slice-read-channels-of : tie.Need-shared-slice-read-channels-of
-shared-slice-read-channels-of c = search needs
-
 cast-channels-of : tie.Need-cast-channels-of
 cast-channels-of c = omega (arith, c .shared-slice-known2 .given 4)
-
-channels-of-requires : tie.Need-channels-of-requires
-channels-of-requires c κs = search needs
-
-shared-slice-read-sampling-of : tie.Need-shared-slice-read-sampling-of
-shared-slice-read-sampling-of c = search needs
 
 cast-sampling-of : tie.Need-cast-sampling-of
 cast-sampling-of c = omega (arith, c .shared-slice-known3 .given 5)
 
-sampling-of-requires : tie.Need-sampling-of-requires
-sampling-of-requires c κs = search needs
-
-shared-slice-read-range-of : tie.Need-shared-slice-read-range-of
-shared-slice-read-range-of c = search needs
-
 cast-range-of : tie.Need-cast-range-of
 cast-range-of c = omega (arith, c .shared-slice-known4 .given 6)
-
-range-of-requires : tie.Need-range-of-requires
-range-of-requires c κs = search needs
-
-shared-slice-read-matrix-of : tie.Need-shared-slice-read-matrix-of
-shared-slice-read-matrix-of c = search needs
 
 cast-matrix-of : tie.Need-cast-matrix-of
 cast-matrix-of c = omega (arith, c .shared-slice-known5 .given 7)
 
-matrix-of-requires : tie.Need-matrix-of-requires
-matrix-of-requires c κs = search needs
-
-shared-slice-read-transfer-of : tie.Need-shared-slice-read-transfer-of
-shared-slice-read-transfer-of c = search needs
-
 cast-transfer-of : tie.Need-cast-transfer-of
 cast-transfer-of c = omega (arith, c .shared-slice-known6 .given 8)
-
-transfer-of-requires : tie.Need-transfer-of-requires
-transfer-of-requires c κs = search needs
 
 returns : tie.Need-returns
 unfolding settingsOf
@@ -63,19 +33,19 @@ pub settings-of-spec : {M : Type 1} → statement M
 settings-of-spec =
     tie.close
     (tie.spec
-    shared-slice-read-channels-of
+    (λ c. search needs)
     cast-channels-of
-    channels-of-requires
-    shared-slice-read-sampling-of
+    (λ c κs. search needs)
+    (λ c. search needs)
     cast-sampling-of
-    sampling-of-requires
-    shared-slice-read-range-of
+    (λ c κs. search needs)
+    (λ c. search needs)
     cast-range-of
-    range-of-requires
-    shared-slice-read-matrix-of
+    (λ c κs. search needs)
+    (λ c. search needs)
     cast-matrix-of
-    matrix-of-requires
-    shared-slice-read-transfer-of
+    (λ c κs. search needs)
+    (λ c. search needs)
     cast-transfer-of
-    transfer-of-requires
+    (λ c κs. search needs)
     returns)

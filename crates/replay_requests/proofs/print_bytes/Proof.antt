@@ -14,29 +14,8 @@ Inv-loop bytes i₀ i-end i = (i-end ≡ length bytes) × (i ≤ i-end)
 abbrev μ-loop : tie.MeasureT-loop
 μ-loop bytes i₀ i-end i = i-end - i
 
-loop-holds : tie.Need-loop-holds Inv-loop μ-loop
-loop-holds c = search needs
-
-shared-slice-read-print-hex : tie.Need-shared-slice-read-print-hex Inv-loop μ-loop
-shared-slice-read-print-hex c = search needs
-
 cast-print-hex : tie.Need-cast-print-hex Inv-loop μ-loop
 cast-print-hex c = omega (arith, c .shared-slice-known2 .given (c .before .before .loop .i))
-
-print-hex-requires : tie.Need-print-hex-requires Inv-loop μ-loop
-print-hex-requires c κs = search needs
-
-add-i : tie.Need-add-i Inv-loop μ-loop
-add-i c = search needs
-
-loop-less : tie.Need-loop-less Inv-loop μ-loop
-loop-less c = search needs
-
-loop-again : tie.Need-loop-again Inv-loop μ-loop
-loop-again c = search needs
-
-returns : tie.Need-returns Inv-loop μ-loop
-returns c = search needs
 
 pub print-bytes-spec : {M : Type 1} → statement M
 print-bytes-spec =
@@ -44,11 +23,11 @@ print-bytes-spec =
     (tie.spec
     Inv-loop
     μ-loop
-    loop-holds
-    shared-slice-read-print-hex
+    (λ c. search needs)
+    (λ c. search needs)
     cast-print-hex
-    print-hex-requires
-    add-i
-    loop-less
-    loop-again
-    returns)
+    (λ c κs. search needs)
+    (λ c. search needs)
+    (λ c. search needs)
+    (λ c. search needs)
+    (λ c. search needs))

@@ -3,8 +3,9 @@
 use mathlib.Core.Path.{_≡_, refl, sym, _∙_}
 use mathlib.Core.Bool.{false}
 use native.Mathlib.Omega.{arith}
-use Rattle.segvartin.specs.Codes.{isMalformed}
-use Rattle.segvartin.proofs.Answered.{holds, fails, counted, banded}
+use Rattle.call_numbers.specs.Codes.{isMalformed}
+use Rattle.call_numbers.proofs.Numbers.{counted}
+use Rattle.segvartin.proofs.Answered.{holds, fails, banded}
 use borrow.Author.Needs.{needs}
 use Rattle.segvartin.proofs.band_told.Statement.{statement}
 use Rattle.segvartin.proofs.band_told.Tie as tie

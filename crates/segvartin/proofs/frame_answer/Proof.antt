@@ -3,14 +3,15 @@
 use mathlib.Core.Path.{_≡_, refl, sym, _∙_}
 use mathlib.Core.Bool.{false}
 use native.Mathlib.Omega.{arith}
-use Rattle.segvartin.specs.Codes.{isMalformed}
-use Rattle.segvartin.proofs.Answered.{holds, fails, counted}
+use Rattle.call_numbers.specs.Codes.{isMalformed}
+use Rattle.call_numbers.proofs.Numbers.{counted}
+use Rattle.segvartin.proofs.Answered.{holds, fails}
 use borrow.Author.Needs.{needs}
 use Rattle.segvartin.proofs.frame_answer.Statement.{statement}
 use Rattle.segvartin.proofs.frame_answer.Tie as tie
 
 returns : tie.Need-returns
-returns c = holds _ (sym (c .before .is-malformed .ensures) ∙ c .if1 .taken) (refl, refl, refl, refl)
+returns c = holds _ (sym (c .before .is-malformed .ensures) ∙ c .if1 .taken) (refl, (refl, refl, refl))
 
 meant : (c : tie.Else1) → isMalformed 1 (c .before .before .before .before .before .before .before .args .numbers .now) ≡ false
 meant c = sym (c .before .is-malformed .ensures) ∙ c .if1 .left

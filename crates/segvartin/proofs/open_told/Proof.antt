@@ -3,7 +3,7 @@
 use mathlib.Core.Path.{_≡_, refl, sym, _∙_}
 use mathlib.Core.Bool.{false}
 use native.Mathlib.Omega.{arith}
-use Rattle.segvartin.specs.Codes.{isMalformed}
+use Rattle.call_numbers.specs.Codes.{isMalformed}
 use Rattle.segvartin.proofs.Answered.{holds, fails, opened}
 use borrow.Author.Needs.{needs}
 use Rattle.segvartin.proofs.open_told.Statement.{statement}

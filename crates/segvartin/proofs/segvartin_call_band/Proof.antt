@@ -1,19 +1,21 @@
 -- `segvartin_call_band` meets its contract: what it tells is what `band_told` has to tell.
 -- Assumes nothing.
 use mathlib.Core.Path.{_∙_}
-use Rattle.segvartin.proofs.Arrays.{three-told}
+use Rattle.call_numbers.proofs.Arrays.{three-told}
 use borrow.Author.Needs.{needs}
 use Rattle.segvartin.proofs.segvartin_call_band.Statement.{statement}
 use Rattle.segvartin.proofs.segvartin_call_band.Tie as tie
 
 returns : tie.Need-returns
 returns c =
-    let t = c .before .before .before .before .before .before .before .before .before .before .band-told in
+    let b = c .before .before .before .before .before .before .before .before .before .before in
+    let t = b .band-told in
+    let start = b .before .before .before .before .before .before .before .before .before .before .before in
     record {
       answer = t .result .answer;
       done = t .result .done;
       number = c .tell .ensures .0;
-      told = c .tell .ensures .1 ∙ three-told (c .before .before .before .before .before .before .before .before .before .before .before .before .before .before .before .before .before .before .before .before .before .args .told .now) _ _ _ (c .before .tell-arg .given .0 .1);
+      told = c .tell .ensures .1 ∙ three-told (start .args .told .now) _ _ _ (c .before .tell-arg .given .0 .1);
       answered = t .ensures;
     }
 

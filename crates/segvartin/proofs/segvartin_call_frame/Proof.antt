@@ -1,7 +1,7 @@
 -- `segvartin_call_frame` meets its contract: what it tells is the answer of `frame_answer`.
 -- Assumes nothing.
 use mathlib.Core.Path.{_∙_}
-use Rattle.segvartin.proofs.Arrays.{two-told}
+use Rattle.call_numbers.proofs.Arrays.{two-told}
 use borrow.Author.Needs.{needs}
 use Rattle.segvartin.proofs.segvartin_call_frame.Statement.{statement}
 use Rattle.segvartin.proofs.segvartin_call_frame.Tie as tie
@@ -10,10 +10,11 @@ returns : tie.Need-returns
 returns c =
     let f = c .before .before .before .before .before .before .before .before in
     let a = f .frame-answer in
+    let start = f .before .before .before .before .before .before .before .before .before in
     record {
       answer = a .result;
       number = c .tell-answer .ensures .0;
-      told = c .tell-answer .ensures .1 ∙ two-told (c .before .before .before .before .before .before .before .before .before .before .before .before .before .before .before .before .before .args .told .now) _ _ (c .before .tell-answer-arg .given .0 .1);
+      told = c .tell-answer .ensures .1 ∙ two-told (start .args .told .now) _ _ (c .before .tell-answer-arg .given .0 .1);
       answered = a .ensures;
     }
 

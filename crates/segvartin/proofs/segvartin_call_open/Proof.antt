@@ -1,7 +1,7 @@
 -- `segvartin_call_open` meets its contract: what it tells is what `open_told` has to tell.
 -- Assumes nothing.
 use mathlib.Core.Path.{_∙_}
-use Rattle.segvartin.proofs.Arrays.{three-told}
+use Rattle.call_numbers.proofs.Arrays.{three-told}
 use borrow.Author.Needs.{needs}
 use Rattle.segvartin.proofs.segvartin_call_open.Statement.{statement}
 use Rattle.segvartin.proofs.segvartin_call_open.Tie as tie

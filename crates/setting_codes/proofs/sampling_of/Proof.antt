@@ -9,14 +9,8 @@ use borrow.Author.Needs.{needs}
 use Rattle.setting_codes.proofs.sampling_of.Statement.{statement}
 use Rattle.setting_codes.proofs.sampling_of.Tie as tie
 
-returns : tie.Need-returns
-returns c = search needs
-
-returns-2 : tie.Need-returns-2
-returns-2 c = search needs
-
 returns-3 : tie.Need-returns-3
 returns-3 c = sym (List·getD-eq-default samplingCodes Yuv420 {n = c .before .args .code} (omega arith))
 
 pub sampling-of-spec : {M : Type 1} → statement M
-sampling-of-spec = tie.close (tie.spec returns returns-2 returns-3)
+sampling-of-spec = tie.close (tie.spec (λ c. search needs) (λ c. search needs) returns-3)

@@ -24,49 +24,13 @@ Inv-loop first table₀ i₀ k₀ table i k = (length table ≡ 65536) × (k ≤
 abbrev μ-loop : tie.MeasureT-loop
 μ-loop first table₀ i₀ k₀ table i k = 255 - k
 
-first-index-table-requires : tie.Need-first-index-table-requires Inv-loop2 μ-loop2 Inv-loop μ-loop
-first-index-table-requires c κs = search needs
-
 loop-holds : tie.Need-loop-holds Inv-loop2 μ-loop2 Inv-loop μ-loop
 loop-holds c = (length-replicate {A = ℕ} 65536 255, omega arith, start (c .first-index-table .result))
-
-cast-end : tie.Need-cast-end Inv-loop2 μ-loop2 Inv-loop μ-loop
-cast-end c = search needs
-
-add-end : tie.Need-add-end Inv-loop2 μ-loop2 Inv-loop μ-loop
-add-end c = search needs
-
-mul-end : tie.Need-mul-end Inv-loop2 μ-loop2 Inv-loop μ-loop
-mul-end c = search needs
-
-array-read-end : tie.Need-array-read-end Inv-loop2 μ-loop2 Inv-loop μ-loop
-array-read-end c = search needs
-
-cast-end-2 : tie.Need-cast-end-2 Inv-loop2 μ-loop2 Inv-loop μ-loop
-cast-end-2 c = search needs
-
-loop2-holds : tie.Need-loop2-holds Inv-loop2 μ-loop2 Inv-loop μ-loop
-loop2-holds c = search needs
-
-array-write-table : tie.Need-array-write-table Inv-loop2 μ-loop2 Inv-loop μ-loop
-array-write-table c = search needs
-
-add-i : tie.Need-add-i Inv-loop2 μ-loop2 Inv-loop μ-loop
-add-i c = search needs
-
-loop2-less : tie.Need-loop2-less Inv-loop2 μ-loop2 Inv-loop μ-loop
-loop2-less c = search needs
 
 loop2-again : tie.Need-loop2-again Inv-loop2 μ-loop2 Inv-loop μ-loop
 loop2-again c =
     let inv = c .before .loop2 .inv in
     (simp length-set (omega arith), inv .1, inv .2, inv .3, put (inv .4) (inv .1) (inv .0) (omega arith) (omega arith))
-
-add-k : tie.Need-add-k Inv-loop2 μ-loop2 Inv-loop μ-loop
-add-k c = search needs
-
-loop-less : tie.Need-loop-less Inv-loop2 μ-loop2 Inv-loop μ-loop
-loop-less c = search needs
 
 loop-again : tie.Need-loop-again Inv-loop2 μ-loop2 Inv-loop μ-loop
 loop-again c =
@@ -86,19 +50,19 @@ gamma-map-table-spec =
     μ-loop2
     Inv-loop
     μ-loop
-    first-index-table-requires
+    (λ c κs. search needs)
     loop-holds
-    cast-end
-    add-end
-    mul-end
-    array-read-end
-    cast-end-2
-    loop2-holds
-    array-write-table
-    add-i
-    loop2-less
+    (λ c. search needs)
+    (λ c. search needs)
+    (λ c. search needs)
+    (λ c. search needs)
+    (λ c. search needs)
+    (λ c. search needs)
+    (λ c. search needs)
+    (λ c. search needs)
+    (λ c. search needs)
     loop2-again
-    add-k
-    loop-less
+    (λ c. search needs)
+    (λ c. search needs)
     loop-again
     returns)

@@ -7,51 +7,6 @@ use borrow.Author.Needs.{needs}
 use Rattle.yuv_error.proofs.check_buffers.Statement.{statement}
 use Rattle.yuv_error.proofs.check_buffers.Tie as tie
 
-check-rgba-source-requires : tie.Need-check-rgba-source-requires
-check-rgba-source-requires c κs = search needs
-
-check-y8-channel-requires : tie.Need-check-y8-channel-requires
-check-y8-channel-requires c κs = search needs
-
-and-requires : tie.Need-and-requires
-and-requires c κs = search needs
-
-check-chroma-channel-requires : tie.Need-check-chroma-channel-requires
-check-chroma-channel-requires c κs = search needs
-
-and-requires-2 : tie.Need-and-requires-2
-and-requires-2 c κs = search needs
-
-check-chroma-channel-requires-2 : tie.Need-check-chroma-channel-requires-2
-check-chroma-channel-requires-2 c κs = search needs
-
-and-requires-3 : tie.Need-and-requires-3
-and-requires-3 c κs = search needs
-
-check-whole-rows-requires : tie.Need-check-whole-rows-requires
-check-whole-rows-requires c κs = search needs
-
-check-whole-rows-requires-2 : tie.Need-check-whole-rows-requires-2
-check-whole-rows-requires-2 c κs = search needs
-
-and-requires-4 : tie.Need-and-requires-4
-and-requires-4 c κs = search needs
-
-check-whole-rows-requires-3 : tie.Need-check-whole-rows-requires-3
-check-whole-rows-requires-3 c κs = search needs
-
-and-requires-5 : tie.Need-and-requires-5
-and-requires-5 c κs = search needs
-
-check-whole-rows-requires-4 : tie.Need-check-whole-rows-requires-4
-check-whole-rows-requires-4 c κs = search needs
-
-and-requires-6 : tie.Need-and-requires-6
-and-requires-6 c κs = search needs
-
-and-requires-7 : tie.Need-and-requires-7
-and-requires-7 c κs = search needs
-
 returns : tie.Need-returns
 returns c =
     let c14 = c .before in
@@ -85,19 +40,19 @@ pub check-buffers-spec : {M : Type 1} → statement M
 check-buffers-spec =
     tie.close
     (tie.spec
-    check-rgba-source-requires
-    check-y8-channel-requires
-    and-requires
-    check-chroma-channel-requires
-    and-requires-2
-    check-chroma-channel-requires-2
-    and-requires-3
-    check-whole-rows-requires
-    check-whole-rows-requires-2
-    and-requires-4
-    check-whole-rows-requires-3
-    and-requires-5
-    check-whole-rows-requires-4
-    and-requires-6
-    and-requires-7
+    (λ c κs. search needs)
+    (λ c κs. search needs)
+    (λ c κs. search needs)
+    (λ c κs. search needs)
+    (λ c κs. search needs)
+    (λ c κs. search needs)
+    (λ c κs. search needs)
+    (λ c κs. search needs)
+    (λ c κs. search needs)
+    (λ c κs. search needs)
+    (λ c κs. search needs)
+    (λ c κs. search needs)
+    (λ c κs. search needs)
+    (λ c κs. search needs)
+    (λ c κs. search needs)
     returns)

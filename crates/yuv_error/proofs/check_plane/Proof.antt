@@ -5,16 +5,10 @@ use borrow.Author.Needs.{needs}
 use Rattle.yuv_error.proofs.check_plane.Statement.{statement}
 use Rattle.yuv_error.proofs.check_plane.Tie as tie
 
-is-too-narrow-requires : tie.Need-is-too-narrow-requires
-is-too-narrow-requires c κs = search needs
-
 returns : tie.Need-returns
 returns c =
     let narrow = sym (c .before .is-too-narrow .ensures) ∙ c .if1 .taken in
     simp narrow
-
-is-too-short-requires : tie.Need-is-too-short-requires
-is-too-short-requires c κs = search needs
 
 returns-2 : tie.Need-returns-2
 returns-2 c =
@@ -30,4 +24,4 @@ returns-3 c =
 
 pub check-plane-spec : {M : Type 1} → statement M
 check-plane-spec =
-    tie.close (tie.spec is-too-narrow-requires returns is-too-short-requires returns-2 returns-3)
+    tie.close (tie.spec (λ c κs. search needs) returns (λ c κs. search needs) returns-2 returns-3)

@@ -5,22 +5,10 @@ use borrow.Author.Needs.{needs}
 use Rattle.yuv_error.proofs.check_rgba_source.Statement.{statement}
 use Rattle.yuv_error.proofs.check_rgba_source.Tie as tie
 
-is-too-short-requires : tie.Need-is-too-short-requires
-is-too-short-requires c κs = search needs
-
-length-mismatch-requires : tie.Need-length-mismatch-requires
-length-mismatch-requires c κs = search needs
-
 returns : tie.Need-returns
 returns c =
     let short = sym (c .before .before .is-too-short .ensures) ∙ c .before .if1 .taken in
     simp (short, c .length-mismatch .ensures .0, c .length-mismatch .ensures .1)
-
-is-too-narrow-requires : tie.Need-is-too-narrow-requires
-is-too-narrow-requires c κs = search needs
-
-cast-t6 : tie.Need-cast-t6
-cast-t6 c = search needs
 
 returns-2 : tie.Need-returns-2
 returns-2 c =
@@ -38,10 +26,10 @@ pub check-rgba-source-spec : {M : Type 1} → statement M
 check-rgba-source-spec =
     tie.close
     (tie.spec
-    is-too-short-requires
-    length-mismatch-requires
+    (λ c κs. search needs)
+    (λ c κs. search needs)
     returns
-    is-too-narrow-requires
-    cast-t6
+    (λ c κs. search needs)
+    (λ c. search needs)
     returns-2
     returns-3)

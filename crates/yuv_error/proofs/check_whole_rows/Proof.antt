@@ -7,9 +7,6 @@ use Rattle.yuv_error.specs.Rules.{wholeOf}
 use Rattle.yuv_error.proofs.check_whole_rows.Statement.{statement}
 use Rattle.yuv_error.proofs.check_whole_rows.Tie as tie
 
-whole-size-requires : tie.Need-whole-size-requires
-whole-size-requires c κs = search needs
-
 returns : tie.Need-returns
 returns c =
     let b = c .before .before .before .args .lent in
@@ -21,4 +18,4 @@ returns-2 c =
     simp (c .before .before .whole-size .ensures, ne-eqb (b .len) (wholeOf b) λ e. omega arith)
 
 pub check-whole-rows-spec : {M : Type 1} → statement M
-check-whole-rows-spec = tie.close (tie.spec whole-size-requires returns returns-2)
+check-whole-rows-spec = tie.close (tie.spec (λ c κs. search needs) returns returns-2)

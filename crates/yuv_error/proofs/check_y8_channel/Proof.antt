@@ -5,15 +5,6 @@ use borrow.Author.Needs.{needs}
 use Rattle.yuv_error.proofs.check_y8_channel.Statement.{statement}
 use Rattle.yuv_error.proofs.check_y8_channel.Tie as tie
 
-stride-mismatch-requires : tie.Need-stride-mismatch-requires
-stride-mismatch-requires c κs = search needs
-
-length-mismatch-requires : tie.Need-length-mismatch-requires
-length-mismatch-requires c κs = search needs
-
-check-plane-requires : tie.Need-check-plane-requires
-check-plane-requires c κs = search needs
-
 returns : tie.Need-returns
 returns c =
     let short = c .before .length-mismatch .ensures in
@@ -23,4 +14,4 @@ returns c =
 pub check-y8-channel-spec : {M : Type 1} → statement M
 check-y8-channel-spec =
     tie.close
-    (tie.spec stride-mismatch-requires length-mismatch-requires check-plane-requires returns)
+    (tie.spec (λ c κs. search needs) (λ c κs. search needs) (λ c κs. search needs) returns)

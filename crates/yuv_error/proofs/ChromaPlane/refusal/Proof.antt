@@ -8,12 +8,6 @@ use borrow.Author.Needs.{needs}
 use Rattle.yuv_error.proofs.ChromaPlane.refusal.Statement.{statement}
 use Rattle.yuv_error.proofs.ChromaPlane.refusal.Tie as tie
 
-enum-told : tie.Need-enum-told
-enum-told c = search needs
-
-enum-told-2 : tie.Need-enum-told-2
-enum-told-2 c = search needs
-
 returns : tie.Need-returns
 returns c = sym (ap (λ (p : ChromaPlane). sized (chromaNumber p) (c .before .before .args .size)) (c .enum-told .given .1))
 
@@ -21,4 +15,4 @@ returns-2 : tie.Need-returns-2
 returns-2 c = sym (ap (λ (p : ChromaPlane). sized (chromaNumber p) (c .before .before .args .size)) (c .enum-told2 .given .1))
 
 pub refusal-spec : {M : Type 1} → statement M
-refusal-spec = tie.close (tie.spec enum-told enum-told-2 returns returns-2)
+refusal-spec = tie.close (tie.spec (λ c. search needs) (λ c. search needs) returns returns-2)

@@ -6,20 +6,11 @@ use Rattle.yuv_error.proofs.Products.{product-fits, sum-fits}
 use Rattle.yuv_error.proofs.LentBuffer.least_size.Statement.{statement}
 use Rattle.yuv_error.proofs.LentBuffer.least_size.Tie as tie
 
-cast-result : tie.Need-cast-result
-cast-result c = search needs
-
-sub-result : tie.Need-sub-result
-sub-result c = search needs
-
 mul-result : tie.Need-mul-result
 mul-result c = record { fits = product-fits (omega arith) (omega arith) }
 
 add-result : tie.Need-add-result
 add-result c = record { fits = sum-fits (omega arith) (omega arith) (omega arith) }
 
-returns : tie.Need-returns
-returns c = search needs
-
 pub least-size-spec : {M : Type 1} → statement M
-least-size-spec = tie.close (tie.spec cast-result sub-result mul-result add-result returns)
+least-size-spec = tie.close (tie.spec (λ c. search needs) (λ c. search needs) mul-result add-result (λ c. search needs))

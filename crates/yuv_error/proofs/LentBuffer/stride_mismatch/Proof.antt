@@ -9,11 +9,5 @@ use Rattle.yuv_error.proofs.LentBuffer.stride_mismatch.Tie as tie
 mul-t2 : tie.Need-mul-t2
 mul-t2 c = record { fits = product-fits (omega arith) (omega arith) }
 
-whole-size-requires : tie.Need-whole-size-requires
-whole-size-requires c κs = search needs
-
-returns : tie.Need-returns
-returns c = search needs
-
 pub stride-mismatch-spec : {M : Type 1} → statement M
-stride-mismatch-spec = tie.close (tie.spec mul-t2 whole-size-requires returns)
+stride-mismatch-spec = tie.close (tie.spec mul-t2 (λ c κs. search needs) (λ c. search needs))

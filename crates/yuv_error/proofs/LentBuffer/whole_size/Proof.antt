@@ -6,14 +6,8 @@ use Rattle.yuv_error.proofs.Products.{product-fits}
 use Rattle.yuv_error.proofs.LentBuffer.whole_size.Statement.{statement}
 use Rattle.yuv_error.proofs.LentBuffer.whole_size.Tie as tie
 
-cast-result : tie.Need-cast-result
-cast-result c = search needs
-
 mul-result : tie.Need-mul-result
 mul-result c = record { fits = product-fits (omega arith) (omega arith) }
 
-returns : tie.Need-returns
-returns c = search needs
-
 pub whole-size-spec : {M : Type 1} → statement M
-whole-size-spec = tie.close (tie.spec cast-result mul-result returns)
+whole-size-spec = tie.close (tie.spec (λ c. search needs) mul-result (λ c. search needs))

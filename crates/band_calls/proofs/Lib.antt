@@ -1,0 +1,5 @@
+-- Laws of band calls.
+pub mod Accepted
+pub mod Post
+pub mod Own
+pub mod SameBands

@@ -1,0 +1,2 @@
+-- What serves the contracts of a band's steps: the meaning stands in definitions.
+pub mod Steps

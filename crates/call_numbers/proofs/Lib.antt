@@ -1,0 +1,3 @@
+-- Laws of a caller's numbers.
+pub mod Numbers
+pub mod Arrays

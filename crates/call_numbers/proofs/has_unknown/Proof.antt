@@ -1,0 +1,10 @@
+-- `has_unknown` meets its contract: each test is the definition's.
+-- Assumes nothing.
+use borrow.Author.Needs.{needs}
+use Rattle.call_numbers.proofs.has_unknown.Statement.{statement}
+use Rattle.call_numbers.proofs.has_unknown.Tie as tie
+
+pub has-unknown-spec : {M : Type 1} → statement M
+has-unknown-spec =
+    tie.close
+    (tie.spec (λ c. search needs) (λ c. search needs) (λ c. search needs) (λ c. search needs) (λ c. search needs) (λ c. search needs))

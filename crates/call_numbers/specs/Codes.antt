@@ -1,0 +1,65 @@
+-- The numbers that C passes for a description: width, height, channels, sampling, range, matrix, transfer, y_stride, u_stride, v_stride, and beside
+-- them kr and kb. Document 01, "The program", has the meaning of the codes; 6 is added, for a Custom matrix.
+-- Where a number is missing or a code has no meaning, 0 or the first one stands here: refusal 1 is first, so no answer turns on it.
+-- Assumes nothing.
+use Prim.Native.Nat.{ℕ, _+_}
+use mathlib.Core.Bool.{Bool, true, cond, _||_}
+use mathlib.Core.List.{List, [], _∷_}
+use lib.Dec.{ltb, leb, eqb}
+use lib.Ieee.{Float, nan}
+use lib.ListN.{length, getD, drop}
+use Rattle.yuv_support.specs.declared.YuvSourceChannels.the-variants.{Rgb}
+use Rattle.yuv_support.specs.declared.YuvChromaSubsampling.the-variants.{Yuv420}
+use Rattle.yuv_support.specs.declared.YuvRange.the-variants.{Limited}
+use Rattle.yuv_support.specs.declared.YuvStandardMatrix.{YuvStandardMatrix}
+use Rattle.yuv_support.specs.declared.YuvStandardMatrix.the-variants.{Bt601, Custom}
+use Rattle.sharp_gamma.specs.declared.SharpYuvGammaTransfer.the-variants.{Srgb}
+use Rattle.definitions.specs.declared.YuvSettings.{YuvSettings}
+use Rattle.definitions.specs.declared.FrameDescription.{FrameDescription}
+use Rattle.yuv_error.specs.Rules.{Rule, rule}
+use Rattle.setting_codes.specs.Codes.{channelsCodes, samplingCodes, rangeCodes, matrixCodes, transferCodes, customCode}
+
+-- number i of a call
+abbrev pub at : List ℕ → ℕ → ℕ
+at numbers i = getD numbers i 0
+
+-- kr, then kb
+abbrev pub matrixOf : ℕ → (custom : List Float) → YuvStandardMatrix
+matrixOf code custom = cond (eqb code customCode) (Custom (getD custom 0 nan) (getD custom 1 nan)) (getD matrixCodes code Bt601)
+
+unfoldable pub settingsOf : (numbers : List ℕ) → (custom : List Float) → YuvSettings
+settingsOf numbers custom = record {
+  channels = getD channelsCodes (at numbers 2) Rgb;
+  sampling = getD samplingCodes (at numbers 3) Yuv420;
+  range = getD rangeCodes (at numbers 4) Limited;
+  matrix = matrixOf (at numbers 5) custom;
+  transfer = getD transferCodes (at numbers 6) Srgb;
+}
+
+-- the frame that a description's numbers describe
+abbrev pub descriptionOf : (numbers : List ℕ) → (custom : List Float) → FrameDescription
+descriptionOf numbers custom = record {
+  width = at numbers 0;
+  height = at numbers 1;
+  settings = settingsOf numbers custom;
+  «y_stride» = at numbers 7;
+  «u_stride» = at numbers 8;
+  «v_stride» = at numbers 9;
+}
+
+-- a description with a code without a meaning
+abbrev pub isUnknown : List ℕ → Bool
+isUnknown numbers =
+    leb (length channelsCodes) (at numbers 2)
+    || leb (length samplingCodes) (at numbers 3)
+    || leb (length rangeCodes) (at numbers 4)
+    || ltb customCode (at numbers 5)
+    || leb (length transferCodes) (at numbers 6)
+
+-- numbers without a meaning: not so many before a description of 10, or a code without a meaning
+unfoldable pub isMalformed : (before : ℕ) → List ℕ → Bool
+isMalformed before numbers = cond (eqb (length numbers) (before + 10)) (isUnknown (drop before numbers)) true
+
+-- refusal 1, first of all
+abbrev pub numberRules : (before : ℕ) → List ℕ → List Rule
+numberRules before numbers = rule 1 (isMalformed before numbers) 0 0 ∷ []

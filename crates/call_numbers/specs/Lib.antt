@@ -1,0 +1,2 @@
+-- What a caller's numbers mean.
+pub mod Codes

@@ -1,0 +1,39 @@
+-- What the checks of an accepted call leave known of what was lent: sizes, by their lengths. This serves `requires` clauses: no meaning stands here.
+-- Assumes nothing.
+use Prim.Native.Nat.{ℕ, _+_, _*_, _≤_}
+use mathlib.Core.Path.{_≡_}
+use lib.Dec.{T}
+use Rattle.yuv_support.specs.Matrix.{accepted}
+use Rattle.definitions.specs.declared.FrameDescription.{FrameDescription}
+use Rattle.definitions.specs.declared.Band.{Band}
+use Rattle.definitions.specs.Image.{rowSize, chromaSize, chromaRows}
+
+-- a frame's size and matrix
+pub record Sized (d : FrameDescription) : Type 0 where
+  pub width-least : 1 ≤ d .width
+  pub width-most : d .width ≤ 16384
+  pub height-least : 1 ≤ d .height
+  pub height-most : d .height ≤ 16384
+  pub matrix : T (accepted (d .settings .matrix))
+
+-- a band's rows, and its source
+pub record Given (b : Band) (source : ℕ) : Type 0 where
+  pub rows-least : 1 ≤ b .rows
+  pub rows-most : b .done + b .rows ≤ b .frame .height
+  pub source-row : rowSize (b .frame) ≤ b .stride
+  pub source-size : source ≡ b .stride * b .rows
+
+-- plane strides, and planes of whole rows
+pub record PlanesLent (d : FrameDescription) (y u v : ℕ) : Type 0 where
+  pub y-row : d .width ≤ d .«y_stride»
+  pub y-size : y ≡ d .«y_stride» * d .height
+  pub u-row : chromaSize d ≤ d .«u_stride»
+  pub u-size : u ≡ d .«u_stride» * chromaRows d
+  pub v-row : chromaSize d ≤ d .«v_stride»
+  pub v-size : v ≡ d .«v_stride» * chromaRows d
+
+-- all that is lent for a band's rows
+pub record Lent (b : Band) (source y u v : ℕ) : Type 0 where
+  pub sized : Sized (b .frame)
+  pub given : Given b source
+  pub planes : PlanesLent (b .frame) y u v
