@@ -4,7 +4,7 @@ use Prim.Native.Nat.{ℕ}
 use mathlib.Core.Path.{_≡_}
 use mathlib.Core.List.{List}
 use Rattle.yuv_support.specs.declared.YuvChromaSubsampling.{YuvChromaSubsampling}
-use Rattle.sharpen_row.specs.Tables.{Prepared}
+use Rattle.pixel_pairs.specs.Tables.{Prepared}
 use Rattle.yuv_error.specs.Known.{Lent}
 use Rattle.band_steps.specs.declared.Work.{Work}
 use Rattle.band_steps.specs.Steps.{bandOf, frameOf}

@@ -3,14 +3,14 @@
 // there its last row. So bands of one row of 4:2:0 take single rows only.
 use band_steps::Work;
 use definitions::Band;
-use sharpen_row::tables;
+use pixel_pairs::tables;
 use yuv_support::YuvChromaSubsampling;
 ghost use Prim.Native.Nat.{_+_, _*_, _%_, _≤_};
 ghost use mathlib.Core.Path.{_≡_};
 ghost use lib.ListN.{length};
 ghost use Rattle.definitions.specs.Image.{Image};
 ghost use Rattle.definitions.specs.Bands.{bandImage, Sharpened};
-ghost use Rattle.sharpen_row.specs.Tables.{Prepared};
+ghost use Rattle.pixel_pairs.specs.Tables.{Prepared};
 ghost use Rattle.yuv_error.specs.Known.{Lent};
 ghost use Rattle.band_steps.specs.Steps.{bandOf, frameOf, Sees};
 ghost use Rattle.band_planes.specs.Rows.{ForRows};

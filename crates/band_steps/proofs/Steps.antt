@@ -18,7 +18,7 @@ use Rattle.definitions.proofs.Planes.{plane-none, plane-between}
 use Rattle.definitions.proofs.Finished.{finished-all, finished-some, finished?}
 use Rattle.definitions.proofs.Bands.{band-own-rows}
 use Rattle.definitions.proofs.Numbers.{next-row}
-use Rattle.sharpen_row.specs.Rows.{ChromaRoom, TwoPainted, ChromaWritten}
+use Rattle.pixel_pairs.specs.Rows.{ChromaRoom, TwoPainted, ChromaWritten}
 use Rattle.band_steps.specs.declared.Work.{Work}
 use Rattle.band_steps.specs.declared.Step.{Step}
 use Rattle.band_steps.specs.Steps.{bandOf, frameOf, chromaOf, SourceAt, PlaneAt, YAt, ChromaAt, PairAt, Sees, LumaIs, ChromaIs}

@@ -13,7 +13,7 @@ use Rattle.definitions.specs.Painted.{Painted}
 use Rattle.definitions.specs.Plane.{written, PlaneIs}
 use Rattle.definitions.proofs.Parts.{part-before, part-in, part-after, part-was}
 use Rattle.definitions.proofs.Planes.{Inside, inside?, below?, byteOf, row-of, row-written}
-use Rattle.sharpen_row.specs.Rows.{TwoPainted}
+use Rattle.pixel_pairs.specs.Rows.{TwoPainted}
 use Rattle.band_steps.specs.Steps.{PlaneAt}
 
 -- painted rows, by equal functions

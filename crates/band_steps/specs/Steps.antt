@@ -10,7 +10,7 @@ use Rattle.definitions.specs.declared.Band.{Band}
 use Rattle.definitions.specs.Image.{Image, lumaAt, cbAt, crAt, rowSize, chromaSize}
 use Rattle.definitions.specs.Plane.{PlaneIs}
 use Rattle.definitions.specs.Bands.{ownRows}
-use Rattle.sharpen_row.specs.Tables.{Prepared}
+use Rattle.pixel_pairs.specs.Tables.{Prepared}
 use Rattle.band_steps.specs.declared.Work.{Work}
 use Rattle.band_steps.specs.declared.Step.{Step}
 

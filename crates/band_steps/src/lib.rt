@@ -1,7 +1,7 @@
 // A step of a band: where the bytes of a row stand in the source and in the planes, and what the row, or two rows that share a chroma row,
 // write there.
 use definitions::FrameDescription;
-use sharpen_row::tables::Conversion;
+use pixel_pairs::tables::Conversion;
 use yuv_support::YuvChromaSubsampling;
 ghost use mathlib.Core.Path.{_≡_};
 ghost use Prim.Native.Nat.{_+_, _*_, _-_, _/_, _%_, _≤_, _<_};
@@ -9,7 +9,7 @@ ghost use lib.ListN.{length};
 ghost use Rattle.definitions.specs.Row.{pixelsOf};
 ghost use Rattle.definitions.specs.Image.{Image, rowSize};
 ghost use Rattle.definitions.specs.Bands.{Sharpened};
-ghost use Rattle.sharpen_row.specs.Tables.{Summed};
+ghost use Rattle.pixel_pairs.specs.Tables.{Summed};
 ghost use Rattle.band_steps.specs.Steps.{frameOf, chromaRow, stepOf, SourceAt, YAt, PairAt, ForStep, Sees, LumaIs, ChromaIs};
 
 // A band, with what is worked out once for its rows.

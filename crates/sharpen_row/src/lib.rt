@@ -1,26 +1,15 @@
-// Rows of luma and chroma, one pass over their pixels, two pixels to a sum.
-//
-// What a byte adds to sums is made once a call (tables.rt). An entry of the left table is, for a byte of the left pixel of a pair, 2^44 times
-// (3 * linear + 2) and what the byte adds to luma; of the right table, for a byte of the right pixel, 2^44 times linear and 2^21 times what it adds
-// to luma. The sums of a pair, byte by byte, hold both lumas and the linear values in quarters; three times those of a pair and the pair below it
-// hold them in sixteenths. Chroma of the corrected bytes is signed i32 weights, sums and a shift.
-//
-// Bounds: luma is below 2^21 before it is divided, so the two of a pair are below 2^42, and four pairs' below 2^44; 16 * 65,535 + 8 is below 2^20,
-// so no sum reaches 2^64. No accepted matrix takes luma or chroma out of the range that the definition holds them in, so nothing is held here.
-mod pixels; // pixels.rt: a pair of pixels
-pub mod tables; // tables.rt: weights and tables
-
+// Rows of luma and chroma, one pass over their pixels: pixel_pairs has what a pair of them comes to.
 ghost use mathlib.Core.Path.{_≡_};
 ghost use Prim.Native.Nat.{_+_, _*_, _-_, _/_, _≤_, _<_, min};
 ghost use lib.ListN.{length};
 ghost use Rattle.definitions.specs.Row.{pixelsOf, input420};
 ghost use Rattle.definitions.specs.Image.{pixelSize, chromaSize};
-ghost use Rattle.sharpen_row.specs.Tables.{Summed, Prepared};
-ghost use Rattle.sharpen_row.specs.Rows.{inputs420, inputs422, RowOf, Rows420, Row422, ChromaRoom, Lent420, Lent422};
-ghost use Rattle.sharpen_row.specs.Rows.{LumaWritten, LumasWritten, ChromaWritten, Begun420, Begun422, Stepped};
+ghost use Rattle.pixel_pairs.specs.Tables.{Summed, Prepared};
+ghost use Rattle.pixel_pairs.specs.Rows.{inputs420, inputs422, RowOf, Rows420, Row422, ChromaRoom, Lent420, Lent422};
+ghost use Rattle.pixel_pairs.specs.Rows.{LumaWritten, LumasWritten, ChromaWritten, Begun420, Begun422, Stepped};
 use definitions::FrameDescription;
-use pixels::Block;
-use tables::Conversion;
+use pixel_pairs::Block;
+use pixel_pairs::tables::Conversion;
 
 // Bytes of a pixel.
 fn pixel_size(frame: FrameDescription) -> usize
@@ -53,7 +42,7 @@ pub fn luma_row(rows: Conversion, row: &[u8], y: &mut [u8], sums: &[u64; 1536])
     let mut x = 0;
     while x < width {
         let next = right_of(x, width);
-        pixels::luma_pair(rows, row, count, x, next, y, 0, sums);
+        pixel_pairs::luma_pair(rows, row, count, x, next, y, 0, sums);
         x = next + 1;
     }
 }
@@ -86,10 +75,10 @@ pub fn chroma_row420(
     while j < size {
         let x = 2 * j;
         let next = right_of(x, width);
-        let a = pixels::pair(this, count, x, next, sums);
-        let b = pixels::pair(below, under, x, next, sums);
-        let c = pixels::mixed(pixels::sixteenths(a, b), gamma);
-        pixels::put_chroma(rows, c, j, u, v);
+        let a = pixel_pairs::pair(this, count, x, next, sums);
+        let b = pixel_pairs::pair(below, under, x, next, sums);
+        let c = pixel_pairs::mixed(pixel_pairs::sixteenths(a, b), gamma);
+        pixel_pairs::put_chroma(rows, c, j, u, v);
         j += 1;
     }
 }
@@ -117,8 +106,8 @@ fn rgb420(
     let mut k = 0;
     while k < turns {
         let j = 2 * k;
-        let c = pixels::four420(rows, this, below, 3, j, y, sums, gamma);
-        pixels::put_chromas(rows, c, j, u, v);
+        let c = pixel_pairs::four420(rows, this, below, 3, j, y, sums, gamma);
+        pixel_pairs::put_chromas(rows, c, j, u, v);
         k += 1;
     }
 }
@@ -145,8 +134,8 @@ fn rgba420(
     let mut k = 0;
     while k < turns {
         let j = 2 * k;
-        let c = pixels::four420(rows, this, below, 4, j, y, sums, gamma);
-        pixels::put_chromas(rows, c, j, u, v);
+        let c = pixel_pairs::four420(rows, this, below, 4, j, y, sums, gamma);
+        pixel_pairs::put_chromas(rows, c, j, u, v);
         k += 1;
     }
 }
@@ -204,8 +193,8 @@ fn rest420(
     while 2 * j < width {
         let next = right_of(2 * j, width);
         let block = Block { j, next };
-        let b = pixels::block420(rows, this, below, count, block, y, sums, gamma);
-        pixels::put_chroma(rows, b, j, u, v);
+        let b = pixel_pairs::block420(rows, this, below, count, block, y, sums, gamma);
+        pixel_pairs::put_chroma(rows, b, j, u, v);
         j += 1;
     }
 }
@@ -253,8 +242,8 @@ fn rgb422(
     let mut k = 0;
     while k < turns {
         let j = 2 * k;
-        let c = pixels::four422(rows, this, 3, j, y, sums, gamma);
-        pixels::put_chromas(rows, c, j, u, v);
+        let c = pixel_pairs::four422(rows, this, 3, j, y, sums, gamma);
+        pixel_pairs::put_chromas(rows, c, j, u, v);
         k += 1;
     }
 }
@@ -280,8 +269,8 @@ fn rgba422(
     let mut k = 0;
     while k < turns {
         let j = 2 * k;
-        let c = pixels::four422(rows, this, 4, j, y, sums, gamma);
-        pixels::put_chromas(rows, c, j, u, v);
+        let c = pixel_pairs::four422(rows, this, 4, j, y, sums, gamma);
+        pixel_pairs::put_chromas(rows, c, j, u, v);
         k += 1;
     }
 }
@@ -336,8 +325,8 @@ fn rest422(
     while 2 * j < width {
         let next = right_of(2 * j, width);
         let block = Block { j, next };
-        let b = pixels::block422(rows, this, count, block, y, sums, gamma);
-        pixels::put_chroma(rows, b, j, u, v);
+        let b = pixel_pairs::block422(rows, this, count, block, y, sums, gamma);
+        pixel_pairs::put_chroma(rows, b, j, u, v);
         j += 1;
     }
 }

@@ -9,9 +9,9 @@ use Rattle.built_coefficients.proofs.Shapes.{forward-shape}
 use Rattle.definitions.specs.declared.Band.{Band}
 use Rattle.definitions.specs.Pixel.{weightsOf}
 use Rattle.definitions.specs.Bands.{bandImage, Sharpened}
-use Rattle.sharpen_row.specs.declared.tables.Conversion.{Conversion}
-use Rattle.sharpen_row.specs.Weights.{Weighed}
-use Rattle.sharpen_row.specs.Tables.{Prepared}
+use Rattle.pixel_pairs.specs.declared.tables.Conversion.{Conversion}
+use Rattle.pixel_pairs.specs.Weights.{Weighed}
+use Rattle.pixel_pairs.specs.Tables.{Prepared}
 use Rattle.yuv_error.specs.Known.{Lent}
 use borrow.Author.Needs.{needs}
 use Rattle.band_planes.proofs.sharpen_band.Statement.{statement}

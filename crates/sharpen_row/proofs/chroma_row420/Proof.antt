@@ -5,8 +5,8 @@ use Prim.Native.Nat.{ℕ, _+_, _*_, _-_, _/_, _≤_, _<_}
 use native.Mathlib.Omega.{arith}
 use borrow.Author.Needs.{needs}
 use Rattle.definitions.specs.Row.{Pixels, pixelsOf, input420}
-use Rattle.sharpen_row.specs.Rows.{ChromaRoom, ChromaPainted}
-use Rattle.sharpen_row.proofs.Pairs.{row-of, pair-ready, over-ready, linears420-ready, colour420-is, chroma-none, chroma-room}
+use Rattle.pixel_pairs.specs.Rows.{ChromaRoom, ChromaPainted}
+use Rattle.pixel_pairs.proofs.Pairs.{row-of, pair-ready, over-ready, linears420-ready, colour420-is, chroma-none, chroma-room}
 use Rattle.sharpen_row.proofs.chroma_row420.Statement.{statement}
 use Rattle.sharpen_row.proofs.chroma_row420.Tie as tie
 

@@ -4,7 +4,7 @@ use mathlib.Core.Path.{_≡_, sym, _∙_}
 use native.Mathlib.Omega.{arith}
 use borrow.Author.Needs.{needs}
 use Rattle.definitions.specs.Image.{pixelSize}
-use Rattle.sharpen_row.proofs.Pairs.{begun420-none, begun-to, lent420}
+use Rattle.pixel_pairs.proofs.Pairs.{begun420-none, begun-to, lent420}
 use Rattle.sharpen_row.proofs.fours420.Statement.{statement}
 use Rattle.sharpen_row.proofs.fours420.Tie as tie
 

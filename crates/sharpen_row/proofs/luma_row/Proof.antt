@@ -7,8 +7,8 @@ use borrow.Author.Needs.{needs}
 use Rattle.definitions.specs.Painted.{Painted}
 use Rattle.definitions.specs.Row.{pixelsOf, lumaRow}
 use Rattle.definitions.proofs.Painted.{painted-none}
-use Rattle.sharpen_row.proofs.TwoRows.{painted-to, painted-pair}
-use Rattle.sharpen_row.proofs.Pairs.{row-of}
+use Rattle.pixel_pairs.proofs.TwoRows.{painted-to, painted-pair}
+use Rattle.pixel_pairs.proofs.Pairs.{row-of}
 use Rattle.sharpen_row.proofs.luma_row.Statement.{statement}
 use Rattle.sharpen_row.proofs.luma_row.Tie as tie
 
@@ -28,8 +28,13 @@ luma-pair-requires : tie.Need-luma-pair-requires Inv-loop μ-loop
 luma-pair-requires c κs =
     let turn = c .before in
     let l = turn .before .before in
-    let a = Start (l .before) in
-    (a .pre .0, (row-of (a .args .row .now) (l .before .pixel-size .ensures .0) (a .pre .1 .0), ((omega arith, omega (arith, turn .right-of .ensures)), omega (arith, a .pre .1 .1, l .loop .inv .1 .size))))
+    let a = Start (l .before) in (
+      a .pre .0,
+      (
+        row-of (a .args .row .now) (l .before .pixel-size .ensures .0) (a .pre .1 .0),
+        ((omega arith, omega (arith, turn .right-of .ensures)), omega (arith, a .pre .1 .1, l .loop .inv .1 .size)),
+      ),
+    )
 
 loop-again : tie.Need-loop-again Inv-loop μ-loop
 loop-again c =
@@ -37,8 +42,11 @@ loop-again c =
     let turn = pair .before .before in
     let l = turn .before .before in
     let a = Start (l .before) in
-    let next = turn .right-of .ensures in
-    (omega (arith, next), rw (pair .luma-pair .ensures .1) (painted-pair (turn .before .loop-test .taken) next (omega (arith, a .pre .1 .1, l .loop .inv .1 .size)) (l .loop .inv .1)))
+    let next = turn .right-of .ensures in (
+      omega (arith, next),
+      rw (pair .luma-pair .ensures .1) (painted-pair (turn .before .loop-test .taken) next
+          (omega (arith, a .pre .1 .1, l .loop .inv .1 .size)) (l .loop .inv .1)),
+    )
 
 add-x : tie.Need-add-x Inv-loop μ-loop
 add-x c = omega (arith, c .before .before .before .before .right-of .ensures)
@@ -51,7 +59,8 @@ returns c =
     let l = c .before in
     let a = Start (l .before) .args in
     let end : l .loop .x ≡ a .rows .frame .width = omega arith in
-    subst (λ (n : ℕ). Painted (a .rows .frame .width) (lumaRow (a .rows .frame) (pixelsOf n (a .row .now))) (a .y .now) (l .loop .y)) (l .before .pixel-size .ensures .0) (painted-to end (l .loop .inv .1))
+    subst (λ (n : ℕ). Painted (a .rows .frame .width) (lumaRow (a .rows .frame) (pixelsOf n (a .row .now))) (a .y .now) (l .loop .y))
+    (l .before .pixel-size .ensures .0) (painted-to end (l .loop .inv .1))
 
 pub luma-row-spec : {M : Type 1} → statement M
 luma-row-spec =

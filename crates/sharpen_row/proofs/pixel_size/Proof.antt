@@ -2,7 +2,7 @@
 -- Assumes nothing.
 use native.Mathlib.Omega.{arith}
 use borrow.Author.Needs.{needs}
-use Rattle.sharpen_row.proofs.Weights.{count-range}
+use Rattle.pixel_pairs.proofs.Weights.{count-range}
 use Rattle.sharpen_row.proofs.pixel_size.Statement.{statement}
 use Rattle.sharpen_row.proofs.pixel_size.Tie as tie
 

@@ -5,8 +5,8 @@ use Prim.Native.Nat.{ℕ, _+_, _*_, _-_, _/_, _≤_}
 use native.Mathlib.Omega.{arith}
 use borrow.Author.Needs.{needs}
 use Rattle.definitions.specs.Image.{chromaSize}
-use Rattle.sharpen_row.specs.Rows.{LumasPainted, inputs420, InRow, Rows420, ChromaRoom, Begun420, Stepped}
-use Rattle.sharpen_row.proofs.Pairs.{lent420, rows-room, stepped-none, stepped-more}
+use Rattle.pixel_pairs.specs.Rows.{LumasPainted, inputs420, InRow, Rows420, ChromaRoom, Begun420, Stepped}
+use Rattle.pixel_pairs.proofs.Pairs.{lent420, rows-room, stepped-none, stepped-more}
 use Rattle.sharpen_row.proofs.rest420.Statement.{statement}
 use Rattle.sharpen_row.proofs.rest420.Tie as tie
 

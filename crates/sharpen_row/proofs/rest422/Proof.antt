@@ -5,8 +5,8 @@ use Prim.Native.Nat.{ℕ, _+_, _*_, _-_, _/_, _≤_}
 use native.Mathlib.Omega.{arith}
 use borrow.Author.Needs.{needs}
 use Rattle.definitions.specs.Image.{chromaSize}
-use Rattle.sharpen_row.specs.Rows.{Lumas422, inputs422, InRow, Row422, ChromaRoom, Begun422, Stepped}
-use Rattle.sharpen_row.proofs.Pairs.{lent422, row-room, stepped-none, stepped-more}
+use Rattle.pixel_pairs.specs.Rows.{Lumas422, inputs422, InRow, Row422, ChromaRoom, Begun422, Stepped}
+use Rattle.pixel_pairs.proofs.Pairs.{lent422, row-room, stepped-none, stepped-more}
 use Rattle.sharpen_row.proofs.rest422.Statement.{statement}
 use Rattle.sharpen_row.proofs.rest422.Tie as tie
 

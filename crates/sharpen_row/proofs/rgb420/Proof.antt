@@ -3,8 +3,8 @@
 use Prim.Native.Nat.{_*_, _-_, _≤_}
 use native.Mathlib.Omega.{arith}
 use borrow.Author.Needs.{needs}
-use Rattle.sharpen_row.specs.Rows.{LumasPainted, inputs420, Begun420}
-use Rattle.sharpen_row.proofs.Pairs.{begun420-none, rows-room, begun-to, begun-more}
+use Rattle.pixel_pairs.specs.Rows.{LumasPainted, inputs420, Begun420}
+use Rattle.pixel_pairs.proofs.Pairs.{begun420-none, rows-room, begun-to, begun-more}
 use Rattle.sharpen_row.proofs.rgb420.Statement.{statement}
 use Rattle.sharpen_row.proofs.rgb420.Tie as tie
 

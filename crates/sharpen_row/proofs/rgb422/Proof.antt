@@ -3,8 +3,8 @@
 use Prim.Native.Nat.{_*_, _-_, _≤_}
 use native.Mathlib.Omega.{arith}
 use borrow.Author.Needs.{needs}
-use Rattle.sharpen_row.specs.Rows.{Lumas422, inputs422, Begun422}
-use Rattle.sharpen_row.proofs.Pairs.{begun422-none, row-room, begun-to, begun-more}
+use Rattle.pixel_pairs.specs.Rows.{Lumas422, inputs422, Begun422}
+use Rattle.pixel_pairs.proofs.Pairs.{begun422-none, row-room, begun-to, begun-more}
 use Rattle.sharpen_row.proofs.rgb422.Statement.{statement}
 use Rattle.sharpen_row.proofs.rgb422.Tie as tie
 

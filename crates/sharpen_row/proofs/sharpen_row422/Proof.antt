@@ -1,7 +1,7 @@
 -- `sharpen_row422` meets its contract: pixels in fours, and the rest.
 -- Assumes nothing.
 use borrow.Author.Needs.{needs}
-use Rattle.sharpen_row.proofs.Pairs.{lent422-kept, written422}
+use Rattle.pixel_pairs.proofs.Pairs.{lent422-kept, written422}
 use Rattle.sharpen_row.proofs.sharpen_row422.Statement.{statement}
 use Rattle.sharpen_row.proofs.sharpen_row422.Tie as tie
 

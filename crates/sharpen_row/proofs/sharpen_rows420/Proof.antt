@@ -1,7 +1,7 @@
 -- `sharpen_rows420` meets its contract: pixels in fours, and the rest.
 -- Assumes nothing.
 use borrow.Author.Needs.{needs}
-use Rattle.sharpen_row.proofs.Pairs.{lent420-kept, written420}
+use Rattle.pixel_pairs.proofs.Pairs.{lent420-kept, written420}
 use Rattle.sharpen_row.proofs.sharpen_rows420.Statement.{statement}
 use Rattle.sharpen_row.proofs.sharpen_rows420.Tie as tie
 

@@ -1,6 +1,0 @@
--- Laws that the proofs of several functions cite.
-pub mod TwoRows
-pub mod Signed
-pub mod Weights
-pub mod Entries
-pub mod Pairs
