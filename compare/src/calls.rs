@@ -112,7 +112,7 @@ fn some_padding(random: &mut Random) -> [u32; 4] {
     })
 }
 
-/// Document 01, "Frames and entries worked out": those that are frames.
+/// The worked lines of the request that are frames.
 fn worked_lines() -> Vec<Call> {
     use YuvChromaSubsampling::{Yuv420, Yuv422};
     let with = |sampling, range| Settings {
@@ -182,6 +182,12 @@ fn mistakes() -> Vec<Call> {
                     let mut half = || (4 * random.from(0, 2_047) + 1) as f32 / 16_384.0;
                     settings.range = YuvRange::Full;
                     settings.matrix = YuvStandardMatrix::Custom(half(), half());
+                }
+                Mistake::TiesUp | Mistake::BlueBeforeRed => {
+                    // 1 − kr is a tie. The weight of green is 4,805, and 4,806 by either mistake.
+                    let (kr, kb) = (f32::from_bits(0x3e40_ea16), f32::from_bits(0x3e03_a7ad));
+                    settings.range = YuvRange::Limited;
+                    settings.matrix = YuvStandardMatrix::Custom(kr, kb);
                 }
                 _ => settings.sampling = YuvChromaSubsampling::Yuv420,
             }

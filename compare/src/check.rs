@@ -172,13 +172,13 @@ impl FrameRequest {
         let [source, y, u, v] = &mut after.lent;
         let call = || oracle::exact::frame(&self.frame, source, y, u, v);
         match catch_unwind(AssertUnwindSafe(call)) {
-            Ok(Err(error)) => Err(format!("document 01 answers 12, the Rust {error:?}")),
+            Ok(Err(error)) => Err(format!("the rules answer 12, the Rust {error:?}")),
             _ => Ok(()),
         }
     }
 }
 
-/// Document 01, "Bands": the chroma rows finished after n rows.
+/// RULES 8.6: the chroma rows finished after n rows.
 fn finished(sampling: YuvChromaSubsampling, h: u32, n: u32) -> u64 {
     match sampling {
         YuvChromaSubsampling::Yuv420 if n < h => u64::from(n / 2),
@@ -204,7 +204,7 @@ fn put_rows(
     }
 }
 
-/// Document 01, "Bands": stores the last row of a band that ends before row `end`, where it must.
+/// RULES 8.8: stores the last row of a band that ends before row `end`, where it must.
 fn store_row(carried: &mut [u8], state: &FrameState, end: u32, last: &[u8]) {
     let even = (end - 1).is_multiple_of(2);
     if state.settings.sampling == YuvChromaSubsampling::Yuv420 && even && end < state.h {
@@ -271,7 +271,7 @@ impl BandRequest {
 impl Case for BandRequest {
     /// One call, on any state: its answer is that of the list of conditions; refused, it changes
     /// nothing; accepted, it writes the rows it finishes as the oracle's whole frame has them,
-    /// the carried row as document 01 says, and no other byte.
+    /// the carried row as RULES 8.8 says, and no other byte.
     fn check(&self, converters: &Converters) -> Result<u8, String> {
         let should = conditions::of_band(self);
         let mut result = self.clone();

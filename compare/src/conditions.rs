@@ -1,4 +1,4 @@
-//! Document 01, "The call arrives", once more and apart from the model: all conditions of a call
+//! RULES 7.1 and on, once more and apart from the model: all conditions of a call
 //! as a list, of which the lowest that holds is answered. It judges the answers where the Rust
 //! has no such refusal.
 

@@ -3,13 +3,13 @@
 use crate::request::BandRequest;
 use model::{Answer, Frame, FrameState, Refusal, Settings};
 
-/// A converter of document 01. To compare one more, implement this for it and add it to
+/// A converter by the rules. To compare one more, implement this for it and add it to
 /// `converters`.
 pub trait Converter {
     fn name(&self) -> &'static str;
 
     /// Whether it has the refusal of this number (0: whether it converts what is accepted). It is
-    /// asked only where document 01 answers with one that it has.
+    /// asked only where the rules answer with one that it has.
     fn has(&self, number: u8) -> bool;
 
     fn frame(
@@ -107,7 +107,7 @@ impl Converter for Oracle {
         "oracle"
     }
 
-    /// Document 01: "Added by us: band calls, a program, refusals 1, 3, 4, 5, 12, 13."
+    /// Added to the Rust: band calls, a program, refusals 1, 3, 4, 5, 12, 13.
     fn has(&self, number: u8) -> bool {
         matches!(number, 0 | 2 | 6..=11)
     }

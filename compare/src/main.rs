@@ -1,4 +1,4 @@
-//! Compares the model of document 01, the oracle, which is the Rust over the exact tables, the linked
+//! Compares the model of the rules, the oracle, which is the Rust over the exact tables, the linked
 //! library and the built program on random requests. Exit status 1 where anything differs.
 
 mod bands;
@@ -128,7 +128,7 @@ fn main() {
         .collect();
     println!("comparing {} with seed {}", names.join(", "), options.seed);
     match worked::check(&converters) {
-        Ok(held) => println!("worked lines of document 01: {held} facts hold"),
+        Ok(held) => println!("worked lines: {held} facts hold"),
         Err(wrong) => {
             println!("{}", wrong.join("\n"));
             exit(1);

@@ -1,4 +1,4 @@
-//! Document 01, "Mistakes near at hand": a converter of accepted frames that can make each of
+//! Mistakes near at hand: a converter of accepted frames that can make each of
 //! them, so that a list of calls can be held to catch them. With none it converts as the model.
 
 use crate::request::{FrameRequest, Lent};
@@ -20,13 +20,15 @@ pub enum Mistake {
     /// The weight of this channel (r, g, b) in luma is 8,192 less the other two.
     SumOf8192(usize),
     HalvesToEven,
+    TiesUp,
+    BlueBeforeRed,
 }
 
 use Mistake::*;
 
-/// All of them in the words of document 01, a mistake that can be made in several places in each
-/// of them; and one of "The matrix".
-pub const MISTAKES: [(Mistake, &str); 11] = [
+/// All of them in the words of the request, a mistake that can be made in several places in each
+/// of them; and three of the weights that are worked out.
+pub const MISTAKES: [(Mistake, &str); 13] = [
     (BothRounded, "curve entries rounded, both tables"),
     (LinearRounded, "curve entries rounded, linear table"),
     (GammaRounded, "curve entries rounded, gamma table"),
@@ -47,6 +49,8 @@ pub const MISTAKES: [(Mistake, &str); 11] = [
         "stored weights taken to add to 8,192, by blue",
     ),
     (HalvesToEven, "a Custom weight's half rounded to even"),
+    (TiesUp, "a binary32 tie of Custom rounded up, not to even"),
+    (BlueBeforeRed, "Custom's kg as (1 − kb) − kr"),
 ];
 
 struct Rules {
@@ -116,8 +120,9 @@ impl Rules {
         if let (SumOf8192(channel), true) = (mistake, full_and_stored(settings)) {
             weights.y[channel] -= weights.y.iter().sum::<i64>() - 8_192;
         }
-        if let (HalvesToEven, YuvStandardMatrix::Custom(kr, kb)) = (mistake, settings.matrix) {
-            weights = rounded_to_even(kr, kb, settings.range);
+        let of_weights = matches!(mistake, HalvesToEven | TiesUp | BlueBeforeRed);
+        if let (true, YuvStandardMatrix::Custom(kr, kb)) = (of_weights, settings.matrix) {
+            weights = custom_weights(mistake, kr, kb, settings.range);
         }
         let linear = match mistake {
             LinearRounded | BothRounded => rounded_linear(transfer),
@@ -189,14 +194,29 @@ fn full_and_stored(settings: &model::Settings) -> bool {
     stored && settings.range == YuvRange::Full
 }
 
-/// The weights of a Custom pair, in f32 as document 01 has them, halves rounded to even.
-fn rounded_to_even(kr: f32, kb: f32, range: YuvRange) -> Weights {
+/// The weights of a Custom pair by the steps of RULES 4.4, 4.5, with one mistake in them.
+fn custom_weights(mistake: Mistake, kr: f32, kb: f32, range: YuvRange) -> Weights {
     let (range_y, range_uv) = (f32::from(range.range_y()), f32::from(range.range_uv()));
-    let kg = 1f32 - kr - kb;
-    let y = |k: f32| k * range_y / 255f32;
-    let uv = |k: f32, own: f32| -0.5f32 * k / (1f32 - own) * range_uv / 255f32;
-    let own = 0.5f32 * range_uv / 255f32;
-    let whole = |triple: [f32; 3]| triple.map(|x| (x * 8_192f32).round_ties_even() as i64);
+    let step = |exact: f64| kept(mistake, exact);
+    let minus = |a: f32, b: f32| step(f64::from(a) - f64::from(b));
+    let times = |a: f32, b: f32| step(f64::from(a) * f64::from(b));
+    let over = |a: f32, b: f32| step(f64::from(a) / f64::from(b));
+    let kg = match mistake {
+        BlueBeforeRed => minus(minus(1.0, kb), kr),
+        _ => minus(minus(1.0, kr), kb),
+    };
+    let y = |k: f32| over(times(k, range_y), 255.0);
+    let uv = |k: f32, own: f32| {
+        let quotient = over(times(-0.5, k), minus(1.0, own));
+        over(times(quotient, range_uv), 255.0)
+    };
+    let own = over(times(0.5, range_uv), 255.0);
+    let whole = |triple: [f32; 3]| {
+        triple.map(|x| match mistake {
+            HalvesToEven => times(x, 8_192.0).round_ties_even() as i64,
+            _ => times(x, 8_192.0).round() as i64,
+        })
+    };
     Weights {
         y: whole([y(kr), y(kg), y(kb)]),
         cb: whole([uv(kr, kb), uv(kg, kb), own]),
@@ -204,7 +224,20 @@ fn rounded_to_even(kr: f32, kb: f32, range: YuvRange) -> Weights {
     }
 }
 
-/// Document 01, "The curves": slope, break, offset, scale and power of a transfer.
+/// The result of one step as a binary32 number. One operation on two of them leaves, in 53 digits,
+/// no doubt which is the nearest, and whether two are.
+fn kept(mistake: Mistake, exact: f64) -> f32 {
+    let near = exact as f32;
+    let next = if exact < 0.0 {
+        near.next_down()
+    } else {
+        near.next_up()
+    };
+    let tie = f64::from(next) - exact == exact - f64::from(near);
+    if mistake == TiesUp && tie { next } else { near }
+}
+
+/// RULES 3.1: slope, break, offset, scale and power of a transfer.
 fn curve(transfer: SharpYuvGammaTransfer) -> [f64; 5] {
     match transfer {
         SharpYuvGammaTransfer::Srgb => [12.92, 0.0030412825, 0.055010717, 1.0550107, 2.4],

@@ -119,7 +119,7 @@ pub fn hex(bytes: &[u8]) -> String {
     })
 }
 
-/// channels sampling range matrix transfer, in the codes of document 01, "The program"; Custom is
+/// channels sampling range matrix transfer, in the codes of RULES 1.2; Custom is
 /// 6 with the bits of kr and kb.
 fn settings_text(settings: &Settings) -> String {
     let channels = match settings.channels {

@@ -1,4 +1,4 @@
-//! Document 01, "Frames and entries worked out", in the model and, where it can answer, in the
+//! The worked lines of the request, in the model and, where it can answer, in the
 //! oracle.
 
 use crate::check::{Converters, frame_of};
