@@ -1,0 +1,160 @@
+/*
+ * Conversion of 8-bit RGB frames to Y, U and V planes, as docs/RULES.md states it.
+ *
+ * Whole numbers only: kr and kb are handed over by their bits, and no floating-point type is used. Nothing is allocated and
+ * nothing is kept between calls: the caller owns the tables, the buffers and the state of a frame that comes in bands.
+ */
+#ifndef REFERENCE_H
+#define REFERENCE_H
+
+#include <stdint.h>
+
+/* RULES 1.2: codes of the settings. */
+enum {
+    REFERENCE_RGB = 0,
+    REFERENCE_RGBA = 1,
+    REFERENCE_BGRA = 2,
+    REFERENCE_BGR = 3,
+    REFERENCE_CHANNEL_ORDERS = 4
+};
+
+enum {
+    REFERENCE_420 = 0,
+    REFERENCE_422 = 1,
+    REFERENCE_SAMPLINGS = 2
+};
+
+enum {
+    REFERENCE_LIMITED = 0,
+    REFERENCE_FULL = 1,
+    REFERENCE_RANGES = 2
+};
+
+enum {
+    REFERENCE_BT601 = 0,
+    REFERENCE_BT709 = 1,
+    REFERENCE_BT2020 = 2,
+    REFERENCE_SMPTE240 = 3,
+    REFERENCE_BT470_6 = 4,
+    REFERENCE_FCC = 5,
+    REFERENCE_CUSTOM = 6,
+    REFERENCE_MATRICES = 7
+};
+
+enum {
+    REFERENCE_SRGB = 0,
+    REFERENCE_REC709 = 1,
+    REFERENCE_GAMMA2P2 = 2,
+    REFERENCE_GAMMA2P8 = 3,
+    REFERENCE_TRANSFERS = 4
+};
+
+/* RULES 7.1: numbers of an answer. */
+enum {
+    REFERENCE_ACCEPTED = 0,
+    REFERENCE_BAD_CODE = 1,      /* RULES 9.2, 10.2 */
+    REFERENCE_EMPTY = 2,         /* RULES 7.3 */
+    REFERENCE_TOO_LARGE = 3,     /* RULES 7.3 */
+    REFERENCE_BAD_MATRIX = 4,    /* RULES 7.4 */
+    REFERENCE_BAD_ROWS = 5,      /* RULES 8.3 */
+    REFERENCE_SOURCE_LENGTH = 6, /* RULES 7.5 */
+    REFERENCE_SOURCE_STRIDE = 7, /* RULES 7.5 */
+    REFERENCE_Y_STRIDE = 8,      /* RULES 7.6 */
+    REFERENCE_Y_LENGTH = 9,      /* RULES 7.6 */
+    REFERENCE_BAD_U = 10,        /* RULES 7.6 */
+    REFERENCE_BAD_V = 11,        /* RULES 7.6 */
+    REFERENCE_NOT_WHOLE = 12,    /* RULES 7.7 */
+    REFERENCE_SHORT_CARRIED = 13 /* RULES 8.4 */
+};
+
+/* RULES 7.3: largest width and height. */
+#define REFERENCE_LARGEST_SIDE 16384u
+
+/* RULES 3.4, 3.5: both tables of each transfer, by its code. */
+struct reference_tables {
+    uint16_t linear[REFERENCE_TRANSFERS][256];
+    uint8_t gamma[REFERENCE_TRANSFERS][65536];
+};
+
+/* RULES 2.1, 10.1: all that is known of a frame before its pixels. */
+struct reference_description {
+    uint32_t width;
+    uint32_t height;
+    uint32_t channel_order;
+    uint32_t sampling;
+    uint32_t range;
+    uint32_t matrix;
+    uint32_t kr_bits; /* binary32 bits; looked at where the matrix is Custom only */
+    uint32_t kb_bits;
+    uint32_t transfer;
+    uint32_t y_stride;
+    uint32_t u_stride;
+    uint32_t v_stride;
+};
+
+/* RULES 2.1: rows of pixels, which are only read. */
+struct reference_source {
+    const uint8_t *bytes;
+    uint64_t length;
+    uint32_t stride;
+};
+
+/* RULES 2.1, 8.2: a buffer that a call may write. It must not overlap another buffer of the call: the rules say nothing of those. */
+struct reference_buffer {
+    uint8_t *bytes;
+    uint64_t length;
+};
+
+/* RULES 2.1: planes of the whole frame; their strides stand in the description. */
+struct reference_planes {
+    struct reference_buffer y;
+    struct reference_buffer u;
+    struct reference_buffer v;
+};
+
+/* RULES 8.1: what goes from one band call to the next. */
+struct reference_state {
+    struct reference_description frame;
+    uint32_t rows_done;
+};
+
+/* RULES 7.1: number 0 is finished work, any other a refusal. */
+struct reference_answer {
+    uint32_t number;
+    uint64_t expected;
+    uint64_t received;
+};
+
+/* RULES 4.1: weights in units of 1 / 8,192; red, green, blue of each. */
+struct reference_weights {
+    int32_t luma[3];
+    int32_t cb[3];
+    int32_t cr[3];
+};
+
+/* RULES 1.3: bytes of a pixel, for a code that has a value. */
+uint32_t reference_pixel_bytes(uint32_t channel_order);
+
+/* RULES 1.5: size of a chroma plane. */
+uint32_t reference_chroma_width(uint32_t width);
+uint32_t reference_chroma_height(uint32_t height, uint32_t sampling);
+
+/* RULES 3.4, 3.5: makes all tables. Once, before the first frame or band call. */
+void reference_make_tables(struct reference_tables *tables);
+
+/* RULES 4.1 to 4.5: weights of an accepted matrix and range. */
+void reference_make_weights(const struct reference_description *frame, struct reference_weights *weights);
+
+/* RULES 7.8: converts a whole frame. Settings are numbers here, so it asks 1 first, as the two below do (RULES 7.1, 10.2). */
+struct reference_answer reference_frame(const struct reference_tables *tables, const struct reference_description *frame,
+                                        const struct reference_source *source, const struct reference_planes *planes);
+
+/* RULES 8.1: starts a frame that comes in bands. Accepted or refused, the state has the description and 0 rows done. */
+struct reference_answer reference_open(const struct reference_description *frame, struct reference_state *state);
+
+/* RULES 8.2, 8.5: converts one band. A refusal leaves the state, the planes and the carried row as they were. */
+struct reference_answer reference_band(const struct reference_tables *tables, struct reference_state *state, uint32_t rows,
+                                       const struct reference_source *source, const struct reference_planes *planes,
+                                       const struct reference_buffer *carried);
+
+#endif

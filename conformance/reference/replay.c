@@ -1,0 +1,247 @@
+/*
+ * Replays a stored list of calls: `replay frames` or `replay bands`, the list on standard input, a line for each call on
+ * standard output, both as vectors/README.md describes them: LISTS in the comments below.
+ */
+#include "digest.h"
+#include "reference.h"
+
+#include <stdio.h>
+#include <stdlib.h>
+#include <string.h>
+
+/* LISTS: the planes and the carried row of a sequence. */
+enum { KEPT_BYTES = 256 };
+
+static struct reference_tables tables;
+
+/* Ends the program: the list is not of the form, or there is no memory for it. */
+static void fail(const char *why)
+{
+    fflush(stdout);
+    fprintf(stderr, "replay: %s\n", why);
+    exit(EXIT_FAILURE);
+}
+
+/* A block of bytes that is always a valid address, also for length 0. */
+static uint8_t *allocate(uint32_t length)
+{
+    uint8_t *bytes = malloc((size_t)length + 1);
+
+    if (bytes == NULL) {
+        fail("no memory");
+    }
+    return bytes;
+}
+
+/* LISTS: the next bytes of the list. */
+static void read_bytes(uint8_t *bytes, uint32_t length)
+{
+    if (fread(bytes, 1, length, stdin) != length) {
+        fail("the list ends early");
+    }
+}
+
+/* LISTS: a number of four bytes, low byte first. */
+static uint32_t read_number(void)
+{
+    uint8_t bytes[4];
+
+    read_bytes(bytes, 4);
+    return bytes[0] | (uint32_t)bytes[1] << 8 | (uint32_t)bytes[2] << 16 | (uint32_t)bytes[3] << 24;
+}
+
+/* LISTS: a description; its numbers stand in this order. */
+static void read_description(struct reference_description *frame)
+{
+    frame->width = read_number();
+    frame->height = read_number();
+    frame->channel_order = read_number();
+    frame->sampling = read_number();
+    frame->range = read_number();
+    frame->matrix = read_number();
+    frame->kr_bits = read_number();
+    frame->kb_bits = read_number();
+    frame->transfer = read_number();
+    frame->y_stride = read_number();
+    frame->u_stride = read_number();
+    frame->v_stride = read_number();
+}
+
+/* LISTS: fills a buffer from the next block; byte i is byte i mod n of the block, which is empty for an empty buffer only. */
+static void read_block(uint8_t *buffer, uint32_t length)
+{
+    uint32_t n = read_number();
+    uint8_t *block = allocate(n);
+    uint32_t i;
+
+    read_bytes(block, n);
+    if (n == 0 && length > 0) {
+        fail("an empty block for a buffer that has bytes");
+    }
+    for (i = 0; i < length; i++) {
+        buffer[i] = block[i % n];
+    }
+    free(block);
+}
+
+/* LISTS: a writable buffer of the given length, filled from the next block. */
+static struct reference_buffer read_buffer(uint32_t length)
+{
+    struct reference_buffer buffer;
+
+    buffer.bytes = allocate(length);
+    buffer.length = length;
+    read_block(buffer.bytes, length);
+    return buffer;
+}
+
+/* LISTS: number, expected and received of a call. */
+static void print_answer(const struct reference_answer *answer)
+{
+    printf(" %llu %llu %llu", (unsigned long long)answer->number, (unsigned long long)answer->expected,
+           (unsigned long long)answer->received);
+}
+
+/* LISTS: the digest of a buffer, padding included. */
+static void print_digest(const char *name, const uint8_t *bytes, uint64_t length)
+{
+    printf(" %s=%08lx", name, (unsigned long)digest(bytes, (size_t)length));
+}
+
+/* LISTS: a frame call and its line (RULES 7.8). */
+static void replay_frame(uint32_t line)
+{
+    uint32_t lengths[4];
+    struct reference_description frame;
+    struct reference_source source;
+    struct reference_buffer source_buffer;
+    struct reference_planes planes;
+    struct reference_answer answer;
+    unsigned buffer;
+
+    for (buffer = 0; buffer < 4; buffer++) {
+        lengths[buffer] = read_number();
+    }
+    read_description(&frame);
+    source.stride = read_number();
+    source_buffer = read_buffer(lengths[0]);
+    source.bytes = source_buffer.bytes;
+    source.length = source_buffer.length;
+    planes.y = read_buffer(lengths[1]);
+    planes.u = read_buffer(lengths[2]);
+    planes.v = read_buffer(lengths[3]);
+    answer = reference_frame(&tables, &frame, &source, &planes);
+    printf("%lu", (unsigned long)line);
+    print_answer(&answer);
+    print_digest("y", planes.y.bytes, planes.y.length);
+    print_digest("u", planes.u.bytes, planes.u.length);
+    print_digest("v", planes.v.bytes, planes.v.length);
+    printf("\n");
+    free(source_buffer.bytes);
+    free(planes.y.bytes);
+    free(planes.u.bytes);
+    free(planes.v.bytes);
+}
+
+/* LISTS: a buffer that lends its first bytes to a call, at most all of them. */
+static struct reference_buffer lend(uint8_t *kept, uint32_t length)
+{
+    struct reference_buffer buffer;
+
+    if (length > KEPT_BYTES) {
+        fail("a call is lent more bytes than there are");
+    }
+    buffer.bytes = kept;
+    buffer.length = length;
+    return buffer;
+}
+
+/* LISTS: a band call and its line (RULES 8.2). The state stands in the list and not in the call before. */
+static void replay_band(uint32_t line, uint32_t call, uint8_t kept[4][KEPT_BYTES])
+{
+    uint32_t source_length = read_number();
+    struct reference_state state;
+    struct reference_source source;
+    struct reference_buffer source_buffer;
+    struct reference_planes planes;
+    struct reference_buffer carried;
+    struct reference_answer answer;
+    uint32_t rows;
+
+    read_description(&state.frame);
+    state.rows_done = read_number();
+    rows = read_number();
+    source.stride = read_number();
+    planes.y = lend(kept[0], read_number());
+    planes.u = lend(kept[1], read_number());
+    planes.v = lend(kept[2], read_number());
+    carried = lend(kept[3], read_number());
+    source_buffer = read_buffer(source_length);
+    source.bytes = source_buffer.bytes;
+    source.length = source_buffer.length;
+    answer = reference_band(&tables, &state, rows, &source, &planes, &carried);
+    printf("%lu.%lu", (unsigned long)line, (unsigned long)call);
+    print_answer(&answer);
+    printf(" done=%lu", (unsigned long)state.rows_done);
+    print_digest("y", kept[0], KEPT_BYTES);
+    print_digest("u", kept[1], KEPT_BYTES);
+    print_digest("v", kept[2], KEPT_BYTES);
+    print_digest("carried", kept[3], KEPT_BYTES);
+    printf("\n");
+    free(source_buffer.bytes);
+}
+
+/* LISTS: a sequence, its opening (RULES 8.1) and its band calls. */
+static void replay_sequence(uint32_t line)
+{
+    struct reference_description frame;
+    struct reference_state state;
+    struct reference_answer answer;
+    uint8_t kept[4][KEPT_BYTES];
+    uint32_t calls;
+    uint32_t call;
+    unsigned buffer;
+
+    read_description(&frame);
+    for (buffer = 0; buffer < 4; buffer++) {
+        read_block(kept[buffer], KEPT_BYTES);
+    }
+    calls = read_number();
+    answer = reference_open(&frame, &state);
+    printf("%lu", (unsigned long)line);
+    print_answer(&answer);
+    printf(" done=%lu\n", (unsigned long)state.rows_done); /* RULES 8.1: 0, also where it is refused */
+    for (call = 1; call <= calls; call++) {
+        replay_band(line, call, kept);
+    }
+}
+
+/* LISTS: how many calls or sequences there are, and these; lines count from 1. */
+int main(int count, char **arguments)
+{
+    int bands;
+    uint32_t calls;
+    uint32_t line;
+
+    if (count != 2 || (strcmp(arguments[1], "frames") != 0 && strcmp(arguments[1], "bands") != 0)) {
+        fputs("usage: replay frames|bands < list\n", stderr);
+        return EXIT_FAILURE;
+    }
+    bands = strcmp(arguments[1], "bands") == 0;
+    reference_make_tables(&tables);
+    calls = read_number();
+    for (line = 1; line <= calls; line++) {
+        if (bands) {
+            replay_sequence(line);
+        } else {
+            replay_frame(line);
+        }
+    }
+    if (fgetc(stdin) != EOF) {
+        fail("bytes follow the list");
+    }
+    if (fflush(stdout) != 0 || ferror(stdout)) {
+        fail("standard output cannot be written");
+    }
+    return EXIT_SUCCESS;
+}

@@ -1,0 +1,999 @@
+/*
+ * Worked examples of docs/RULES.md, held against the converter. The converter's source is included, so that single steps can be
+ * asked too. Prints each example that differs, and ends with a count.
+ */
+#include "reference.c"
+
+#include "digest.h"
+
+#include <stdio.h>
+#include <stdlib.h>
+#include <string.h>
+
+static struct reference_tables tables;
+static unsigned long asked;
+static unsigned long differing;
+
+/* Counts one comparison and prints it where it differs. */
+static void expect(const char *rule, long place, long long wanted, long long got)
+{
+    asked++;
+    if (wanted != got) {
+        differing++;
+        printf("RULES %s, %ld: expected %lld, got %lld\n", rule, place, wanted, got);
+    }
+}
+
+/* Compares bytes one by one. */
+static void expect_bytes(const char *rule, const uint8_t *wanted, const uint8_t *got, size_t length)
+{
+    size_t place;
+
+    for (place = 0; place < length; place++) {
+        expect(rule, (long)place, wanted[place], got[place]);
+    }
+}
+
+/* Compares an answer. */
+static void expect_answer(const char *rule, long place, uint32_t number, uint64_t expected, uint64_t received,
+                          struct reference_answer got)
+{
+    expect(rule, place, number, got.number);
+    expect(rule, place, (long long)expected, (long long)got.expected);
+    expect(rule, place, (long long)received, (long long)got.received);
+}
+
+/* A description without Custom and with plane strides. */
+static struct reference_description describe(uint32_t width, uint32_t height, uint32_t order, uint32_t sampling, uint32_t range,
+                                             uint32_t matrix, uint32_t transfer, const uint32_t *strides)
+{
+    struct reference_description frame;
+
+    frame.width = width;
+    frame.height = height;
+    frame.channel_order = order;
+    frame.sampling = sampling;
+    frame.range = range;
+    frame.matrix = matrix;
+    frame.kr_bits = 0;
+    frame.kb_bits = 0;
+    frame.transfer = transfer;
+    frame.y_stride = strides[0];
+    frame.u_stride = strides[1];
+    frame.v_stride = strides[2];
+    return frame;
+}
+
+/* Leading digits and count of digits of a big number, as the examples of 3.4 and 3.5 print them. */
+static void expect_digits(const char *rule, long place, const char *leading, size_t count, struct big number)
+{
+    char digits[400];
+    size_t length = 0;
+    int rest_is_zero = 0;
+    size_t i;
+
+    while (!rest_is_zero) {
+        uint32_t rest = 0;
+
+        rest_is_zero = 1;
+        for (i = BIG_LIMBS; i > 0; i--) {
+            uint32_t part = rest * 65536u + number.limbs[i - 1];
+
+            number.limbs[i - 1] = (uint16_t)(part / 10u);
+            rest = part % 10u;
+            if (number.limbs[i - 1] != 0) {
+                rest_is_zero = 0;
+            }
+        }
+        digits[length] = (char)('0' + (int)rest);
+        length++;
+    }
+    expect(rule, place, (long long)count, (long long)length);
+    for (i = 0; i < strlen(leading); i++) {
+        expect(rule, place, leading[i], digits[length - 1 - i]);
+    }
+}
+
+/* RULES 1.1, 1.5. */
+static void test_numbers(void)
+{
+    expect("1.1", 1, 0, floor_8192(8191));
+    expect("1.1", 2, 1, floor_8192(8192));
+    expect("1.1", 3, -1, floor_8192(-1));
+    expect("1.1", 4, -1, floor_8192(-8192));
+    expect("1.1", 5, -2, floor_8192(-8193));
+    expect("1.1", 6, -128, floor_8192(-1044480));
+    expect("1.5", 1, 960, reference_chroma_width(1920));
+    expect("1.5", 1, 540, reference_chroma_height(1080, REFERENCE_420));
+    expect("1.5", 1, 1080, reference_chroma_height(1080, REFERENCE_422));
+    expect("1.5", 2, 2, reference_chroma_width(3));
+    expect("1.5", 2, 2, reference_chroma_height(3, REFERENCE_420));
+    expect("1.5", 2, 3, reference_chroma_height(3, REFERENCE_422));
+    expect("1.5", 3, 1, reference_chroma_width(1));
+    expect("1.5", 3, 1, reference_chroma_height(1, REFERENCE_420));
+    expect("1.5", 4, 8192, reference_chroma_height(16383, REFERENCE_420));
+}
+
+/* RULES 3.2 to 3.5: tests of the straight parts, sides of comparisons, entries. */
+static void test_curves(void)
+{
+    static const struct {
+        unsigned transfer;
+        unsigned v;
+        unsigned n;
+        size_t digits;
+        const char *left;
+        const char *left_next;
+        const char *right;
+    } curved[] = {
+        {REFERENCE_SRGB, 160, 23037, 171, "932597288456", "932799718950", "932798991120"},
+        {REFERENCE_GAMMA2P2, 254, 64970, 161, "343167632545", "343194043057", "343192194397"},
+        {REFERENCE_GAMMA2P8, 205, 35568, 197, "279807758773", "279847095184", "279846947186"},
+    };
+    static const struct {
+        unsigned transfer;
+        unsigned i;
+        unsigned m;
+        size_t digits;
+        const char *left;
+        const char *left_next;
+        const char *right;
+    } inverse[] = {
+        {REFERENCE_SRGB, 200, 10, 161, "447630892777", "730171105455", "459954121917"},
+        {REFERENCE_SRGB, 36863, 197, 172, "942846333547", "997880540321", "978403320947"},
+        {REFERENCE_GAMMA2P2, 22231, 155, 159, "149973731983", "160967092919", "160967047484"},
+    };
+    unsigned place;
+    unsigned v;
+
+    expect("3.2", 10, 1, byte_is_straight(&transfers[REFERENCE_SRGB], 10));
+    expect("3.2", 11, 0, byte_is_straight(&transfers[REFERENCE_SRGB], 11));
+    expect("3.2", 20, 1, byte_is_straight(&transfers[REFERENCE_REC709], 20));
+    expect("3.2", 21, 0, byte_is_straight(&transfers[REFERENCE_REC709], 21));
+    for (v = 1; v < 255; v++) {
+        expect("3.2", (long)v, 0, byte_is_straight(&transfers[REFERENCE_GAMMA2P2], v));
+        expect("3.2", (long)v, 0, byte_is_straight(&transfers[REFERENCE_GAMMA2P8], v));
+    }
+    expect("3.3", 199, 1, linear_is_straight(&transfers[REFERENCE_SRGB], 199));
+    expect("3.3", 200, 0, linear_is_straight(&transfers[REFERENCE_SRGB], 200));
+    expect("3.3", 1183, 1, linear_is_straight(&transfers[REFERENCE_REC709], 1183));
+    expect("3.3", 1184, 0, linear_is_straight(&transfers[REFERENCE_REC709], 1184));
+
+    expect("3.4", 1, 19, tables.linear[REFERENCE_SRGB][1]);
+    expect("3.4", 10, 198, tables.linear[REFERENCE_SRGB][10]);
+    expect("3.4", 20, 1142, tables.linear[REFERENCE_REC709][20]);
+    expect("3.4", 255, 65535, tables.linear[REFERENCE_SRGB][255]);
+    expect("3.4", 11, 9, tables.gamma[REFERENCE_SRGB][tables.linear[REFERENCE_SRGB][10]]);
+    for (place = 0; place < sizeof curved / sizeof curved[0]; place++) {
+        const struct transfer *transfer = &transfers[curved[place].transfer];
+        struct big scale = big_times_power(big_one(), 255u * transfer->scale, transfer->up);
+        size_t digits = curved[place].digits;
+
+        expect_digits("3.4", (long)place, curved[place].left, digits, linear_power(transfer, &scale, curved[place].n));
+        expect_digits("3.4", (long)place, curved[place].left_next, digits, linear_power(transfer, &scale, curved[place].n + 1));
+        expect_digits("3.4", (long)place, curved[place].right, digits, byte_power(transfer, curved[place].v));
+        expect("3.4", (long)place, curved[place].n, tables.linear[curved[place].transfer][curved[place].v]);
+    }
+    expect("3.5", 198, 9, tables.gamma[REFERENCE_SRGB][198]);
+    expect("3.5", 199, 10, tables.gamma[REFERENCE_SRGB][199]);
+    expect("3.5", 514, 9, tables.gamma[REFERENCE_REC709][514]);
+    expect("3.5", 1142, 19, tables.gamma[REFERENCE_REC709][1142]);
+    expect("3.5", 1183, 20, tables.gamma[REFERENCE_REC709][1183]);
+    for (place = 0; place < sizeof inverse / sizeof inverse[0]; place++) {
+        const struct transfer *transfer = &transfers[inverse[place].transfer];
+        struct big scale = big_times_power(big_one(), 255u * transfer->scale, transfer->up);
+        size_t digits = inverse[place].digits;
+
+        expect_digits("3.5", (long)place, inverse[place].left, digits, byte_power(transfer, inverse[place].m));
+        expect_digits("3.5", (long)place, inverse[place].left_next, digits, byte_power(transfer, inverse[place].m + 1));
+        expect_digits("3.5", (long)place, inverse[place].right, digits, linear_power(transfer, &scale, inverse[place].i));
+        expect("3.5", (long)place, inverse[place].m, tables.gamma[inverse[place].transfer][inverse[place].i]);
+    }
+}
+
+/* RULES 3.4, 3.5: the longest number of any comparison has 972 bits, so the carry out of the highest limb is always 0. */
+static void test_longest(void)
+{
+    const struct transfer *transfer = &transfers[REFERENCE_REC709];
+    struct big scale = big_times_power(big_one(), 255u * transfer->scale, transfer->up);
+    struct big sides[2];
+    unsigned place;
+
+    sides[0] = linear_power(transfer, &scale, 65535);
+    sides[1] = byte_power(transfer, 255);
+    for (place = 0; place < 2; place++) {
+        expect("3.4", 61, 0, sides[place].limbs[61]);
+        expect("3.4", 60, 1, sides[place].limbs[60] >= 0x800u && sides[place].limbs[60] < 0x1000u);
+    }
+}
+
+/* RULES 3.5 by the letter: each entry is the largest m that passes and m + 1 does not. */
+static void test_every_gamma_entry(void)
+{
+    unsigned code;
+    uint32_t i;
+
+    for (code = 0; code < REFERENCE_TRANSFERS; code++) {
+        const struct transfer *transfer = &transfers[code];
+        struct big scale = big_times_power(big_one(), 255u * transfer->scale, transfer->up);
+        unsigned last = 256;
+        struct big passes = big_one();
+        struct big fails = big_one();
+        unsigned long wrong = 0;
+
+        for (i = 1; i < 65535; i++) {
+            unsigned m = tables.gamma[code][i];
+            struct big limit;
+
+            if (linear_is_straight(transfer, i)) {
+                continue;
+            }
+            if (m != last) {
+                passes = byte_power(transfer, m);
+                fails = byte_power(transfer, m + 1);
+                last = m;
+            }
+            limit = linear_power(transfer, &scale, i);
+            if (!big_not_above(&passes, &limit) || (m < 255 && big_not_above(&fails, &limit))) {
+                wrong++;
+            }
+        }
+        expect("3.5", (long)code, 0, (long long)wrong);
+    }
+}
+
+/* RULES, appendix B: checksums and sums of entries. */
+static void test_checksums(void)
+{
+    static const struct {
+        uint32_t linear;
+        uint32_t linear_sum;
+        uint32_t gamma;
+        uint32_t gamma_sum;
+    } wanted[REFERENCE_TRANSFERS] = {
+        {0xb51f1991u, 5217780, 0xdc6b2382u, 11493646},
+        {0xcc349c26u, 5729320, 0xefcb4552u, 10982108},
+        {0x83015d1du, 5254997, 0x64eb4ae6u, 11456429},
+        {0x9b0396aeu, 4430439, 0xa3929a3fu, 12280987},
+    };
+    unsigned code;
+    uint32_t entry;
+
+    for (code = 0; code < REFERENCE_TRANSFERS; code++) {
+        uint8_t bytes[512];
+        uint32_t linear_sum = 0;
+        uint32_t gamma_sum = 0;
+
+        for (entry = 0; entry < 256; entry++) {
+            uint16_t value = tables.linear[code][entry];
+
+            bytes[2 * entry] = (uint8_t)(value & 0xFFu);
+            bytes[2 * entry + 1] = (uint8_t)(value >> 8);
+            linear_sum += value;
+        }
+        for (entry = 0; entry < 65536; entry++) {
+            gamma_sum += tables.gamma[code][entry];
+        }
+        expect("B.0 linear", (long)code, wanted[code].linear, digest(bytes, sizeof bytes));
+        expect("B.0 linear sum", (long)code, wanted[code].linear_sum, linear_sum);
+        expect("B.0 gamma", (long)code, wanted[code].gamma, digest(tables.gamma[code], 65536));
+        expect("B.0 gamma sum", (long)code, wanted[code].gamma_sum, gamma_sum);
+    }
+}
+
+/* RULES 4.4: each step that the example prints. */
+static const struct {
+    char operation;
+    uint32_t a;
+    uint32_t b;
+    uint32_t result;
+} steps[] = {
+    {'-', 0x3F800000u, 0x3E99999Au, 0x3F333333u},
+    {'-', 0x3F333333u, 0x3DE147AEu, 0x3F170A3Du},
+    {'*', 0x3E99999Au, 0x435B0000u, 0x42836667u},
+    {'/', 0x42836667u, 0x437F0000u, 0x3E83EA51u},
+    {'*', 0x3F170A3Du, 0x435B0000u, 0x430135C2u},
+    {'/', 0x430135C2u, 0x437F0000u, 0x3F01B779u},
+    {'*', 0x3DE147AEu, 0x435B0000u, 0x41C0B852u},
+    {'/', 0x41C0B852u, 0x437F0000u, 0x3DC179CCu},
+    {'*', 0xBF000000u, 0x3E99999Au, 0xBE19999Au},
+    {'-', 0x3F800000u, 0x3DE147AEu, 0x3F63D70Au},
+    {'/', 0xBE19999Au, 0x3F63D70Au, 0xBE2C9593u},
+    {'*', 0xBE2C9593u, 0x43600000u, 0xC21702E1u},
+    {'/', 0xC21702E1u, 0x437F0000u, 0xBE179A7Bu},
+    {'*', 0xBF000000u, 0x3F170A3Du, 0xBE970A3Du},
+    {'-', 0x3F800000u, 0x3DE147AEu, 0x3F63D70Au},
+    {'/', 0xBE970A3Du, 0x3F63D70Au, 0xBEA9B536u},
+    {'*', 0xBEA9B536u, 0x43600000u, 0xC2947E8Fu},
+    {'/', 0xC2947E8Fu, 0x437F0000u, 0xBE9513A3u},
+    {'*', 0x3F000000u, 0x43600000u, 0x42E00000u},
+    {'/', 0x42E00000u, 0x437F0000u, 0x3EE0E0E1u},
+    {'*', 0x3F000000u, 0x43600000u, 0x42E00000u},
+    {'/', 0x42E00000u, 0x437F0000u, 0x3EE0E0E1u},
+    {'*', 0xBF000000u, 0x3F170A3Du, 0xBE970A3Du},
+    {'-', 0x3F800000u, 0x3E99999Au, 0x3F333333u},
+    {'/', 0xBE970A3Du, 0x3F333333u, 0xBED7C57Cu},
+    {'*', 0xBED7C57Cu, 0x43600000u, 0xC2BCCCCCu},
+    {'/', 0xC2BCCCCCu, 0x437F0000u, 0xBEBD8A56u},
+    {'*', 0xBF000000u, 0x3DE147AEu, 0xBD6147AEu},
+    {'-', 0x3F800000u, 0x3E99999Au, 0x3F333333u},
+    {'/', 0xBD6147AEu, 0x3F333333u, 0xBDA0EA0Fu},
+    {'*', 0xBDA0EA0Fu, 0x43600000u, 0xC18CCCCDu},
+    {'/', 0xC18CCCCDu, 0x437F0000u, 0xBD8D5A27u},
+    {'-', 0x3F800000u, 0x3C75C28Fu, 0x3F7C28F6u},
+    {'-', 0x3F7C28F6u, 0x3ECED917u, 0x3F14BC6Au},
+    {'*', 0xBF000000u, 0x3F14BC6Au, 0xBE94BC6Au},
+    {'-', 0x3F800000u, 0x3ECED917u, 0x3F189374u},
+    {'/', 0xBE94BC6Au, 0x3F189374u, 0xBEF98E9Bu},
+    {'*', 0xBEF98E9Bu, 0x43600000u, 0xC2DA5CC8u},
+    {'/', 0xC2DA5CC8u, 0x437F0000u, 0xBEDB3800u},
+};
+
+/* RULES 4.5: coefficient, its product with 8,192, and the weight. */
+static const struct {
+    uint32_t coefficient;
+    uint32_t product;
+    int32_t weight;
+} wholes[] = {
+    {0x3E83EA51u, 0x4503EA51u, 2111},
+    {0x3F01B779u, 0x4581B779u, 4151},
+    {0x3DC179CCu, 0x444179CCu, 774},
+    {0xBE179A7Bu, 0xC4979A7Bu, -1213},
+    {0xBE9513A3u, 0xC51513A3u, -2385},
+    {0x3EE0E0E1u, 0x4560E0E1u, 3598},
+    {0x3EE0E0E1u, 0x4560E0E1u, 3598},
+    {0xBEBD8A56u, 0xC53D8A56u, -3033},
+    {0xBD8D5A27u, 0xC40D5A27u, -565},
+    {0x3F000000u, 0x45800000u, 4096},
+    {0x3EFFF800u, 0x457FF800u, 4096},
+    {0x38800000u, 0x3F000000u, 1},
+    {0xBE800200u, 0xC5000200u, -2048},
+    {0xBE7FFC00u, 0xC4FFFC00u, -2048},
+    {0x3F000000u, 0x45800000u, 4096},
+    {0x3F000000u, 0x45800000u, 4096},
+    {0xBEFFF800u, 0xC57FF800u, -4096},
+    {0xB8800000u, 0xBF000000u, -1},
+    {0x3C28DA01u, 0x42A8DA01u, 84},
+    {0x3EFCD66Fu, 0x457CD66Fu, 4045},
+    {0x3EB59A77u, 0x45359A77u, 2906},
+    {0xBC131C0Cu, 0xC2931C0Cu, -74},
+    {0xBEDC4800u, 0xC55C4800u, -3525},
+    {0x3EE0E0E1u, 0x4560E0E1u, 3598},
+    {0x3EE0E0E1u, 0x4560E0E1u, 3598},
+    {0xBE82E028u, 0xC502E028u, -2094},
+    {0xBE3C0172u, 0xC4BC0172u, -1504},
+};
+
+/* RULES 4.2 to 4.5. */
+static void test_steps(void)
+{
+    size_t place;
+
+    for (place = 0; place < sizeof steps / sizeof steps[0]; place++) {
+        uint32_t got = steps[place].operation == '-' ? subtract(steps[place].a, steps[place].b)
+                       : steps[place].operation == '*' ? multiply(steps[place].a, steps[place].b)
+                                                       : divide(steps[place].a, steps[place].b);
+
+        expect("4.4", (long)place, steps[place].result, got);
+    }
+    for (place = 0; place < sizeof wholes / sizeof wholes[0]; place++) {
+        expect("4.5", (long)place, wholes[place].product, multiply(wholes[place].coefficient, bits_8192));
+        expect("4.5", (long)place, wholes[place].weight, weight(wholes[place].coefficient));
+    }
+    /* RULES 4.2: denormal numbers count in full; ties go to even. */
+    expect("4.2", 1, 0x00000000, multiply(0x00000001u, bits_half));
+    expect("4.2", 2, 0x00000002, multiply(0x00000003u, bits_half));
+    expect("4.2", 3, 0x00400000, multiply(0x00800000u, bits_half));
+    expect("4.2", 4, 0x3F7FFFFF, subtract(bits_1, 0x33800000u));
+    expect("4.2", 5, 0x3F800000, subtract(bits_1, 0x33000000u));
+    expect("4.2", 6, 0x3F7FFFFF, subtract(bits_1, 0x33000001u));
+    expect("4.2", 7, 0x3F800000, subtract(bits_1, 0x00000001u));
+    expect("4.2", 8, 0x00000000, subtract(bits_half, bits_half));
+    expect("4.2", 9, 0x00000001, divide(0x000000FFu, bits_255));
+    /* RULES 4.5: the number just below 0.5 gives 0, and halves go away from zero. */
+    expect("4.5", 100, 0, nearest_whole(0x3EFFFFFFu));
+    expect("4.5", 101, 3, nearest_whole(0x40200000u));
+    expect("4.5", 102, -3, nearest_whole(0xC0200000u));
+}
+
+/* RULES 4.2, 4.3, 4.5: weights of whole matrices. */
+static void test_weights(void)
+{
+    static const struct {
+        uint32_t range;
+        uint32_t matrix;
+        uint32_t kr;
+        uint32_t kb;
+        int32_t weights[9];
+    } wanted[] = {
+        {REFERENCE_FULL, REFERENCE_FCC, 0, 0, {2458, 4833, 901, -1381, -2715, 4096, 4096, -3452, -644}},
+        {REFERENCE_LIMITED, REFERENCE_FCC, 0, 0, {2111, 4151, 774, -1213, -2385, 3598, 3598, -3033, -565}},
+        {REFERENCE_LIMITED, REFERENCE_CUSTOM, 0x3E991687u, 0x3DE978D5u, {2104, 4130, 802, -1214, -2384, 3598, 3598, -3013, -585}},
+        {REFERENCE_FULL, REFERENCE_CUSTOM, 0x3E991687u, 0x3DE978D5u, {2449, 4809, 934, -1382, -2714, 4096, 4096, -3430, -666}},
+        {REFERENCE_FULL, REFERENCE_CUSTOM, 0x3F000000u, 0x38800000u, {4096, 4096, 1, -2048, -2048, 4096, 4096, -4096, -1}},
+        {REFERENCE_LIMITED, REFERENCE_CUSTOM, 0x3C449BA6u, 0x3ED374BCu, {84, 4045, 2906, -74, -3525, 3598, 3598, -2094, -1504}},
+        {REFERENCE_FULL, REFERENCE_CUSTOM, 0x80000000u, 0x80000000u, {0, 8192, 0, 0, -4096, 4096, 4096, -4096, 0}},
+        {REFERENCE_FULL, REFERENCE_CUSTOM, 0x3F000000u, 0x3F000000u, {4096, 0, 4096, -4096, 0, 4096, 4096, 0, -4096}},
+    };
+    static const uint32_t strides[3] = {1, 1, 1};
+    struct reference_description frame = describe(1, 1, REFERENCE_RGB, REFERENCE_420, 0, 0, REFERENCE_SRGB, strides);
+    struct reference_weights got;
+    size_t place;
+    unsigned channel;
+
+    for (place = 0; place < sizeof wanted / sizeof wanted[0]; place++) {
+        frame.range = wanted[place].range;
+        frame.matrix = wanted[place].matrix;
+        frame.kr_bits = wanted[place].kr;
+        frame.kb_bits = wanted[place].kb;
+        reference_make_weights(&frame, &got);
+        for (channel = 0; channel < 3; channel++) {
+            expect("4.3", (long)place, wanted[place].weights[channel], got.luma[channel]);
+            expect("4.3", (long)place, wanted[place].weights[3 + channel], got.cb[channel]);
+            expect("4.3", (long)place, wanted[place].weights[6 + channel], got.cr[channel]);
+        }
+    }
+    frame.range = REFERENCE_LIMITED;
+    frame.matrix = REFERENCE_CUSTOM;
+    frame.kr_bits = 0x3BE56042u;
+    frame.kb_bits = 0x3E9F3B64u;
+    reference_make_weights(&frame, &got);
+    expect("4.2", 20, -3561, got.cb[1]);
+    frame.kr_bits = 0x3C75C28Fu;
+    frame.kb_bits = 0x3ECED917u;
+    reference_make_weights(&frame, &got);
+    expect("4.2", 21, -3508, got.cb[1]);
+    frame.kr_bits = 0x3E40EA16u;
+    frame.kb_bits = 0x3E03A7ADu;
+    reference_make_weights(&frame, &got);
+    expect("4.2", 22, 4805, got.luma[1]);
+}
+
+/* RULES 4.1: sums of the stored weights, luma of each, in the order of the table. */
+static void test_stored_weights(void)
+{
+    static const int32_t sums[10] = {7036, 8192, 7036, 8192, 7035, 8192, 7036, 8193, 7036, 8192};
+    unsigned matrix;
+    unsigned range;
+
+    for (matrix = 0; matrix < REFERENCE_FCC; matrix++) {
+        for (range = 0; range < REFERENCE_RANGES; range++) {
+            const struct reference_weights *w = &stored_weights[matrix][range];
+
+            expect("4.1", (long)matrix, sums[2 * matrix + range], w->luma[0] + w->luma[1] + w->luma[2]);
+            expect("4.1", (long)matrix, 0, w->cb[0] + w->cb[1] + w->cb[2]);
+            expect("4.1", (long)matrix, 0, w->cr[0] + w->cr[1] + w->cr[2]);
+        }
+    }
+}
+
+/* RULES 5.1, 5.2: a colour and what it gives. */
+static void test_colours(void)
+{
+    static const struct {
+        unsigned matrix;
+        unsigned range;
+        unsigned kind; /* 0 luma, 1 Cb, 2 Cr */
+        uint8_t colour[3];
+        int32_t sum;
+        uint8_t value;
+    } wanted[] = {
+        {REFERENCE_BT601, REFERENCE_FULL, 0, {255, 0, 0}, 628590, 76},
+        {REFERENCE_BT601, REFERENCE_LIMITED, 0, {0, 255, 0}, 1188317, 145},
+        {REFERENCE_BT601, REFERENCE_LIMITED, 0, {0, 0, 0}, 135167, 16},
+        {REFERENCE_BT601, REFERENCE_LIMITED, 0, {255, 255, 255}, 1929347, 235},
+        {REFERENCE_SMPTE240, REFERENCE_FULL, 0, {255, 255, 255}, 2093310, 255},
+        {REFERENCE_BT601, REFERENCE_FULL, 0, {0, 18, 245}, 319487, 38},
+        {REFERENCE_BT601, REFERENCE_FULL, 1, {255, 0, 0}, 700261, 85},
+        {REFERENCE_BT601, REFERENCE_FULL, 2, {255, 0, 0}, 2097151, 255},
+        {REFERENCE_BT601, REFERENCE_LIMITED, 1, {0, 255, 0}, 444751, 54},
+        {REFERENCE_BT601, REFERENCE_LIMITED, 2, {0, 255, 0}, 284356, 34},
+        {REFERENCE_BT601, REFERENCE_LIMITED, 1, {200, 200, 200}, 1052671, 128},
+        {REFERENCE_BT601, REFERENCE_LIMITED, 2, {200, 200, 200}, 1052671, 128},
+    };
+    size_t place;
+
+    for (place = 0; place < sizeof wanted / sizeof wanted[0]; place++) {
+        const struct reference_weights *w = &stored_weights[wanted[place].matrix][wanted[place].range];
+        const struct range *range = &ranges[wanted[place].range];
+        const int32_t *weights = wanted[place].kind == 0 ? w->luma : wanted[place].kind == 1 ? w->cb : w->cr;
+        int32_t offset = wanted[place].kind == 0 ? range->luma_offset : 128;
+        uint8_t value = wanted[place].kind == 0 ? luma(weights, range, wanted[place].colour)
+                                                : chroma(weights, range, wanted[place].colour);
+
+        expect("5", (long)place, wanted[place].sum, weighted(weights, wanted[place].colour, offset));
+        expect("5", (long)place, wanted[place].value, value);
+    }
+}
+
+/* RULES 6.2 to 6.4: chroma colours. */
+static void test_chroma_colours(void)
+{
+    static const uint8_t six[18] = {10, 0, 255, 20, 0, 0, 255, 255, 0, 30, 0, 0, 40, 255, 0, 0, 0, 255};
+    static const uint8_t three[9] = {10, 0, 255, 20, 0, 0, 10, 99, 1};
+    static const uint8_t one[3] = {10, 10, 10};
+    static const uint8_t wanted_420[2][3] = {{19, 70, 197}, {224, 224, 136}};
+    static const uint8_t wanted_422[2][3] = {{12, 0, 224}, {10, 99, 1}};
+    static const unsigned long changed[REFERENCE_TRANSFERS] = {254, 252, 254, 254};
+    static const uint32_t strides[3] = {3, 2, 2};
+    struct reference_description frame =
+        describe(3, 2, REFERENCE_RGB, REFERENCE_420, REFERENCE_FULL, REFERENCE_BT601, REFERENCE_SRGB, strides);
+    struct job job;
+    struct row rows[2];
+    unsigned channel;
+    unsigned j;
+    unsigned code;
+
+    memset(&job, 0, sizeof job);
+    job.frame = &frame;
+    job.order = &channel_orders[REFERENCE_RGB];
+    job.linear = tables.linear[REFERENCE_SRGB];
+    job.gamma = tables.gamma[REFERENCE_SRGB];
+    rows[0].bytes = six;
+    rows[0].pixel_bytes = 3;
+    rows[1].bytes = six + 9;
+    rows[1].pixel_bytes = 3;
+    for (j = 0; j < 2; j++) {
+        for (channel = 0; channel < 3; channel++) {
+            expect("6.3", (long)j, wanted_420[j][channel], chroma_channel(&job, rows[0], rows[1], j, channel));
+        }
+    }
+    frame.width = 1;
+    frame.height = 1;
+    rows[0].bytes = one;
+    expect("6.3", 2, 9, chroma_channel(&job, rows[0], rows[0], 0, 0));
+    frame.width = 3;
+    frame.sampling = REFERENCE_422;
+    rows[0].bytes = three;
+    for (j = 0; j < 2; j++) {
+        for (channel = 0; channel < 3; channel++) {
+            expect("6.4", (long)j, wanted_422[j][channel], chroma_channel(&job, rows[0], rows[0], j, channel));
+        }
+    }
+    for (code = 0; code < REFERENCE_TRANSFERS; code++) {
+        unsigned long count = 0;
+        unsigned v;
+
+        for (v = 0; v < 256; v++) {
+            count += tables.gamma[code][tables.linear[code][v]] != v;
+        }
+        expect("6.4", (long)code, (long long)changed[code], (long long)count);
+    }
+    expect("6.2", 1, 197, tables.gamma[REFERENCE_SRGB][36863]);
+    expect("6.2", 2, 224, tables.gamma[REFERENCE_SRGB][49151]);
+    expect("6.2", 3, 9, tables.gamma[REFERENCE_SRGB][198]);
+}
+
+static uint8_t source_bytes[128];
+static uint8_t plane_bytes[3][64];
+
+/* RULES 7.8: a frame call on these buffers, of which the given lengths are lent. */
+static struct reference_answer call_frame(const struct reference_description *frame, uint32_t source_stride,
+                                          const uint64_t *lengths)
+{
+    struct reference_source source;
+    struct reference_planes planes;
+
+    source.bytes = source_bytes;
+    source.length = lengths[0];
+    source.stride = source_stride;
+    planes.y.bytes = plane_bytes[0];
+    planes.y.length = lengths[1];
+    planes.u.bytes = plane_bytes[1];
+    planes.u.length = lengths[2];
+    planes.v.bytes = plane_bytes[2];
+    planes.v.length = lengths[3];
+    memset(plane_bytes, 0xEE, sizeof plane_bytes);
+    return reference_frame(&tables, frame, &source, &planes);
+}
+
+/* RULES 2.3 to 2.5, 7.2, 7.8, A: frames and the bytes of their planes. */
+static void test_frames(void)
+{
+    static const struct {
+        uint32_t width;
+        uint32_t height;
+        uint32_t settings[5]; /* order, sampling, range, matrix, transfer */
+        uint32_t source_stride;
+        uint32_t strides[3];
+        size_t source_length;
+        uint8_t source[39];
+        uint8_t y[12];
+        uint8_t u[9];
+        uint8_t v[9];
+    } wanted[] = {
+        {1, 1, {1, 0, 0, 0, 0}, 5, {1, 1, 1}, 5, {200, 100, 50, 0, 0}, {123}, {91}, {175}},
+        {1, 1, {1, 0, 0, 0, 0}, 5, {1, 1, 1}, 5, {200, 100, 50, 255, 9}, {123}, {91}, {175}},
+        {3, 1, {0, 0, 0, 0, 0}, 9, {5, 3, 4}, 9, {255, 0, 0, 255, 0, 0, 255, 0, 0}, {0x51, 0x51, 0x51, 0xEE, 0xEE},
+         {0x5A, 0x5A, 0xEE}, {0xF0, 0xF0, 0xEE, 0xEE}},
+        {3, 1, {0, 1, 1, 0, 0}, 9, {3, 2, 2}, 9, {255, 0, 0, 0, 255, 0, 0, 0, 255}, {76, 150, 29}, {45, 255}, {183, 107}},
+        {1, 1, {0, 0, 1, 0, 0}, 3, {1, 1, 1}, 3, {255, 0, 0}, {76}, {85}, {255}},
+        {1, 1, {0, 1, 1, 0, 0}, 3, {1, 1, 1}, 3, {255, 0, 0}, {76}, {85}, {255}},
+        {1, 1, {0, 1, 0, 0, 0}, 3, {1, 1, 1}, 3, {0, 255, 0}, {145}, {54}, {34}},
+        {1, 1, {0, 0, 0, 0, 0}, 3, {1, 1, 1}, 3, {0, 0, 0}, {16}, {128}, {128}},
+        {1, 1, {0, 0, 0, 0, 0}, 3, {1, 1, 1}, 3, {255, 255, 255}, {235}, {128}, {128}},
+        {2, 3, {0, 0, 1, 0, 0}, 6, {2, 1, 1}, 18, {255, 0, 0, 0, 255, 0, 0, 0, 255, 255, 255, 255, 9, 120, 60, 200, 10, 77},
+         {0x4C, 0x96, 0x1D, 0xFF, 0x50, 0x4A}, {0x74, 0x6B}, {0xA3, 0x84}},
+        {3, 3, {2, 0, 0, 1, 0}, 13, {4, 3, 3}, 39,
+         {0x07, 0x80, 0xFA, 0x00, 0xFF, 0xC8, 0x0C, 0x01, 0x40, 0x40, 0x40, 0x02, 0xAA, 0x1B, 0x09, 0x03, 0x10, 0xFF, 0xFF, 0xFF,
+          0x11, 0x5A, 0x1E, 0xB4, 0x12, 0xAA, 0x00, 0x00, 0x00, 0x20, 0x01, 0xFA, 0x63, 0x21, 0x84, 0x42, 0x21, 0x22, 0xAA},
+         {0x8D, 0x9D, 0x47, 0xEE, 0x18, 0xEB, 0x49, 0xEE, 0x10, 0xBC, 0x47, 0xEE},
+         {0x76, 0x81, 0xEE, 0x4E, 0xA0, 0xEE},
+         {0x99, 0x96, 0xEE, 0x60, 0x6F, 0xEE}},
+        {3, 3, {2, 1, 0, 1, 0}, 13, {4, 3, 3}, 39,
+         {0x07, 0x80, 0xFA, 0x00, 0xFF, 0xC8, 0x0C, 0x01, 0x40, 0x40, 0x40, 0x02, 0xAA, 0x1B, 0x09, 0x03, 0x10, 0xFF, 0xFF, 0xFF,
+          0x11, 0x5A, 0x1E, 0xB4, 0x12, 0xAA, 0x00, 0x00, 0x00, 0x20, 0x01, 0xFA, 0x63, 0x21, 0x84, 0x42, 0x21, 0x22, 0xAA},
+         {0x8D, 0x9D, 0x47, 0xEE, 0x18, 0xEB, 0x49, 0xEE, 0x10, 0xBC, 0x47, 0xEE},
+         {0x73, 0x80, 0xEE, 0x81, 0x8B, 0xEE, 0x4E, 0xA0, 0xEE},
+         {0x9F, 0x80, 0xEE, 0x80, 0xBF, 0xEE, 0x60, 0x6F, 0xEE}},
+    };
+    size_t place;
+
+    for (place = 0; place < sizeof wanted / sizeof wanted[0]; place++) {
+        const uint32_t *settings = wanted[place].settings;
+        struct reference_description frame = describe(wanted[place].width, wanted[place].height, settings[0], settings[1],
+                                                      settings[2], settings[3], settings[4], wanted[place].strides);
+        uint32_t chroma_rows = reference_chroma_height(frame.height, frame.sampling);
+        uint64_t lengths[4];
+
+        lengths[0] = wanted[place].source_length;
+        lengths[1] = (uint64_t)frame.y_stride * frame.height;
+        lengths[2] = (uint64_t)frame.u_stride * chroma_rows;
+        lengths[3] = (uint64_t)frame.v_stride * chroma_rows;
+        memcpy(source_bytes, wanted[place].source, wanted[place].source_length);
+        expect_answer("7.8", (long)place, 0, 0, 0, call_frame(&frame, wanted[place].source_stride, lengths));
+        expect_bytes("2.4 Y", wanted[place].y, plane_bytes[0], (size_t)lengths[1]);
+        expect_bytes("2.4 U", wanted[place].u, plane_bytes[1], (size_t)lengths[2]);
+        expect_bytes("2.4 V", wanted[place].v, plane_bytes[2], (size_t)lengths[3]);
+    }
+}
+
+/* RULES 7.1 to 7.7: refusals of a frame call. */
+static void test_refusals(void)
+{
+    static const struct {
+        uint32_t width;
+        uint32_t height;
+        uint32_t strides[4]; /* source, Y, U, V */
+        uint64_t lengths[4];
+        uint32_t number;
+        uint64_t expected;
+        uint64_t received;
+    } wanted[] = {
+        {0, 3, {0, 0, 0, 0}, {0, 0, 0, 0}, 2, 0, 0},
+        {3, 3, {0, 0, 0, 0}, {0, 0, 0, 0}, 6, 9, 0},
+        {3, 3, {0, 0, 0, 0}, {64, 64, 64, 64}, 7, 9, 0},
+        {1, 1, {3, 1, 1, 1}, {3, 2, 1, 1}, 12, 1, 2},
+        {0, 1, {0, 0, 0, 0}, {0, 0, 0, 0}, 2, 0, 0},
+        {0, 16385, {0, 0, 0, 0}, {0, 0, 0, 0}, 2, 0, 0},
+        {16384, 1, {0, 0, 0, 0}, {0, 0, 0, 0}, 6, 49152, 0},
+        {16385, 1, {0, 0, 0, 0}, {0, 0, 0, 0}, 3, 0, 0},
+        {1, 4294967295u, {0, 0, 0, 0}, {0, 0, 0, 0}, 3, 0, 0},
+        {4, 2, {16, 4, 2, 2}, {27, 8, 2, 2}, 6, 28, 27},
+        {4, 2, {11, 4, 2, 2}, {23, 8, 2, 2}, 7, 12, 11},
+        {4, 2, {11, 4, 2, 2}, {22, 8, 2, 2}, 6, 23, 22},
+        {4, 2, {16, 4, 2, 2}, {32, 8, 2, 2}, 0, 0, 0},
+        {5, 3, {15, 4, 3, 3}, {45, 15, 6, 6}, 8, 15, 12},
+        {5, 3, {15, 8, 3, 3}, {45, 20, 6, 6}, 9, 21, 20},
+        {5, 3, {15, 5, 2, 3}, {45, 15, 6, 6}, 10, 6, 4},
+        {5, 3, {15, 5, 4, 3}, {45, 15, 6, 6}, 10, 7, 6},
+        {5, 3, {15, 5, 2, 3}, {45, 15, 0, 6}, 10, 6, 4},
+        {5, 3, {15, 5, 3, 2}, {45, 15, 6, 6}, 11, 6, 4},
+        {5, 3, {15, 5, 3, 4}, {45, 15, 6, 6}, 11, 7, 6},
+        {5, 3, {15, 5, 3, 3}, {45, 15, 6, 6}, 0, 0, 0},
+        {5, 3, {15, 8, 3, 3}, {45, 21, 6, 6}, 12, 24, 21},
+        {5, 3, {15, 8, 3, 3}, {45, 24, 6, 6}, 0, 0, 0},
+        {5, 3, {15, 8, 3, 3}, {45, 32, 6, 6}, 12, 24, 32},
+        {5, 3, {15, 8, 3, 3}, {46, 24, 6, 7}, 12, 45, 46},
+        {5, 3, {15, 8, 3, 3}, {45, 24, 6, 7}, 12, 6, 7},
+    };
+    static const struct {
+        uint32_t kr;
+        uint32_t number;
+    } matrices[] = {
+        {0x00000000u, 0}, {0x80000000u, 0}, {0x3F000000u, 0}, {0x3F000001u, 4}, {0x00000001u, 0},
+        {0x80000001u, 4}, {0x7FC00000u, 4}, {0x7F800000u, 4}, {0xBF000000u, 4},
+    };
+    static const uint32_t strides[3] = {1, 1, 1};
+    static const uint64_t lengths[4] = {3, 1, 1, 1};
+    struct reference_description frame;
+    size_t place;
+    size_t byte;
+
+    memset(source_bytes, 0x55, sizeof source_bytes);
+    for (place = 0; place < sizeof wanted / sizeof wanted[0]; place++) {
+        frame = describe(wanted[place].width, wanted[place].height, REFERENCE_RGB, REFERENCE_420, REFERENCE_LIMITED,
+                         REFERENCE_BT601, REFERENCE_SRGB, wanted[place].strides + 1);
+        expect_answer("7", (long)place, wanted[place].number, wanted[place].expected, wanted[place].received,
+                      call_frame(&frame, wanted[place].strides[0], wanted[place].lengths));
+        if (wanted[place].number != 0) {
+            for (byte = 0; byte < sizeof plane_bytes; byte++) {
+                expect("7.2", (long)place, 0xEE, plane_bytes[byte / 64][byte % 64]);
+            }
+        }
+    }
+    for (place = 0; place < sizeof matrices / sizeof matrices[0]; place++) {
+        frame = describe(1, 1, REFERENCE_RGB, REFERENCE_420, REFERENCE_LIMITED, REFERENCE_CUSTOM, REFERENCE_SRGB, strides);
+        frame.kr_bits = matrices[place].kr;
+        expect_answer("7.4", (long)place, matrices[place].number, 0, 0, call_frame(&frame, 3, lengths));
+        frame.kr_bits = 0;
+        frame.kb_bits = matrices[place].kr;
+        expect_answer("7.4", (long)place, matrices[place].number, 0, 0, call_frame(&frame, 3, lengths));
+    }
+    frame = describe(1, 16384, REFERENCE_RGB, REFERENCE_420, REFERENCE_LIMITED, REFERENCE_BT601, REFERENCE_SRGB, strides);
+    frame.y_stride = 4294967295u;
+    expect("7.6", 0, 70368744161280, (long long)((uint64_t)frame.y_stride * frame.height));
+}
+
+/* RULES 8.1 to 8.5: refusals of openings and band calls. */
+static void test_band_refusals(void)
+{
+    static const struct {
+        uint32_t width;
+        uint32_t height;
+        uint32_t strides[3];
+        uint32_t number;
+    } openings[] = {
+        {4, 5, {4, 2, 2}, 0}, {4, 5, {0, 0, 0}, 0}, {0, 5, {4, 2, 2}, 2}, {4, 16385, {4, 2, 2}, 3},
+    };
+    static const struct {
+        uint32_t done;
+        uint32_t rows;
+        uint32_t stride;
+        uint64_t length;
+        uint64_t carried;
+        uint32_t number;
+        uint64_t expected;
+        uint64_t received;
+    } bands[] = {
+        {0, 2, 12, 24, 12, 0, 0, 0},          {2, 2, 16, 32, 12, 0, 0, 0},  {4, 1, 12, 12, 12, 0, 0, 0},
+        {2, 2, 12, 60, 12, 12, 24, 60},       {0, 2, 12, 23, 12, 6, 24, 23}, {0, 0, 12, 0, 12, 5, 0, 0},
+        {0, 5, 12, 60, 12, 0, 0, 0},          {0, 6, 12, 72, 12, 5, 0, 0},  {3, 2, 12, 24, 12, 0, 0, 0},
+        {3, 3, 12, 36, 12, 5, 0, 0},          {5, 1, 12, 12, 12, 5, 0, 0},  {4294967295u, 1, 12, 12, 12, 5, 0, 0},
+        {0, 1, 12, 12, 11, 13, 12, 11},       {0, 1, 12, 12, 13, 0, 0, 0},
+    };
+    static const uint32_t strides[3] = {4, 2, 2};
+    struct reference_state state;
+    struct reference_source source;
+    struct reference_planes planes;
+    struct reference_buffer carried;
+    uint8_t carried_bytes[16];
+    size_t place;
+    uint32_t sampling;
+
+    memset(carried_bytes, 0xCC, sizeof carried_bytes);
+    for (place = 0; place < sizeof openings / sizeof openings[0]; place++) {
+        struct reference_description frame =
+            describe(openings[place].width, openings[place].height, REFERENCE_RGB, REFERENCE_420, REFERENCE_FULL,
+                     REFERENCE_BT601, REFERENCE_SRGB, openings[place].strides);
+
+        state.rows_done = 9;
+        expect_answer("8.1", (long)place, openings[place].number, 0, 0, reference_open(&frame, &state));
+        expect("8.1", (long)place, 0, state.rows_done);
+    }
+    for (sampling = 0; sampling < REFERENCE_SAMPLINGS; sampling++) {
+        for (place = 0; place < sizeof bands / sizeof bands[0]; place++) {
+            state.frame = describe(4, 5, REFERENCE_RGB, sampling, REFERENCE_FULL, REFERENCE_BT601, REFERENCE_SRGB, strides);
+            state.rows_done = bands[place].done;
+            source.bytes = source_bytes;
+            source.length = bands[place].length;
+            source.stride = bands[place].stride;
+            planes.y.bytes = plane_bytes[0];
+            planes.y.length = 20;
+            planes.u.bytes = plane_bytes[1];
+            planes.u.length = sampling == REFERENCE_420 ? 6 : 10;
+            planes.v.bytes = plane_bytes[2];
+            planes.v.length = planes.u.length;
+            carried.bytes = carried_bytes;
+            carried.length = bands[place].carried;
+            expect_answer("8", (long)place, bands[place].number, bands[place].expected, bands[place].received,
+                          reference_band(&tables, &state, bands[place].rows, &source, &planes, &carried));
+            expect("8.5", (long)place, bands[place].done + (bands[place].number == 0 ? bands[place].rows : 0u), state.rows_done);
+        }
+    }
+}
+
+/* RULES 8.6. */
+static void test_finished(void)
+{
+    static const uint32_t wanted[4][6] = {{0, 0, 1, 1, 2, 0}, {0, 1, 2, 3, 4, 0}, {0, 0, 1, 1, 2, 3}, {0, 1, 2, 3, 4, 5}};
+    static const uint32_t strides[3] = {1, 1, 1};
+    unsigned line;
+    uint32_t n;
+
+    for (line = 0; line < 4; line++) {
+        struct reference_description frame =
+            describe(1, 4 + line / 2, REFERENCE_RGB, line % 2, REFERENCE_FULL, REFERENCE_BT601, REFERENCE_SRGB, strides);
+
+        for (n = 0; n <= frame.height; n++) {
+            expect("8.6", (long)line, wanted[line][n], finished_chroma_rows(&frame, n));
+        }
+    }
+}
+
+/* RULES 8.7, 8.8: bands of the frame of 8.7, and what they leave. */
+static void test_bands(void)
+{
+    static const uint8_t pixels[18] = {255, 0, 0, 0, 255, 0, 0, 0, 255, 255, 255, 255, 9, 120, 60, 200, 10, 77};
+    static const uint8_t bgra[8] = {0x00, 0x00, 0xFF, 0xAA, 0x00, 0xFF, 0x00, 0xAA};
+    static const uint8_t after_first[6] = {0x4C, 0x96, 0xEE, 0xEE, 0xEE, 0xEE};
+    static const uint8_t untouched[6] = {0xEE, 0xEE, 0xEE, 0xEE, 0xEE, 0xEE};
+    static const uint8_t kept_rgb[7] = {0xFF, 0x00, 0x00, 0x00, 0xFF, 0x00, 0xCC};
+    static const uint8_t kept_bgra[7] = {0x00, 0x00, 0xFF, 0x00, 0xFF, 0x00, 0xCC};
+    static const uint8_t kept_none[7] = {0xCC, 0xCC, 0xCC, 0xCC, 0xCC, 0xCC, 0xCC};
+    static const uint8_t y[6] = {0x4C, 0x96, 0x1D, 0xFF, 0x50, 0x4A};
+    static const uint8_t u[2] = {0x74, 0x6B};
+    static const uint8_t v[2] = {0xA3, 0x84};
+    static const uint32_t strides[3] = {2, 1, 1};
+    struct reference_description frame =
+        describe(2, 3, REFERENCE_RGB, REFERENCE_420, REFERENCE_FULL, REFERENCE_BT601, REFERENCE_SRGB, strides);
+    struct reference_state state;
+    struct reference_source source;
+    struct reference_planes planes;
+    struct reference_buffer carried;
+    uint8_t carried_bytes[7];
+    uint8_t wide[14];
+    uint32_t rows;
+
+    planes.y.bytes = plane_bytes[0];
+    planes.y.length = 6;
+    planes.u.bytes = plane_bytes[1];
+    planes.u.length = 2;
+    planes.v.bytes = plane_bytes[2];
+    planes.v.length = 2;
+    carried.bytes = carried_bytes;
+    carried.length = 7;
+    memset(plane_bytes, 0xEE, sizeof plane_bytes);
+    memset(carried_bytes, 0xCC, sizeof carried_bytes);
+    expect_answer("8.7", 0, 0, 0, 0, reference_open(&frame, &state));
+    source.bytes = pixels;
+    source.length = 6;
+    source.stride = 6;
+    expect_answer("8.7", 1, 0, 0, 0, reference_band(&tables, &state, 1, &source, &planes, &carried));
+    expect_bytes("8.7 Y", after_first, plane_bytes[0], 6);
+    expect_bytes("8.7 U", untouched, plane_bytes[1], 2);
+    expect_bytes("8.7 V", untouched, plane_bytes[2], 2);
+    expect_bytes("8.8", kept_rgb, carried_bytes, 7);
+    source.length = 18; /* RULES 8.9: refused calls in between */
+    expect_answer("8.9", 1, 5, 0, 0, reference_band(&tables, &state, 3, &source, &planes, &carried));
+    source.length = 5;
+    expect_answer("8.9", 2, 6, 6, 5, reference_band(&tables, &state, 1, &source, &planes, &carried));
+    expect("8.9", 2, 1, state.rows_done);
+    expect_bytes("8.9 Y", after_first, plane_bytes[0], 6);
+    memset(wide, 0x99, sizeof wide);
+    memcpy(wide, pixels + 6, 6);
+    memcpy(wide + 7, pixels + 12, 6);
+    source.bytes = wide;
+    source.length = 14;
+    source.stride = 7;
+    expect_answer("8.7", 2, 0, 0, 0, reference_band(&tables, &state, 2, &source, &planes, &carried));
+    expect("8.7", 2, 3, state.rows_done);
+    expect_bytes("8.7 Y", y, plane_bytes[0], 6);
+    expect_bytes("8.7 U", u, plane_bytes[1], 2);
+    expect_bytes("8.7 V", v, plane_bytes[2], 2);
+    expect_bytes("8.8", kept_rgb, carried_bytes, 7);
+    source.length = 7;
+    expect_answer("8.9", 3, 5, 0, 0, reference_band(&tables, &state, 1, &source, &planes, &carried));
+    expect("8.9", 3, 3, state.rows_done);
+
+    for (rows = 2; rows <= 3; rows++) {
+        memset(carried_bytes, 0xCC, sizeof carried_bytes);
+        reference_open(&frame, &state);
+        source.bytes = pixels;
+        source.length = (uint64_t)rows * 6;
+        source.stride = 6;
+        expect_answer("8.8", (long)rows, 0, 0, 0, reference_band(&tables, &state, rows, &source, &planes, &carried));
+        expect_bytes("8.8", kept_none, carried_bytes, 7);
+    }
+    frame.channel_order = REFERENCE_BGRA;
+    reference_open(&frame, &state);
+    source.bytes = bgra;
+    source.length = 8;
+    source.stride = 8;
+    expect_answer("8.8", 4, 0, 0, 0, reference_band(&tables, &state, 1, &source, &planes, &carried));
+    expect_bytes("8.8", kept_bgra, carried_bytes, 7);
+    frame.channel_order = REFERENCE_RGB;
+    frame.sampling = REFERENCE_422;
+    planes.u.length = 3;
+    planes.v.length = 3;
+    memset(carried_bytes, 0xCC, sizeof carried_bytes);
+    reference_open(&frame, &state);
+    source.bytes = pixels;
+    source.length = 6;
+    source.stride = 6;
+    expect_answer("8.8", 5, 0, 0, 0, reference_band(&tables, &state, 1, &source, &planes, &carried));
+    expect_bytes("8.8", kept_none, carried_bytes, 7);
+}
+
+/* RULES 8.9: every split of a small frame into bands gives the bytes of the frame call, in all orders and samplings. */
+static void test_every_split(void)
+{
+    enum { WIDTH = 5, HEIGHT = 5, ROW = WIDTH * 4 };
+    static const uint32_t strides[3] = {6, 4, 5};
+    uint64_t lengths[4];
+    uint8_t whole[3][64];
+    uint8_t carried_bytes[64]; /* the first WIDTH * 3 are lent */
+    uint32_t order;
+    uint32_t sampling;
+    unsigned cuts;
+    size_t byte;
+    uint32_t noise = 1;
+
+    for (byte = 0; byte < sizeof source_bytes; byte++) {
+        noise = noise * 1664525u + 1013904223u;
+        source_bytes[byte] = (uint8_t)(noise >> 24);
+    }
+    for (order = 0; order < REFERENCE_CHANNEL_ORDERS; order++) {
+        for (sampling = 0; sampling < REFERENCE_SAMPLINGS; sampling++) {
+            struct reference_description frame =
+                describe(WIDTH, HEIGHT, order, sampling, REFERENCE_LIMITED, REFERENCE_FCC, REFERENCE_REC709, strides);
+            uint32_t chroma_rows = reference_chroma_height(HEIGHT, sampling);
+
+            lengths[0] = ROW * HEIGHT;
+            lengths[1] = (uint64_t)strides[0] * HEIGHT;
+            lengths[2] = (uint64_t)strides[1] * chroma_rows;
+            lengths[3] = (uint64_t)strides[2] * chroma_rows;
+            expect_answer("8.9", 0, 0, 0, 0, call_frame(&frame, ROW, lengths));
+            memcpy(whole, plane_bytes, sizeof whole);
+            for (cuts = 0; cuts < 1u << (HEIGHT - 1); cuts++) {
+                struct reference_state state;
+                struct reference_source source;
+                struct reference_planes planes;
+                struct reference_buffer carried;
+                uint32_t first = 0;
+                uint32_t r;
+
+                planes.y.bytes = plane_bytes[0];
+                planes.y.length = lengths[1];
+                planes.u.bytes = plane_bytes[1];
+                planes.u.length = lengths[2];
+                planes.v.bytes = plane_bytes[2];
+                planes.v.length = lengths[3];
+                carried.bytes = carried_bytes;
+                carried.length = WIDTH * 3;
+                memset(plane_bytes, 0xEE, sizeof plane_bytes);
+                memset(carried_bytes, 0xCC, sizeof carried_bytes);
+                reference_open(&frame, &state);
+                for (r = 0; r < HEIGHT; r++) {
+                    if (r == HEIGHT - 1 || (cuts >> r & 1u) != 0) {
+                        source.bytes = source_bytes + (size_t)first * ROW;
+                        source.length = (uint64_t)(r + 1 - first) * ROW;
+                        source.stride = ROW;
+                        expect_answer("8.9", (long)cuts, 0, 0, 0,
+                                      reference_band(&tables, &state, r + 1 - first, &source, &planes, &carried));
+                        first = r + 1;
+                    }
+                }
+                expect("8.9", (long)cuts, HEIGHT, state.rows_done);
+                expect("8.9 planes", (long)cuts, 0, memcmp(whole, plane_bytes, sizeof whole));
+                for (byte = WIDTH * 3; byte < sizeof carried_bytes; byte++) {
+                    expect("8.8", (long)cuts, 0xCC, carried_bytes[byte]);
+                }
+            }
+        }
+    }
+}
+
+/* All examples, one chapter after the other. */
+int main(void)
+{
+    reference_make_tables(&tables);
+    test_numbers();
+    test_curves();
+    test_longest();
+    test_every_gamma_entry();
+    test_checksums();
+    test_steps();
+    test_weights();
+    test_stored_weights();
+    test_colours();
+    test_chroma_colours();
+    test_frames();
+    test_refusals();
+    test_band_refusals();
+    test_finished();
+    test_bands();
+    test_every_split();
+    printf("%lu comparisons, %lu differ\n", asked, differing);
+    return differing == 0 ? EXIT_SUCCESS : EXIT_FAILURE;
+}

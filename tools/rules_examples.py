@@ -1,0 +1,1093 @@
+#!/usr/bin/env python3
+"""Work out the examples of docs/RULES.md: every block of it that starts with the word Example.
+
+It is a second reading of the rules, in plain Python and exact numbers, that shares nothing with the proved code. The constants are
+read out of the tables of docs/RULES.md itself (rules 1.4, 3.1, 4.1, 4.3), so that an example follows from the text and from nothing else.
+
+    tools/rules_examples.py           write the blocks
+    tools/rules_examples.py --check   say which blocks are not what the rules give, and which rules have none; fail if any
+"""
+import re
+import struct
+import sys
+import zlib
+from fractions import Fraction
+from pathlib import Path
+
+RULES = Path(__file__).resolve().parent.parent / 'docs' / 'RULES.md'
+TEXT = RULES.read_text()
+BLOCK = re.compile(r'^```text\n(Example ([A-Z0-9.]+)(?:: [^\n]*)?)\n(.*?)^```$', re.MULTILINE | re.DOTALL)
+RULE = re.compile(r'^\*\*(\d+\.\d+) ', re.MULTILINE)
+
+
+# ---- the constants, out of the text
+
+def table(rule):
+    """The rows of the first table after a rule's number, without the head, each a list of cells."""
+    after = TEXT[re.search(rf'^\*\*{re.escape(rule)} ', TEXT, re.MULTILINE).start():]
+    lines = re.search(r'(?:^\|.*\n)+', after, re.MULTILINE).group().splitlines()[2:]
+    return [[cell.strip().replace('−', '-') for cell in line.strip('|').split('|')] for line in lines]
+
+
+RANGES = {row[0]: tuple(map(int, row[1:])) for row in table('1.4')}
+ORDERS = {row[0]: (int(row[1]), tuple(map(int, row[2:5]))) for row in table('1.3')}
+CODES = {row[0]: [item.split(' ', 1)[1] for item in row[1].split(', ')] for row in table('1.2')}
+STORED = {(row[0], row[1]): [int(cell) for cell in row[2:]] for row in table('4.1')}
+FCC = tuple(struct.unpack('>f', bytes.fromhex(table('4.3')[0][i]))[0] for i in (2, 4))
+D = 10 ** 10
+
+
+class Curve:
+    def __init__(self, row):
+        decimals = [Fraction(text) for text in row[1:5]]
+        self.slope, self.brk, self.offset, self.scale, self.up, self.down = map(int, row[5:])
+        assert [self.slope, self.brk, self.offset, self.scale] == [d * D for d in decimals], row
+
+
+CURVES = {row[0]: Curve(row) for row in table('3.1')}
+NAMES = ['yr', 'yg', 'yb', 'cb_r', 'cb_g', 'cb_b', 'cr_r', 'cr_g', 'cr_b']
+
+
+# ---- chapter 3
+
+def largest(top, passes):
+    """The largest number from 0 to top that passes, where all below a passing one pass and 0 does."""
+    low, high = 0, top
+    while low < high:
+        middle = (low + high + 1) // 2
+        if passes(middle):
+            low = middle
+        else:
+            high = middle - 1
+    return low
+
+
+def linear_straight(c, v):
+    return v * D * D < 255 * c.slope * c.brk
+
+
+def linear_sides(c, v, n):
+    return n ** c.down * (255 * c.scale) ** c.up, (v * D + 255 * c.offset) ** c.up * 65535 ** c.down
+
+
+def linear_entry(c, v):
+    if v in (0, 255):
+        return 65535 if v else 0
+    if linear_straight(c, v):
+        return 65535 * v * D // (255 * c.slope)
+    return largest(65535, lambda n: linear_sides(c, v, n)[0] <= linear_sides(c, v, n)[1])
+
+
+def gamma_straight(c, i):
+    return i * D < 65535 * c.brk
+
+
+def gamma_sides(c, i, m):
+    return (m * D + 255 * c.offset) ** c.up * 65535 ** c.down, i ** c.down * (255 * c.scale) ** c.up
+
+
+def gamma_table(c):
+    lefts = [gamma_sides(c, 0, m)[0] for m in range(256)]
+    unit = (255 * c.scale) ** c.up
+    entries, m = [0], 0
+    for i in range(1, 65535):
+        if gamma_straight(c, i):
+            entries.append(255 * i * c.slope // (65535 * D))
+            continue
+        right = i ** c.down * unit
+        assert lefts[0] <= right
+        while m < 255 and lefts[m + 1] <= right:
+            m += 1
+        entries.append(m)
+    return entries + [255]
+
+
+LINEAR = {name: [linear_entry(c, v) for v in range(256)] for name, c in CURVES.items()}
+GAMMA = {name: gamma_table(c) for name, c in CURVES.items()}
+
+
+# ---- chapter 4
+
+def f32(x):
+    """To binary32. Of one operation on two binary32 numbers done in binary64 this is the exact result rounded once: 53 digits are enough."""
+    return struct.unpack('<f', struct.pack('<f', x))[0]
+
+
+def bits(x):
+    return f'{struct.unpack("<I", struct.pack("<f", x))[0]:08X}'
+
+
+def of_bits(text):
+    return struct.unpack('>f', bytes.fromhex(text))[0]
+
+
+def shown(x):
+    return f'{bits(x)} ({x:.9g})'.replace('-', '−')
+
+
+def coefficients(range_, kr, kb, say=lambda line: None, keep=f32):
+    """The nine of rule 4.4, each step said; `keep` is what becomes of a step's result."""
+    ry, ruv = float(RANGES[range_][1]), float(RANGES[range_][2])
+
+    def step(name, a, op, b):
+        x = keep({'−': lambda: a - b, '×': lambda: a * b, '/': lambda: a / b}[op]())
+        say(f'{name:>4} = {shown(f32(a))} {op} {shown(f32(b))} = {shown(f32(x))}')
+        return x
+
+    kg = step('kg', step('a', 1.0, '−', kr), '−', kb)
+    found = {}
+    for name, k in (('yr', kr), ('yg', kg), ('yb', kb)):
+        found[name] = step(name, step('a', k, '×', ry), '/', 255.0)
+    for name, k, other in (('cb_r', kr, kb), ('cb_g', kg, kb), ('cb_b', None, None), ('cr_r', None, None), ('cr_g', kg, kr), ('cr_b', kb, kr)):
+        if k is None:
+            found[name] = step(name, step('a', 0.5, '×', ruv), '/', 255.0)
+        else:
+            a, b = step('a', -0.5, '×', k), step('b', 1.0, '−', other)
+            found[name] = step(name, step('e', step('d', a, '/', b), '×', ruv), '/', 255.0)
+    return [found[name] for name in NAMES]
+
+
+def half_away(x):
+    size = abs(Fraction(x))
+    n = (2 * size.numerator + size.denominator) // (2 * size.denominator)
+    return -n if x < 0 else n
+
+
+def weights(matrix, range_, kr=None, kb=None):
+    if (matrix, range_) in STORED:
+        return STORED[matrix, range_]
+    kr, kb = FCC if matrix == 'Fcc' else (kr, kb)
+    return [half_away(f32(x * 8192.0)) for x in coefficients(range_, kr, kb)]
+
+
+# ---- chapters 5 and 6
+
+class Settings:
+    def __init__(self, order='Rgb', sampling='4:2:0', range_='Limited', matrix='Bt601', transfer='Srgb', kr=None, kb=None):
+        self.order, self.sampling, self.range_, self.matrix, self.transfer, self.kr, self.kb = order, sampling, range_, matrix, transfer, kr, kb
+        self.c, self.places = ORDERS[order]
+        self.by, self.ry, self.ruv = RANGES[range_]
+        self.linear, self.gamma = LINEAR[transfer], GAMMA[transfer]
+
+    def weigh(self):
+        self.w = weights(self.matrix, self.range_, self.kr, self.kb)
+        return self
+
+
+def luma_sum(s, rgb):
+    return sum(a * b for a, b in zip(rgb, s.w[:3])) + s.by * 8192 + 4095
+
+
+def luma(s, rgb):
+    return min(luma_sum(s, rgb) // 8192, s.by + s.ry)
+
+
+def chroma_sum(s, rgb, first):
+    return sum(a * b for a, b in zip(rgb, s.w[first:first + 3])) + 128 * 8192 + 4095
+
+
+def chroma(s, rgb):
+    return tuple(min(max(chroma_sum(s, rgb, first) // 8192, s.by), s.by + s.ruv) for first in (3, 6))
+
+
+def chroma_size(s, w, h):
+    return (w + 1) // 2, h if s.sampling == '4:2:2' else (h + 1) // 2
+
+
+def chroma_colour(s, w, h, pixel, j, k, say=lambda line: None):
+    """The colour of chroma place j, k; pixel(x, r) gives R, G, B."""
+    r, right = (k if s.sampling == '4:2:2' else 2 * k), 2 * j + 1 < w
+    this = pixel(2 * j, r)
+    if s.sampling == '4:2:2':
+        if not right:
+            return this
+        terms = [(12, this), (4, pixel(2 * j + 1, r))]
+    else:
+        below = min(r + 1, h - 1)
+        if right:
+            terms = [(9, this), (3, pixel(2 * j + 1, r)), (3, pixel(2 * j, below)), (1, pixel(2 * j + 1, below))]
+        else:
+            terms = [(12, this), (4, pixel(2 * j, below))]
+    colour = []
+    for i in range(3):
+        total = sum(weight * s.linear[rgb[i]] for weight, rgb in terms)
+        index = (total + 8) // 16
+        colour.append(s.gamma[index])
+        products = ' + '.join(f'{weight} × {s.linear[rgb[i]]}' for weight, rgb in terms)
+        say(f'{"RGB"[i]}: {products} = {total}; ({total} + 8) / 16 gives {index}; gamma entry {s.gamma[index]}')
+    return tuple(colour)
+
+
+def rgb_of(s, source, at):
+    return tuple(source[at + place] for place in s.places)
+
+
+# ---- chapters 7, 8, 9
+
+def accepted(s):
+    return s.matrix != 'Custom' or all(0 <= k <= 0.5 for k in (s.kr, s.kb))
+
+
+def size_and_matrix(s, w, h):
+    if w == 0 or h == 0:
+        return 2, 0, 0
+    if w > 16384 or h > 16384:
+        return 3, 0, 0
+    if not accepted(s):
+        return 4, 0, 0
+
+
+def buffers(s, w, h, n, strides, lengths):
+    """6 to 12, strides and lengths of source, Y, U, V."""
+    cw, ch = chroma_size(s, w, h)
+    rows, row = [n, h, ch, ch], [w * s.c, w, cw, cw]
+    least = [stride * (count - 1) + one for stride, count, one in zip(strides, rows, row)]
+    if lengths[0] < least[0]:
+        return 6, least[0], lengths[0]
+    if strides[0] < row[0]:
+        return 7, row[0], strides[0]
+    for i, narrow, short in ((1, 8, 9), (2, 10, 10), (3, 11, 11)):
+        if strides[i] < row[i]:
+            return narrow, row[i] * rows[i], strides[i] * rows[i]
+        if lengths[i] < least[i]:
+            return short, least[i], lengths[i]
+    for stride, count, length in zip(strides, rows, lengths):
+        if length != stride * count:
+            return 12, stride * count, length
+
+
+def frame_answer(s, w, h, strides, lengths):
+    return size_and_matrix(s, w, h) or buffers(s, w, h, h, strides, lengths) or (0, 0, 0)
+
+
+def band_answer(s, w, h, done, m, strides, lengths, carried):
+    found = size_and_matrix(s, w, h)
+    if found is None and (m == 0 or m > max(0, h - done)):
+        found = 5, 0, 0
+    found = found or buffers(s, w, h, m, strides, lengths)
+    if found is None and carried < 3 * w:
+        found = 13, 3 * w, carried
+    return found or (0, 0, 0)
+
+
+def finished(s, h, n):
+    if s.sampling == '4:2:2':
+        return n
+    return (h + 1) // 2 if n == h else n // 2
+
+
+def convert(s, w, h, done, m, pixel, strides, planes):
+    """Writes the rows that a band finishes; a frame is the band of all its rows."""
+    s.weigh()
+    cw, _ = chroma_size(s, w, h)
+    for r in range(done, done + m):
+        for x in range(w):
+            planes[0][r * strides[0] + x] = luma(s, pixel(x, r))
+    for k in range(finished(s, h, done), finished(s, h, done + m)):
+        for j in range(cw):
+            colour = chroma_colour(s, w, h, pixel, j, k)
+            for plane, stride, byte in zip(planes[1:], strides[1:], chroma(s, colour)):
+                plane[k * stride + j] = byte
+
+
+def frame_call(s, w, h, source, strides, planes):
+    """Strides of source, Y, U, V. Answers three numbers."""
+    answer = frame_answer(s, w, h, strides, [len(source)] + [len(plane) for plane in planes])
+    if answer[0] == 0:
+        convert(s, w, h, 0, h, lambda x, r: rgb_of(s, source, r * strides[0] + x * s.c), strides[1:], planes)
+    return answer
+
+
+def band_call(s, w, h, done, m, source, strides, planes, carried):
+    """Answers three numbers and the rows done."""
+    answer = band_answer(s, w, h, done, m, strides, [len(source)] + [len(plane) for plane in planes], len(carried))
+    if answer[0]:
+        return answer, done
+
+    def pixel(x, r):
+        return rgb_of(s, carried, 3 * x) if r < done else rgb_of(s, source, (r - done) * strides[0] + x * s.c)
+
+    convert(s, w, h, done, m, pixel, strides[1:], planes)
+    last = done + m - 1
+    if s.sampling == '4:2:0' and last % 2 == 0 and last != h - 1:
+        for x in range(w):
+            at = (m - 1) * strides[0] + x * s.c
+            carried[3 * x:3 * x + 3] = source[at:at + 3]
+    return answer, done + m
+
+
+def program(request):
+    if len(request) < 9:
+        return b'refused 1\n'
+    codes = list(zip(request[4:9], CODES.values()))
+    if any(code >= len(values) for code, values in codes):
+        return b'refused 1\n'
+    w, h = int.from_bytes(request[0:2], 'little'), int.from_bytes(request[2:4], 'little')
+    s = Settings(*(values[code] for code, values in codes))
+    cw, ch = chroma_size(s, w, h)
+    planes = [bytearray(w * h), bytearray(cw * ch), bytearray(cw * ch)]
+    if w and h and w * h > 16384:
+        return b'refused 3\n'
+    number = frame_call(s, w, h, request[9:], [w * s.c, w, cw, cw], planes)[0]
+    return f'refused {number}\n'.encode() if number else b''.join(planes)
+
+
+# ---- the examples, by the number of their rule
+
+EXAMPLES = {}
+
+
+def example(number):
+    def keep(function):
+        EXAMPLES[number] = function
+        return function
+    return keep
+
+
+def hexes(data):
+    return ' '.join(f'{byte:02X}' for byte in data)
+
+
+def numbers(values):
+    return ' '.join(str(value) for value in values).replace('-', '−')
+
+
+def signed(value):
+    return str(value).replace('-', '−')
+
+
+def product_sum(rgb, triple, more):
+    terms = ' + '.join(f'{a} × {signed(b)}' for a, b in zip(rgb, triple))
+    return f'{terms} + {more}'
+
+
+def answer_line(what, answer):
+    return f'{what}: {answer[0]}' + (f', expected {answer[1]}, received {answer[2]}' if answer[0] >= 6 else ', expected 0, received 0')
+
+
+@example('1.1')
+def _():
+    yield 'a        b      a / b lies between   floor(a / b)'
+    for a, b in ((8191, 8192), (8192, 8192), (-1, 8192), (-8192, 8192), (-8193, 8192), (-1044480, 8192)):
+        low = a // b
+        between = f'{low} exactly' if low * b == a else f'{low} and {low + 1}'
+        yield f'{signed(a):<8} {b}   {signed(between):<19}  {signed(low)}'
+
+
+@example('1.2')
+def _():
+    for codes in ((0, 0, 0, 0, 0), (2, 1, 1, 5, 2)):
+        yield f'codes {numbers(codes)}: ' + ', '.join(values[code] for code, values in zip(codes, CODES.values()))
+
+
+@example('1.3')
+def _():
+    data = [10, 20, 30, 40]
+    for order, (c, places) in ORDERS.items():
+        r, g, b = (data[place] for place in places)
+        yield f'bytes {numbers(data[:c])} as {order}: R {r}, G {g}, B {b}'
+
+
+@example('1.4')
+def _():
+    for name, (by, ry, ruv) in RANGES.items():
+        yield f'{name}: luma from {by} to {by + ry}, chroma from {by} to {by + ruv}'
+
+
+@example('1.5')
+def _():
+    for w, h in ((1920, 1080), (3, 3), (1, 1), (16384, 16383)):
+        parts = [f'{s} {chroma_size(Settings(sampling=s), w, h)[0]} × {chroma_size(Settings(sampling=s), w, h)[1]}' for s in CODES['sampling']]
+        yield f'{w} × {h} pixels: chroma planes of ' + ', of '.join(parts)
+
+
+@example('2.1')
+def _():
+    w, h, strides = 3, 2, (10, 4, 2, 3)
+    s = Settings('Rgb', '4:2:0')
+    cw, ch = chroma_size(s, w, h)
+    yield f'w {w}, h {h}, Rgb, 4:2:0, strides of source, Y, U, V: {numbers(strides)}'
+    yield f'source: {h} rows of {w * s.c} bytes, rows start at bytes 0 and {strides[0]}'
+    yield f'Y: {h} rows of {w} bytes, rows start at bytes 0 and {strides[1]}'
+    yield f'U: {ch} row of {cw} bytes; V: {ch} row of {cw} bytes'
+
+
+@example('2.2')
+def _():
+    for order, stride, x, r in (('Rgb', 10, 2, 1), ('Bgra', 13, 2, 1)):
+        c, places = ORDERS[order]
+        at = r * stride + x * c
+        red, green, blue = (at + place for place in places)
+        yield f'{order}, stride {stride}: pixel {x} of row {r} starts at byte {r} × {stride} + {x} × {c} = {at}; R is byte {red}, G byte {green}, B byte {blue}'
+
+
+def one_pixel(rgb, **settings):
+    s = Settings(**settings)
+    data = bytearray(s.c)
+    for place, value in zip(s.places, rgb):
+        data[place] = value
+    planes = [bytearray(1), bytearray(1), bytearray(1)]
+    assert frame_call(s, 1, 1, data, [s.c, 1, 1, 1], planes)[0] == 0
+    return tuple(plane[0] for plane in planes)
+
+
+@example('2.3')
+def _():
+    for data, stride in (([200, 100, 50, 0, 0], 5), ([200, 100, 50, 255, 9], 5)):
+        s = Settings('Rgba')
+        planes = [bytearray(1) for _ in range(3)]
+        answer = frame_call(s, 1, 1, data, [stride, 1, 1, 1], planes)
+        yield f'1 × 1, Rgba, Bt601, Limited, Srgb, 4:2:0, stride {stride}, source {numbers(data)}: answer {answer[0]}, Y {planes[0][0]}, U {planes[1][0]}, V {planes[2][0]}'
+
+
+@example('2.4')
+def _():
+    s = Settings('Rgb', '4:2:0')
+    source = bytes([255, 0, 0] * 3)
+    planes = [bytearray(b'\xee' * n) for n in (5, 3, 4)]
+    assert frame_call(s, 3, 1, source, [9, 5, 3, 4], planes)[0] == 0
+    yield 'w 3, h 1, three red pixels, Rgb, Bt601, Limited, Srgb, 4:2:0, strides of Y, U, V 5, 3, 4; all bytes EE before the call. After it, in hexadecimal:'
+    for name, plane in zip('YUV', planes):
+        yield f'{name}: {hexes(plane)}'
+
+
+@example('2.5')
+def _():
+    s = Settings('Rgb', '4:2:2', 'Full').weigh()
+    row = [(255, 0, 0), (0, 255, 0), (0, 0, 255)]
+    planes = [bytearray(3), bytearray(2), bytearray(2)]
+    assert frame_call(s, 3, 1, bytes(sum(row, ())), [9, 3, 2, 2], planes)[0] == 0
+    yield 'w 3, h 1, pixels red, green, blue, Rgb, Bt601, Full, Srgb, 4:2:2'
+    yield f'Y: {numbers(planes[0])}, the luma of each pixel'
+    for j in range(2):
+        colour = chroma_colour(s, 3, 1, lambda x, r: row[x], j, 0)
+        yield f'chroma place j {j}, k 0: colour {numbers(colour)}, U byte {j} is its Cb {planes[1][j]}, V byte {j} its Cr {planes[2][j]}'
+
+
+@example('3.1')
+def _():
+    for name, c in CURVES.items():
+        yield f'{name}: SCALE − OFFSET = {c.scale - c.offset}, where D is {D}; SLOPE × BREAK = {c.slope * c.brk}'
+
+
+@example('3.2')
+def _():
+    for name in ('Srgb', 'Rec709'):
+        c = CURVES[name]
+        bound = 255 * c.slope * c.brk
+        last = max(v for v in range(1, 255) if linear_straight(c, v))
+        for v in (last, last + 1):
+            left = v * D * D
+            yield f'{name}, v {v}: {left} {"<" if left < bound else "≥"} {bound}, so v {v} is in the {"straight" if left < bound else "curved"} part'
+    yield 'Gamma2p2, Gamma2p8: no v from 1 to 254 is in a straight part'
+    most = max(max(254 * D * D, 255 * c.slope * c.brk).bit_length() for c in CURVES.values())
+    yield f'the longest of these products, for any transfer and v, has {most} bits'
+
+
+@example('3.3')
+def _():
+    for name in ('Srgb', 'Rec709'):
+        c = CURVES[name]
+        bound = 65535 * c.brk
+        last = max(i for i in range(1, 65535) if gamma_straight(c, i))
+        for i in (last, last + 1):
+            left = i * D
+            yield f'{name}, i {i}: {left} {"<" if left < bound else "≥"} {bound}, so i {i} is in the {"straight" if left < bound else "curved"} part'
+
+
+def sides(left, right):
+    """Two long numbers, shown by their first digits and their lengths."""
+    a, b = str(left), str(right)
+    return f'{a[:12]}.. ({len(a)} digits) {"≤" if left <= right else ">"} {b[:12]}.. ({len(b)} digits)'
+
+
+@example('3.4')
+def _():
+    for name, v in (('Srgb', 1), ('Srgb', 10), ('Rec709', 20)):
+        c = CURVES[name]
+        top, below = 65535 * v * D, 255 * c.slope
+        yield f'{name}, v {v}, straight: floor({top} / {below}) = {LINEAR[name][v]}'
+    for name, v in (('Srgb', 160), ('Gamma2p2', 254), ('Gamma2p8', 205)):
+        n = LINEAR[name][v]
+        for m in (n, n + 1):
+            yield f'{name}, v {v}, curved: n {m}: {sides(*linear_sides(CURVES[name], v, m))}' + (f', so entry {v} is {n}' if m > n else '')
+    yield f'Srgb, v 255: {LINEAR["Srgb"][255]}'
+    c = CURVES['Srgb']
+    nearest = (2 * 65535 * 10 * D + 255 * c.slope) // (2 * 255 * c.slope)
+    yield f'wrong, rounded to the nearest: Srgb, v 10: {nearest}, whose gamma entry is {GAMMA["Srgb"][nearest]}'
+    most = max(max(x.bit_length() for x in linear_sides(c, 254, 65535)) for c in CURVES.values())
+    yield f'the longest of these numbers, for any transfer and v, has {most} bits'
+
+
+@example('3.5')
+def _():
+    for name, i in (('Srgb', 198), ('Srgb', 199), ('Rec709', 514), ('Rec709', 1142), ('Rec709', 1183)):
+        c = CURVES[name]
+        yield f'{name}, i {i}, straight: floor({255 * i * c.slope} / {65535 * D}) = {GAMMA[name][i]}'
+    for name, i in (('Srgb', 200), ('Srgb', 36863), ('Gamma2p2', 22231)):
+        m = GAMMA[name][i]
+        for k in (m, m + 1):
+            yield f'{name}, i {i}, curved: m {k}: {sides(*gamma_sides(CURVES[name], i, k))}' + (f', so entry {i} is {m}' if k > m else '')
+    most = max(max(x.bit_length() for x in gamma_sides(c, 65534, 255)) for c in CURVES.values())
+    yield f'the longest of these numbers, for any transfer, i and m, has {most} bits'
+
+
+@example('4.1')
+def _():
+    for key, set_ in STORED.items():
+        yield f'{key[0] + " " + key[1]:<16} luma weights add to {sum(set_[:3])}, cb to {sum(set_[3:6])}, cr to {sum(set_[6:])}'
+
+
+def pair_text(kr, kb):
+    return f'Custom, kr {shown(kr)}, kb {shown(kb)}'
+
+
+@example('4.2')
+def _():
+    range_ = 'Limited'
+
+    def other(kr, kb, change):
+        if change == 'wider':
+            return [half_away(x * 8192.0) for x in coefficients(range_, kr, kb, keep=lambda x: x)]
+        ruv = float(RANGES[range_][2])
+        kg = f32(1.0 - f32(kr + kb)) if change == 'order' else f32(f32(1.0 - kr) - kb)
+        e = f32(f32(f32(-0.5 * kg) / f32(1.0 - kb)) * ruv)
+        last = f32(e * f32(1.0 / 255.0)) if change == 'reciprocal' else f32(e / 255.0)
+        return [None] * 4 + [half_away(f32(last * 8192.0))]
+
+    for pair, change, what in (((0.007, 0.311), 'order', 'with kg = 1 − (kr + kb)'), ((0.007, 0.311), 'reciprocal', 'with × (1 / 255) for / 255'),
+                               ((0.015, 0.404), 'wider', 'with every step in binary64')):
+        kr, kb = map(f32, pair)
+        right, wrong = weights('Custom', range_, kr, kb)[4], other(kr, kb, change)[4]
+        assert right != wrong
+        yield f'{pair_text(kr, kb)}, {range_}: cb_g {signed(right)}; wrong, {what}: {signed(wrong)}'
+
+    def ties_up(x):
+        near = f32(x)
+        up = of_bits(f'{int(bits(near), 16) + 1:08X}')  # the next number further from 0
+        return up if up - x == x - near else near
+
+    kr, kb = of_bits('3E40EA16'), of_bits('3E03A7AD')
+    right, ry = weights('Custom', range_, kr, kb)[1], float(RANGES[range_][1])
+    turned = half_away(f32(f32(f32(f32(f32(1.0 - kb) - kr) * ry) / 255.0) * 8192.0))
+    tied = half_away(f32(coefficients(range_, kr, kb, keep=ties_up)[1] * 8192.0))
+    assert right != turned and right != tied
+    yield f'{pair_text(kr, kb)}, {range_}: yg {right}; wrong, with kg = (1 − kb) − kr: {turned}'
+    yield f'{pair_text(kr, kb)}, {range_}: yg {right}; wrong, with ties rounded up, not to even: {tied}'
+
+
+@example('4.3')
+def _():
+    kr, kb = FCC
+    assert (kr, kb) == (f32(float(table('4.3')[0][1])), f32(float(table('4.3')[0][3])))
+    yield f'Fcc: kr is exactly {Fraction(kr)}, kb is exactly {Fraction(kb)}'
+    yield f'Fcc Full: {numbers(weights("Fcc", "Full"))}'
+    yield f'Fcc Limited: {numbers(weights("Fcc", "Limited"))}'
+    kr, kb = f32(0.299), f32(0.114)
+    for range_ in RANGES:
+        yield f'{pair_text(kr, kb)}, {range_}: {numbers(weights("Custom", range_, kr, kb))}'
+
+
+@example('4.4')
+def _():
+    lines = ['Fcc, Limited; nine digits of each number beside its bits']
+    coefficients('Limited', *FCC, say=lines.append)
+    yield from lines
+    lines = []
+    kr, kb = f32(0.015), f32(0.404)
+    coefficients('Limited', kr, kb, say=lines.append)
+    yield f'{pair_text(kr, kb)}, Limited: kg and cb_g'
+    at = [line.split(' = ')[0].strip() for line in lines]
+    yield from lines[at.index('kg') - 1:at.index('kg') + 1]
+    yield from lines[at.index('cb_g') - 4:at.index('cb_g') + 1]
+
+
+def exact(x):
+    """A binary32 number as an exact decimal."""
+    f = Fraction(x)
+    places = f.denominator.bit_length() - 1
+    digits = str(abs(f.numerator) * 5 ** places).rjust(places + 1, '0')
+    text = (digits[:-places] + '.' + digits[-places:]).rstrip('0').rstrip('.') if places else digits
+    return ('−' if f < 0 else '') + text
+
+
+@example('4.5')
+def _():
+    for text, range_, kr, kb in (('Fcc', 'Limited', *FCC), ('Custom', 'Full', f32(0.5), 2.0 ** -14), ('Custom', 'Limited', f32(0.012), f32(0.413))):
+        nine = coefficients(range_, kr, kb)
+        yield f'{text if text == "Fcc" else pair_text(kr, kb)}, {range_}'
+        for name, x in zip(NAMES, nine):
+            y = f32(x * 8192.0)
+            yield f'  {name:<4} {bits(x)} × 46000000 = {bits(y)}, exactly {exact(y)}: {signed(half_away(y))}'
+
+
+@example('5.1')
+def _():
+    cases = (('Bt601', 'Full', (255, 0, 0)), ('Bt601', 'Limited', (0, 255, 0)), ('Bt601', 'Limited', (0, 0, 0)), ('Bt601', 'Limited', (255, 255, 255)),
+             ('Smpte240', 'Full', (255, 255, 255)))
+    for matrix, range_, rgb in cases + half_case():
+        s = Settings(matrix=matrix, range_=range_).weigh()
+        total = luma_sum(s, rgb)
+        text = product_sum(rgb, s.w[:3], f'{s.by} × 8192 + 4095')
+        yield f'{matrix} {range_}, {numbers(rgb)}: {text} = {total}; floor({total} / 8192) = {total // 8192}; luma {luma(s, rgb)}'
+        if (matrix, range_, rgb) in half_case():
+            yield f'  here 4096 in place of 4095 would give {(total + 1) // 8192}'
+
+
+def half_case():
+    """The first colour of Bt601 Full whose luma an added 1 would raise."""
+    s = Settings(range_='Full').weigh()
+    for red in range(256):
+        for green in range(256):
+            for blue in range(256):
+                if luma_sum(s, (red, green, blue)) % 8192 == 8191:
+                    return (('Bt601', 'Full', (red, green, blue)),)
+
+
+@example('5.2')
+def _():
+    for matrix, range_, rgb in (('Bt601', 'Full', (255, 0, 0)), ('Bt601', 'Limited', (0, 255, 0)), ('Bt601', 'Limited', (200, 200, 200))):
+        s = Settings(matrix=matrix, range_=range_).weigh()
+        for name, first, value in zip(('Cb', 'Cr'), (3, 6), chroma(s, rgb)):
+            total = chroma_sum(s, rgb, first)
+            text = product_sum(rgb, s.w[first:first + 3], '128 × 8192 + 4095')
+            yield f'{matrix} {range_}, {numbers(rgb)}: {text} = {total}; floor({total} / 8192) = {total // 8192}; {name} {value}'
+    s = Settings(range_='Full').weigh()
+    part = 255 * s.w[3] + 4095
+    yield f'dividing first: floor({signed(part)} / 8192) + 128 = {signed(part // 8192)} + 128 = {part // 8192 + 128}'
+
+
+@example('6.1')
+def _():
+    for sampling, w, h, j, k in (('4:2:0', 4, 4, 1, 1), ('4:2:0', 3, 4, 1, 0), ('4:2:0', 4, 3, 0, 1), ('4:2:0', 1, 1, 0, 0), ('4:2:2', 4, 3, 1, 2), ('4:2:2', 3, 3, 1, 0)):
+        r = k if sampling == '4:2:2' else 2 * k
+        below = min(r + 1, h - 1)
+        right = 2 * j + 1 < w
+        parts = [f'this is pixel {2 * j} of row {r}', f'right is pixel {2 * j + 1} of row {r}' if right else 'no right pixel']
+        if sampling == '4:2:0':
+            parts.append(f'below is pixel {2 * j} of row {below}')
+            if right:
+                parts.append(f'below right is pixel {2 * j + 1} of row {below}')
+        yield f'{sampling}, {w} × {h} pixels, j {j}, k {k}: ' + ', '.join(parts)
+
+
+@example('6.2')
+def _():
+    s = Settings()
+    for total, text in ((9 * 65535, '9 × 65535'), (12 * 65535, '12 × 65535'), (16 * LINEAR['Srgb'][10], f'16 × {LINEAR["Srgb"][10]}')):
+        index = (total + 8) // 16
+        yield f'Srgb, sum {text} = {total}: floor({total + 8} / 16) = {index}, gamma entry {s.gamma[index]}'
+
+
+@example('6.3')
+def _():
+    s = Settings()
+    grid = [[(10, 0, 255), (20, 0, 0), (255, 255, 0)], [(30, 0, 0), (40, 255, 0), (0, 0, 255)]]
+    yield 'Srgb, 3 × 2 pixels, row 0: 10 0 255, 20 0 0, 255 255 0; row 1: 30 0 0, 40 255 0, 0 0 255'
+    for j in range(2):
+        lines = []
+        colour = chroma_colour(s, 3, 2, lambda x, r: grid[r][x], j, 0, lines.append)
+        yield f'j {j}, k 0:'
+        yield from (f'  {line}' for line in lines)
+        yield f'  chroma colour {numbers(colour)}'
+    lines = []
+    colour = chroma_colour(s, 1, 1, lambda x, r: (10, 10, 10), 0, 0, lines.append)
+    yield '1 × 1 pixels, 10 10 10:'
+    yield f'  {lines[0]}; chroma colour {numbers(colour)}'
+
+
+@example('6.4')
+def _():
+    s = Settings(sampling='4:2:2')
+    row = [(10, 0, 255), (20, 0, 0), (10, 99, 1)]
+    yield 'Srgb, 3 × 1 pixels, row 0: 10 0 255, 20 0 0, 10 99 1'
+    lines = []
+    colour = chroma_colour(s, 3, 1, lambda x, r: row[x], 0, 0, lines.append)
+    yield 'j 0, k 0:'
+    yield from (f'  {line}' for line in lines)
+    yield f'  chroma colour {numbers(colour)}'
+    colour = chroma_colour(s, 3, 1, lambda x, r: row[x], 1, 0)
+    wrong = tuple(s.gamma[(16 * s.linear[value] + 8) // 16] for value in row[2])
+    yield f'j 1, k 0: chroma colour {numbers(colour)}; through the tables it would be {numbers(wrong)}, which is wrong'
+    for name in CURVES:
+        yield f'{name}: of 256 bytes, {sum(GAMMA[name][LINEAR[name][v]] != v for v in range(256))} are changed by the linear table and the gamma table after it'
+
+
+@example('7.1')
+def _():
+    s = Settings('Rgb')
+    yield 'Rgb, 4:2:0, h 3, all strides and lengths 0, w as said'
+    yield answer_line('w 0', frame_answer(s, 0, 3, [0] * 4, [0] * 4))
+    yield answer_line('w 3 (6, 7, 8, 9, 10 and 11 hold)', frame_answer(s, 3, 3, [0] * 4, [0] * 4))
+    yield answer_line('w 3, all buffers long enough (7, 8, 10, 11 and 12 hold)', frame_answer(s, 3, 3, [0] * 4, [9] * 4))
+
+
+@example('7.2')
+def _():
+    planes = [bytearray(b'\xee' * 2), bytearray(b'\xee'), bytearray(b'\xee')]
+    answer = frame_call(Settings('Rgb'), 1, 1, bytes([255, 0, 0]), [3, 1, 1, 1], planes)
+    yield f'1 × 1, Rgb, 4:2:0, strides 3, 1, 1, 1, Y of 2 bytes EE EE: {answer[0]}, expected {answer[1]}, received {answer[2]}; Y is {hexes(planes[0])} after the call'
+
+
+@example('7.3')
+def _():
+    s = Settings()
+    for w, h in ((0, 1), (0, 16385), (16384, 1), (16385, 1), (1, 4294967295)):
+        found = size_and_matrix(s, w, h)
+        yield f'w {w}, h {h}: ' + (str(found[0]) if found else 'neither')
+
+
+@example('7.4')
+def _():
+    for text in ('00000000', '80000000', '3F000000', '3F000001', '00000001', '80000001', '7FC00000', '7F800000', 'BF000000'):
+        k = of_bits(text)
+        found = size_and_matrix(Settings(matrix='Custom', kr=k, kb=0.0), 1, 1)
+        yield f'kr {text} ({k:.9g}), kb 00000000: {"4" if found else "accepted"}'.replace('-', '−')
+
+
+def frame_lines(cases):
+    for text, s, w, h, strides, lengths in cases:
+        answer = frame_answer(s, w, h, strides, lengths)
+        yield answer_line(f'{text}, strides {numbers(strides)}, lengths {numbers(lengths)}', answer)
+
+
+@example('7.5')
+def _():
+    s = Settings('Rgb')
+    yield 'w 4, h 2, Rgb, 4:2:0; strides and lengths of source, Y, U, V'
+    yield from frame_lines(((text, s, 4, 2, strides, (length, 8, 2, 2)) for text, strides, length in (
+        ('one byte under', (16, 4, 2, 2), 27), ('stride too small', (11, 4, 2, 2), 23), ('both', (11, 4, 2, 2), 22), ('neither', (16, 4, 2, 2), 32))))
+
+
+@example('7.6')
+def _():
+    s = Settings('Rgb')
+    yield 'w 5, h 3, Rgb, 4:2:0: cw 3, ch 2; strides and lengths of source, Y, U, V'
+    yield from frame_lines(((text, s, 5, 3, strides, lengths) for text, strides, lengths in (
+        ('Y stride', (15, 4, 3, 3), (45, 15, 6, 6)), ('Y one byte under', (15, 8, 3, 3), (45, 20, 6, 6)), ('U stride', (15, 5, 2, 3), (45, 15, 6, 6)),
+        ('U one byte under', (15, 5, 4, 3), (45, 15, 6, 6)), ('U stride and length', (15, 5, 2, 3), (45, 15, 0, 6)), ('V stride', (15, 5, 3, 2), (45, 15, 6, 6)),
+        ('V one byte under', (15, 5, 3, 4), (45, 15, 6, 6)), ('none', (15, 5, 3, 3), (45, 15, 6, 6)))))
+    yield 'stride 4294967295 in 16384 rows: stride × h = ' + str(4294967295 * 16384)
+
+
+@example('7.7')
+def _():
+    s = Settings('Rgb')
+    yield 'w 5, h 3, Rgb, 4:2:0; strides and lengths of source, Y, U, V'
+    yield from frame_lines(((text, s, 5, 3, strides, lengths) for text, strides, lengths in (
+        ('Y at its least', (15, 8, 3, 3), (45, 21, 6, 6)), ('Y whole', (15, 8, 3, 3), (45, 24, 6, 6)), ('Y a row longer', (15, 8, 3, 3), (45, 32, 6, 6)),
+        ('source and V longer', (15, 8, 3, 3), (46, 24, 6, 7)), ('V longer', (15, 8, 3, 3), (45, 24, 6, 7)))))
+
+
+@example('7.8')
+def _():
+    for name, rgb, settings in (('red', (255, 0, 0), dict(range_='Full')), ('red', (255, 0, 0), dict(range_='Full', sampling='4:2:2')),
+                                ('green', (0, 255, 0), dict(sampling='4:2:2')), ('black', (0, 0, 0), {}), ('white', (255, 255, 255), {})):
+        s = Settings(**settings)
+        yield f'{name} {numbers(rgb)}, 1 × 1, Bt601 {s.range_}, Srgb, {s.sampling}: 0; Y U V {numbers(one_pixel(rgb, **settings))}'
+
+
+@example('8.1')
+def _():
+    s = Settings()
+    for w, h, strides in ((4, 5, (4, 2, 2)), (4, 5, (0, 0, 0)), (0, 5, (4, 2, 2)), (4, 16385, (4, 2, 2))):
+        found = size_and_matrix(s, w, h)
+        yield f'w {w}, h {h}, plane strides {numbers(strides)}: ' + (f'refused {found[0]}' if found else 'accepted') + ', 0 rows done'
+
+
+BAND = Settings('Rgb', range_='Full')
+
+
+def band_line(text, s, w, h, done, m, strides, lengths, carried):
+    return answer_line(text, band_answer(s, w, h, done, m, strides, lengths, carried))
+
+
+@example('8.2')
+def _():
+    yield 'state: w 4, h 5, Rgb, 4:2:0, plane strides 4, 2, 2; planes of 20, 6, 6 bytes; carried row of 12 bytes'
+    for done, m, stride, length in ((0, 2, 12, 24), (2, 2, 16, 32), (4, 1, 12, 12), (2, 2, 12, 60), (0, 2, 12, 23)):
+        yield band_line(f'{done} rows done, m {m}, source stride {stride}, source of {length} bytes', BAND, 4, 5, done, m, (stride, 4, 2, 2), (length, 20, 6, 6), 12)
+
+
+@example('8.3')
+def _():
+    for done, m in ((0, 0), (0, 5), (0, 6), (3, 2), (3, 3), (5, 1), (4294967295, 1)):
+        found = band_answer(BAND, 4, 5, done, m, (12, 4, 2, 2), (12 * m, 20, 6, 6), 12)
+        yield f'h 5, {done} rows done, m {m}: ' + ('5' if found[0] else 'accepted')
+
+
+@example('8.4')
+def _():
+    for sampling, ch in (('4:2:0', 3), ('4:2:2', 5)):
+        for carried in (11, 12, 13):
+            yield band_line(f'w 4, h 5, {sampling}, carried row of {carried} bytes', Settings('Rgb', sampling), 4, 5, 0, 2, (12, 4, 2, 2), (24, 20, 2 * ch, 2 * ch), carried)
+
+
+@example('8.5')
+def _():
+    for done, m in ((0, 2), (2, 4), (2, 3)):
+        answer = band_answer(BAND, 4, 5, done, m, (12, 4, 2, 2), (12 * m, 20, 6, 6), 12)
+        yield f'h 5, {done} rows done, m {m}: answer {answer[0]}, {done if answer[0] else done + m} rows done after the call'
+
+
+@example('8.6')
+def _():
+    for h in (4, 5):
+        for sampling in CODES['sampling']:
+            s = Settings(sampling=sampling)
+            yield f'h {h}, {sampling}: chroma rows finished after 0 to {h} rows: ' + numbers(finished(s, h, n) for n in range(h + 1))
+
+
+SMALL = [[(255, 0, 0), (0, 255, 0)], [(0, 0, 255), (255, 255, 255)], [(9, 120, 60), (200, 10, 77)]]
+
+
+def small_bands(s, cut, source_of):
+    planes = [bytearray(b'\xee' * n) for n in (6, chroma_size(s, 2, 3)[1], chroma_size(s, 2, 3)[1])]
+    carried, done = bytearray(b'\xcc' * 7), 0
+    for m in cut:
+        source = source_of(done, m)
+        answer, done = band_call(s, 2, 3, done, m, source, [len(source) // m, 2, 1, 1], planes, carried)
+        assert answer[0] == 0
+        yield m, done, planes, carried
+
+
+def small_source(done, m):
+    return b''.join(bytes(sum(row, ())) + b'\x00' * done for row in SMALL[done:done + m])
+
+
+def small_text():
+    return 'Rgb, Bt601, Full, Srgb, 4:2:0, 2 × 3 pixels: ' + '; '.join(f'row {r} ' + ', '.join(numbers(rgb) for rgb in row) for r, row in enumerate(SMALL))
+
+
+@example('8.7')
+def _():
+    s = Settings('Rgb', '4:2:0', 'Full')
+    yield small_text()
+    yield 'plane strides 2, 1, 1; source strides 6 in the first band and 7 in the second; planes all EE and carried row all CC before; bytes in hexadecimal'
+    for m, done, planes, carried in small_bands(s, (1, 2), small_source):
+        yield f'band of {m}, {done} rows done after it: Y {hexes(planes[0])}, U {hexes(planes[1])}, V {hexes(planes[2])}, carried row {hexes(carried)}'
+    planes = [bytearray(6), bytearray(2), bytearray(2)]
+    assert frame_call(s, 2, 3, small_source(0, 3), [6, 2, 1, 1], planes)[0] == 0
+    yield f'one frame call: Y {hexes(planes[0])}, U {hexes(planes[1])}, V {hexes(planes[2])}'
+
+
+@example('8.8')
+def _():
+    for order, sampling, cut in (('Rgb', '4:2:0', (1,)), ('Bgra', '4:2:0', (1,)), ('Rgb', '4:2:0', (2,)), ('Rgb', '4:2:0', (3,)), ('Rgb', '4:2:2', (1,))):
+        s = Settings(order, sampling, 'Full')
+
+        def source_of(done, m):
+            data = bytearray()
+            for row in SMALL[done:done + m]:
+                for rgb in row:
+                    pixel = bytearray([0, 0, 0, 170][:s.c])
+                    for place, value in zip(s.places, rgb):
+                        pixel[place] = value
+                    data += pixel
+            return data
+
+        *_, (m, done, planes, carried) = small_bands(s, cut, source_of)
+        yield f'{order}, {sampling}, the frame of 8.7, first band of {m}, its last row of bytes {hexes(source_of(m - 1, 1))}: carried row of 7 bytes CC becomes {hexes(carried)}'
+
+
+@example('8.9')
+def _():
+    s = Settings('Rgb', '4:2:0', 'Full')
+    yield small_text()
+    yield 'plane strides 2, 1, 1; source stride 6; carried row of 6 bytes; planes all EE before; bytes in hexadecimal'
+    planes, carried, done = [bytearray(b'\xee' * n) for n in (6, 2, 2)], bytearray(b'\xcc' * 6), 0
+    for text, m, length in (('band of 1', 1, 6), ('band of 3', 3, 18), ('band of 1, source one byte short', 1, 5), ('band of 2', 2, 12), ('band of 1', 1, 6)):
+        source = small_source(0, 3)[6 * done:][:length]
+        source += b'\x00' * (length - len(source))
+        answer, done = band_call(s, 2, 3, done, m, source, [6, 2, 1, 1], planes, carried)
+        yield f'{text}: {answer[0]}, {done} rows done; Y {hexes(planes[0])}, U {hexes(planes[1])}, V {hexes(planes[2])}'
+
+
+def request(w, h, codes, source):
+    return w.to_bytes(2, 'little') + h.to_bytes(2, 'little') + bytes(codes) + bytes(source)
+
+
+@example('9.1')
+def _():
+    given = request(1, 1, (0, 1, 1, 0, 0), (255, 0, 0))
+    yield f'{hexes(given)} (hexadecimal): w 1, h 1, ' + ', '.join(values[code] for code, values in zip(given[4:9], CODES.values())) + ', one pixel 255 0 0'
+    given = request(1920, 2, (3, 0, 0, 1, 0), b'')
+    yield f'{hexes(given)} and {1920 * 2 * 3} bytes of pixels: w 1920, h 2, ' + ', '.join(values[code] for code, values in zip(given[4:9], CODES.values()))
+
+
+@example('9.2')
+def _():
+    for text, given in (('8 bytes', bytes(8)), ('matrix code 6', request(1, 1, (0, 0, 0, 6, 0), bytes(3))), ('range code 2 and w 0', request(0, 1, (0, 0, 2, 0, 0), b'')),
+                        ('w 0, h 20000', request(0, 20000, (0, 0, 0, 0, 0), b'')), ('w 16385, h 1', request(16385, 1, (0, 0, 0, 0, 0), b'')),
+                        ('w 129, h 128', request(129, 128, (0, 0, 0, 0, 0), bytes(129 * 128 * 3))), ('w 1, h 1, Rgb, 2 bytes of pixels', request(1, 1, (0, 0, 0, 0, 0), bytes(2))),
+                        ('w 1, h 1, Rgb, 4 bytes of pixels', request(1, 1, (0, 0, 0, 0, 0), bytes(4)))):
+        yield f'{text}: {program(given).decode().strip()}'
+    given = request(128, 128, (0, 0, 0, 0, 0), bytes(128 * 128 * 3))
+    yield f'w 128, h 128, Rgb, 4:2:0, {128 * 128 * 3} bytes of pixels: {len(program(given))} bytes of planes'
+
+
+@example('9.3')
+def _():
+    for given in (request(1, 1, (0, 1, 1, 0, 0), (255, 0, 0)), request(1, 1, (0, 1, 1, 0, 0), (255, 0)), request(1, 1, (0, 1, 1, 0, 0), (255, 0, 0, 0))):
+        yield f'{hexes(given)} gives {hexes(program(given))} (hexadecimal)'
+
+
+DESCRIPTION = (4, 5, 0, 0, 1, 0, 0, 4, 2, 2)
+
+
+@example('10.1')
+def _():
+    w, h, *codes = DESCRIPTION[:7]
+    yield f'{numbers(DESCRIPTION)}: w {w}, h {h}, ' + ', '.join(values[code] for code, values in zip(codes, CODES.values())) + ', plane strides 4, 2, 2'
+
+
+@example('10.2')
+def _():
+    custom = [len(values) for values in CODES.values()]
+    custom[3] += 1
+    for text, before, given in (('frame', 1, (12,) + DESCRIPTION), ('frame', 1, DESCRIPTION), ('opening', 0, DESCRIPTION[:5] + (7,) + DESCRIPTION[6:]),
+                                ('opening', 0, DESCRIPTION[:5] + (6,) + DESCRIPTION[6:]), ('opening', 0, (0, 5, 4) + DESCRIPTION[3:])):
+        bad = len(given) != before + 10 or any(code >= most for code, most in zip(given[before + 2:before + 7], custom))
+        yield f'{text}, {len(given)} numbers {numbers(given)}: ' + ('1' if bad else 'not 1')
+
+
+@example('10.3')
+def _():
+    given = (2, 2, 12) + DESCRIPTION
+    answer = band_answer(BAND, 4, 5, 2, 2, (12, 4, 2, 2), (24, 20, 6, 6), 12)
+    yield f'band, numbers {numbers(given)}, source of 24 bytes, planes of 20, 6, 6, carried row of 12: returns {answer[0]}, tells {answer[1]}, {answer[2]}, 4'
+    answer = band_answer(BAND, 4, 5, 2, 2, (12, 4, 2, 2), (24, 20, 6, 6), 11)
+    yield f'the same, carried row of 11: returns {answer[0]}, tells {answer[1]}, {answer[2]}, 2'
+
+
+# ---- appendix A
+
+def nine(sampling):
+    s = Settings('Bgra', sampling, 'Limited', 'Bt709', 'Srgb').weigh()
+    colours = [[(250, 128, 7), (12, 200, 255), (64, 64, 64)], [(3, 9, 27), (255, 255, 255), (180, 30, 90)], [(0, 0, 0), (99, 250, 1), (33, 66, 132)]]
+    source = bytearray()
+    for r, row in enumerate(colours):
+        for x, (red, green, blue) in enumerate(row):
+            source += bytes([blue, green, red, 16 * r + x])
+        source += b'\xaa'
+    return s, colours, source
+
+
+@example('A.1')
+def _():
+    _, colours, source = nine('4:2:0')
+    for r in range(3):
+        yield f'row {r}, hexadecimal: {hexes(source[13 * r:13 * r + 13])}'
+    for r, row in enumerate(colours):
+        yield f'row {r}, R G B: ' + ', '.join(numbers(rgb) for rgb in row)
+
+
+@example('A.2')
+def _():
+    s, colours, _ = nine('4:2:0')
+    yield f'weights {numbers(s.w)}'
+    for r, row in enumerate(colours):
+        for x, rgb in enumerate(row):
+            total = luma_sum(s, rgb)
+            yield f'row {r}, pixel {x}: {product_sum(rgb, s.w[:3], "16 × 8192 + 4095")} = {total}; luma {luma(s, rgb)}'
+
+
+@example('A.3')
+def _():
+    s, colours, _ = nine('4:2:0')
+    for r, row in enumerate(colours):
+        yield f'row {r}, R G B: ' + ', '.join(numbers(s.linear[value] for value in rgb) for rgb in row)
+
+
+def nine_chroma(sampling):
+    s, colours, _ = nine(sampling)
+    cw, ch = chroma_size(s, 3, 3)
+    for k in range(ch):
+        for j in range(cw):
+            lines = []
+            colour = chroma_colour(s, 3, 3, lambda x, r: colours[r][x], j, k, lines.append)
+            yield f'j {j}, k {k}:'
+            yield from (f'  {line}' for line in lines)
+            yield f'  chroma colour {numbers(colour)}' + ('' if lines else ', the pixel itself')
+            for name, first, value in zip(('Cb', 'Cr'), (3, 6), chroma(s, colour)):
+                total = chroma_sum(s, colour, first)
+                yield f'  {product_sum(colour, s.w[first:first + 3], "128 × 8192 + 4095")} = {total}; {name} {value}'
+
+
+EXAMPLES['A.4'] = lambda: nine_chroma('4:2:0')
+EXAMPLES['A.5'] = lambda: nine_chroma('4:2:2')
+
+
+@example('A.6')
+def _():
+    for sampling in CODES['sampling']:
+        s, _, source = nine(sampling)
+        ch = chroma_size(s, 3, 3)[1]
+        planes = [bytearray(b'\xee' * n) for n in (12, 3 * ch, 3 * ch)]
+        assert frame_call(s, 3, 3, source, [13, 4, 3, 3], planes) == (0, 0, 0)
+        yield f'{sampling}, hexadecimal'
+        for name, plane, stride in zip('YUV', planes, (4, 3, 3)):
+            yield f'  {name}: ' + ' | '.join(hexes(plane[at:at + stride]) for at in range(0, len(plane), stride))
+
+
+# ---- appendix B
+
+def first_indices(name):
+    found, m = [], 0
+    for i, entry in enumerate(GAMMA[name]):
+        while m <= entry:
+            found.append(i)
+            m += 1
+    return found
+
+
+def lines_of(values):
+    for at in range(0, 256, 16):
+        yield ' '.join(f'{value:>5}' for value in values[at:at + 16])
+
+
+@example('B.0')
+def _():
+    for name in CURVES:
+        linear = zlib.crc32(struct.pack('<256H', *LINEAR[name]))
+        gamma = zlib.crc32(bytes(GAMMA[name]))
+        yield f'{name:<8} linear {linear:08x}, entries add to {sum(LINEAR[name])}; gamma {gamma:08x}, entries add to {sum(GAMMA[name])}'
+
+
+for place, transfer in enumerate(CURVES):
+    EXAMPLES[f'B.{2 * place + 1}'] = lambda transfer=transfer: lines_of(LINEAR[transfer])
+    EXAMPLES[f'B.{2 * place + 2}'] = lambda transfer=transfer: lines_of(first_indices(transfer))
+
+
+def main():
+    if sys.argv[1:] not in ([], ['--check']):
+        sys.exit(__doc__)
+    faults = []
+
+    def made(match):
+        head, number, body = match.groups()
+        if number not in EXAMPLES:
+            faults.append(f'no example {number} is worked out')
+            return match.group()
+        new = ''.join(f'{line.rstrip()}\n' for line in EXAMPLES[number]())
+        if new != body:
+            differs.append(f'example {number} is not what the rules give')
+        return f'```text\n{head}\n{new}```'
+
+    differs = []
+    text = BLOCK.sub(made, TEXT)
+    there = [match[1] for match in BLOCK.findall(TEXT)]
+    faults += [f'rule {number} has no example' for number in RULE.findall(TEXT) if number not in there]
+    faults += [f'example {number} stands nowhere' for number in EXAMPLES if number not in there]
+    faults += [f'example {number} stands twice' for number in set(there) if there.count(number) > 1]
+    if sys.argv[1:]:
+        faults += differs
+    else:
+        RULES.write_text(text)
+    if faults:
+        sys.exit('\n'.join(faults))
+    print(f'{len(RULE.findall(TEXT))} rules, {len(there)} examples')
+
+
+if __name__ == '__main__':
+    main()
