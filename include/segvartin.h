@@ -7,6 +7,9 @@
  * Call segvartin_frame, segvartin_open and segvartin_band, or the same calls with their numbers in structs: segvartin_convert_frame,
  * segvartin_open_frame and segvartin_convert_band. They only pass numbers on to the library's segvartin_call_ functions below.
  *
+ * docs/RULES.md has the rules that fix each byte and each answer; RULES 7.1 below names one of them. The three functions are the calls of
+ * its chapter 10.
+ *
  * Every function answers finished work (0) or the number of one refusal, and a refusal writes no byte of a plane or of the carried row.
  * This holds for all values of all numbers: sizes, strides, lengths, codes, kr, kb. What no function can check, and the caller must see to:
  *   - a pointer is not NULL, also where its length is 0, and points to as many bytes as the length beside it says;
@@ -33,16 +36,16 @@
 extern "C" {
 #endif
 
-/* Order of the bytes of a pixel. */
+/* Order of the bytes of a pixel (RULES 1.3). Codes are those of RULES 1.2. */
 enum { SEGVARTIN_RGB = 0, SEGVARTIN_RGBA = 1, SEGVARTIN_BGRA = 2, SEGVARTIN_BGR = 3 };
 
-/* Chroma sampling. */
+/* Chroma sampling (RULES 1.5). */
 enum { SEGVARTIN_YUV420 = 0, SEGVARTIN_YUV422 = 1 };
 
-/* Limited: Y 16 to 235, U and V 16 to 240. Full: 0 to 255. */
+/* Limited: Y 16 to 235, U and V 16 to 240. Full: 0 to 255. (RULES 1.4) */
 enum { SEGVARTIN_LIMITED = 0, SEGVARTIN_FULL = 1 };
 
-/* Matrix. SEGVARTIN_CUSTOM takes kr and kb, each from 0 to 0.5; the others do not look at them. */
+/* Matrix (RULES 4.1, 4.3). SEGVARTIN_CUSTOM takes kr and kb, each from 0 to 0.5; the others do not look at them. */
 enum {
     SEGVARTIN_BT601 = 0,
     SEGVARTIN_BT709 = 1,
@@ -53,11 +56,11 @@ enum {
     SEGVARTIN_CUSTOM = 6
 };
 
-/* Transfer: the curve between stored and linear values. */
+/* Transfer: the curve between stored and linear values (RULES 3.1). */
 enum { SEGVARTIN_SRGB = 0, SEGVARTIN_REC709 = 1, SEGVARTIN_GAMMA2P2 = 2, SEGVARTIN_GAMMA2P8 = 3 };
 
 /*
- * What a call answers. Where several conditions hold, the lowest number is answered. In parentheses: what *expected and *received get;
+ * What a call answers (RULES 7.1). Where several conditions hold, the lowest number is answered. In parentheses: what *expected and *received get;
  * where nothing stands there, and after finished work, both get 0.
  */
 enum {
@@ -130,7 +133,7 @@ static inline void segvartin_set_mode(uint32_t mode) { __asm__ __volatile__("ldm
 #define SEGVARTIN_APART static __attribute__((noinline, unused))
 
 /*
- * Converts a whole frame. Answers 0, or a refusal: 1 to 4, 6 to 12.
+ * Converts a whole frame (RULES 7.8). Answers 0, or a refusal: 1 to 4, 6 to 12.
  *
  *   width, height    1 to 16384
  *   channels .. transfer    the codes above; kr and kb are looked at where matrix is SEGVARTIN_CUSTOM
@@ -157,7 +160,8 @@ SEGVARTIN_APART uint32_t segvartin_frame(uint32_t width, uint32_t height, uint32
 }
 
 /*
- * Opens a frame that comes in bands of rows. Answers 0, or a refusal: 1 to 4. Of plane strides it says nothing; the first band call does.
+ * Opens a frame that comes in bands of rows (RULES 8.1). Answers 0, or a refusal: 1 to 4. Of plane strides it says nothing; the first band
+ * call does.
  *
  *   done             gets 0, the rows done so far, also after a refusal
  *   the others       as in segvartin_frame
@@ -180,7 +184,7 @@ SEGVARTIN_APART uint32_t segvartin_open(uint32_t width, uint32_t height, uint32_
 }
 
 /*
- * Converts the next rows of a frame. Answers 0, or a refusal: 1 to 13; a refusal leaves *done as it is.
+ * Converts the next rows of a frame (RULES 8.2, 8.9). Answers 0, or a refusal: 1 to 13; a refusal leaves *done as it is.
  *
  * The frame's numbers are those of its opening. *done, the planes and the carried row are those that the last accepted call left: then the
  * rows finished are those of segvartin_frame on the same rows, byte for byte. After n rows these are n rows of Y; n rows of U and V in 4:2:2,

@@ -2,7 +2,7 @@
 """Make the requests that crates/replay_requests replays, and what it must write.
 
 The requests stand below, each with a name; src/main.rt of the crate says how they are written down.
-What answers them comes from the model of document 01, which is built first (model/build).
+What answers them comes from the model of the rules, which is built first (model/build).
 
     tools/requests.py           write crates/replay_requests/stdin and stdout
     tools/requests.py --check   say which of the two files is not what this makes, and fail if one is not
@@ -16,7 +16,7 @@ ROOT = Path(__file__).resolve().parent.parent
 CRATE = ROOT / 'crates' / 'replay_requests'
 MODEL = ROOT / 'target' / 'model' / 'frame'
 
-# Document 01, "The program": the codes of each setting, in order.
+# RULES 1.2: the codes of each setting, in order.
 CHANNELS = ['Rgb', 'Rgba', 'Bgra', 'Bgr']
 SAMPLINGS = ['4:2:0', '4:2:2']
 RANGES = ['Limited', 'Full']
@@ -62,7 +62,7 @@ class Requests:
 
 def requests():
     r = Requests()
-    # document 01, "Frames and entries worked out"
+    # worked lines, examples of RULES 7.8
     for sampling in SAMPLINGS:
         r.frame(f'red, 1 by 1, Bt601 Full, {sampling}', 1, 1, sampling=sampling, range_='Full', source=bytes([255, 0, 0]))
         r.frame(f'black and white, 2 by 2, Bt601 Limited, {sampling}', 2, 2, sampling=sampling, source=bytes(6) + bytes([255] * 6))

@@ -1,4 +1,4 @@
-//! Document 01, "Bands": a frame in several calls.
+//! A frame in several calls: RULES 8.1 and on.
 
 use crate::frame::{Plane, source_row};
 use crate::refusals::{Answer, Lent, Refusal, carried_row, memory, refuse_if, size_and_matrix};
@@ -17,8 +17,7 @@ pub struct FrameState {
     pub done: u32,
 }
 
-/// "Opening fixes w, h, settings and plane strides, and answers 2, 3, 4." It says nothing of the
-/// strides; the first band call does.
+/// RULES 8.1. It says nothing of the strides; the first band call does.
 pub fn open(
     w: u32,
     h: u32,
@@ -40,7 +39,7 @@ pub fn open(
 }
 
 impl FrameState {
-    /// The next `rows` rows of the frame. "A refused call returns the state unchanged."
+    /// The next `rows` rows of the frame: RULES 8.2, 8.5.
     #[allow(clippy::too_many_arguments)]
     pub fn band(
         self,
@@ -60,8 +59,7 @@ impl FrameState {
         (FrameState { done, ..self }, Ok(()))
     }
 
-    /// "It checks 2, 3, 4 again, 5, 6 to 12 (source rows are the band's, plane rows the frame's),
-    /// 13."
+    /// RULES 8.2: source rows are the band's, plane rows the frame's.
     #[allow(clippy::too_many_arguments)]
     fn check(
         &self,
@@ -74,7 +72,7 @@ impl FrameState {
         carried: &[u8],
     ) -> Answer {
         size_and_matrix(self.w, self.h, &self.settings)?;
-        // "Rows done at or past h means none remain."
+        // RULES 8.3: with rows done at or past h none remain.
         let remain = self.h.saturating_sub(self.done);
         refuse_if(rows == 0 || rows > remain, 5)?;
         let (plane, chroma) = plane_rows(self.settings.sampling, self.h);
@@ -132,8 +130,7 @@ impl FrameState {
                 }
             }
         }
-        // "a band that ends on an even-numbered row (from 0) other than the frame's last stores
-        // the first three bytes of each pixel of that row in the carried row"
+        // RULES 8.8: a band whose last row is even and not the frame's last leaves it there.
         let ends = end - 1;
         if settings.sampling == YuvChromaSubsampling::Yuv420 && ends % 2 == 0 && ends != last {
             let c = settings.channels.bytes() as usize;

@@ -1,10 +1,10 @@
-//! Document 01, "The curves": both tables over whole numbers.
+//! Both tables over whole numbers: RULES 3.1, 3.2, 3.3, 3.4, 3.5.
 
 use crate::settings::SharpYuvGammaTransfer;
 use crate::whole::Whole;
 use std::sync::OnceLock;
 
-/// A decimal x of document 01 is held as x × ONE, which is whole for all of them.
+/// A decimal x of RULES 3.1 is held as x × ONE, which is whole for all of them.
 const ONE: u64 = 1_0000000000;
 
 /// Slope, break, offset and scale are × ONE. The power is up/down.
@@ -17,7 +17,7 @@ struct Curve {
     down: u32,
 }
 
-/// The decimals of document 01: the underscore stands where their point does.
+/// The decimals of RULES 3.1: the underscore stands where their point does.
 #[allow(clippy::zero_prefixed_literal)]
 fn curve(transfer: SharpYuvGammaTransfer) -> Curve {
     match transfer {
@@ -54,7 +54,7 @@ fn pure(up: u32, down: u32) -> Curve {
     }
 }
 
-/// "Linear entry v (0 to 255): the largest n with n/65,535 not above the curve at v/255."
+/// RULES 3.4: the largest n with n/65,535 not above the curve at v/255.
 pub fn linear_entry(transfer: SharpYuvGammaTransfer, v: u8) -> u16 {
     let curve = curve(transfer);
     let v = u64::from(v);
@@ -81,7 +81,7 @@ pub fn linear_entry(transfer: SharpYuvGammaTransfer, v: u8) -> u16 {
     }) as u16
 }
 
-/// "Gamma entry i (0 to 65,535): the largest k with k/255 not above the inverse at i/65,535."
+/// RULES 3.5: the largest k with k/255 not above the inverse at i/65,535.
 pub fn gamma_entry(transfer: SharpYuvGammaTransfer, i: u16) -> u8 {
     GammaRule::new(transfer).entry(i)
 }

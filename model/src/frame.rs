@@ -1,11 +1,10 @@
-//! Document 01, "The call arrives": the frame call.
+//! The frame call: RULES 7.8.
 
 use crate::refusals::{Answer, Lent, memory, size_and_matrix};
 use crate::row::{Row, Rules};
 use crate::settings::{Settings, YuvChromaSubsampling, plane_rows};
 
-/// "A frame call has width w, height h, channel order, sampling, range, matrix, transfer, source
-/// with stride, three planes with strides." The lent bytes stand beside it.
+/// RULES 2.1. The lent bytes stand beside it.
 #[derive(Clone, Copy, Debug, PartialEq)]
 pub struct Frame {
     pub w: u32,
@@ -43,7 +42,7 @@ pub fn frame(frame: &Frame, source: &[u8], y: &mut [u8], u: &mut [u8], v: &mut [
     for k in 0..chroma_rows as usize {
         let (u, v) = (u_plane.row(u, k), v_plane.row(v, k));
         match settings.sampling {
-            // "Below an odd height's last row is that row itself."
+            // RULES 6.1: below an odd height's last row is that row itself.
             YuvChromaSubsampling::Yuv420 => {
                 rules.chroma_420(w, row(2 * k), row((2 * k + 1).min(h - 1)), u, v);
             }
@@ -66,7 +65,7 @@ pub(crate) fn source_row<'a>(
     Row::new(&source[start..start + w * c], c, settings.channels)
 }
 
-/// "Every row is a part starting inside its plane; only its first w or cw bytes are written."
+/// RULES 2.4: only the first w or cw bytes of a row are written.
 pub(crate) struct Plane {
     stride: usize,
     width: usize,

@@ -1,8 +1,8 @@
-//! A model of document 01, written from the document alone, to compare converters with.
+//! A model of docs/RULES.md, to compare converters with. It was written from the scope document
+//! that the rules come from, without a look at the proved code.
 //!
-//! It is meant to be read: each item names the heading of document 01 that it states and follows
-//! its words. Two things the document itself takes from the Rust are copied as numbers: the ten
-//! stored sets and the kr and kb of Fcc (`matrix`).
+//! It is meant to be read: each item names the rules that it states. Two things that the rules take
+//! from the Rust are copied as numbers: the ten stored sets and the kr and kb of Fcc (`matrix`).
 //!
 //! Sizes, strides and lengths are worked out in `u64`: a u32 stride times 16,384 rows fits. Every
 //! function answers every input.

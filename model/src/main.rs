@@ -1,4 +1,4 @@
-//! The program `frame` of document 01, as the model has it.
+//! The program `frame` of docs/RULES.md, chapter 9, as the model has it.
 
 use std::io::{Read, Write};
 

@@ -1,4 +1,4 @@
-//! Document 01, "The matrix": the nine weights of a matrix and a range.
+//! The nine weights of a matrix and a range: RULES 4.1, 4.2, 4.3, 4.4, 4.5.
 
 use crate::settings::{YuvRange, YuvStandardMatrix};
 
@@ -10,8 +10,7 @@ pub struct Weights {
     pub cr: [i64; 3],
 }
 
-/// "Bt601, Bt709, Bt2020, Smpte240 and Bt470_6 take the stored 13-bit sets [...]. Fcc and every
-/// Custom(kr, kb) go through `get_forward_transform` and `to_integers`."
+/// RULES 4.1, 4.3: five matrices have stored weights, those of Fcc and Custom are worked out.
 pub fn weights(matrix: YuvStandardMatrix, range: YuvRange) -> Weights {
     match (matrix, range) {
         (YuvStandardMatrix::Bt601, YuvRange::Limited) => BT601_LIMITED,
@@ -31,7 +30,7 @@ pub fn weights(matrix: YuvStandardMatrix, range: YuvRange) -> Weights {
     }
 }
 
-/// "The nine f32 numbers stand in one record until rounded."
+/// RULES 4.4: the nine coefficients.
 #[derive(Clone, Copy)]
 struct Transform {
     y: [f32; 3],
@@ -39,7 +38,7 @@ struct Transform {
     cr: [f32; 3],
 }
 
-/// "in f32, operation for operation": the order of the operations is part of the rule.
+/// RULES 4.4: the order of the operations is part of the rule.
 fn get_forward_transform(kr: f32, kb: f32, range: YuvRange) -> Transform {
     let range_rgba = 255f32;
     let range_y = f32::from(range.range_y());
@@ -73,7 +72,7 @@ fn to_integers(transform: Transform) -> Weights {
     }
 }
 
-/// "halves rounded away from zero". Twice the number is exact, and its whole part tells a half.
+/// RULES 4.5: halves away from zero. Twice the number is exact, and its whole part tells a half.
 fn round(x: f32) -> i64 {
     let twice = f64::from(x) * 2.0;
     let magnitude = (twice.abs() as i64).saturating_add(1) / 2;

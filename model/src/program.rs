@@ -1,4 +1,4 @@
-//! Document 01, "The program": from the bytes of standard input to those of standard output.
+//! From the bytes of standard input to those of standard output: RULES 9.1, 9.2, 9.3.
 
 use crate::frame::{Frame, frame};
 use crate::refusals::{Refusal, refuse_if};
@@ -9,10 +9,10 @@ use crate::settings::{
 
 const HEADER: usize = 9;
 
-/// "in the program also w × h above 16,384".
+/// RULES 9.2: in the program also w × h is bounded.
 const MOST_PIXELS: u64 = 16_384;
 
-/// "Output: Y, U, V without padding, or `refused N` and a newline."
+/// RULES 9.3.
 pub fn program(input: &[u8]) -> Vec<u8> {
     match planes(input) {
         Ok(bytes) => bytes,
@@ -48,8 +48,7 @@ fn planes(input: &[u8]) -> Result<Vec<u8>, Refusal> {
     Ok([y, u, v].concat())
 }
 
-/// "w, h (u16, low byte first), codes for channels [...], sampling [...], range [...], matrix
-/// [...], transfer [...], then rows without padding." None: 1.
+/// RULES 9.1. None: 1.
 fn read(input: &[u8]) -> Option<(u16, u16, Settings, &[u8])> {
     let (header, source) = input.split_at_checked(HEADER)?;
     let settings = Settings {

@@ -1,6 +1,6 @@
-//! Document 01, "The call arrives": the refusals.
+//! The refusals: RULES 7.1 and on.
 //!
-//! "The lowest number whose condition holds is answered": the conditions stand below in the order
+//! The lowest number whose condition holds is answered: the conditions stand below in the order
 //! of their numbers, and `?` ends at the first that holds. So a condition may count on those
 //! before it: rows are not 0 once 2 and 5 were passed.
 
@@ -16,7 +16,7 @@ pub struct Refusal {
 /// Finished work or one refusal.
 pub type Answer = Result<(), Refusal>;
 
-/// "both 0 where none is named".
+/// RULES 7.1: both 0 where none is named.
 pub(crate) fn refuse_if(holds: bool, number: u8) -> Answer {
     refuse_with(holds, number, 0, 0)
 }
@@ -42,8 +42,7 @@ pub(crate) fn size_and_matrix(w: u32, h: u32, settings: &Settings) -> Answer {
     refuse_if(!accepted(settings.matrix), 4)
 }
 
-/// "from 0 to 0.5 inclusive; NaN included [in the refusal], -0 allowed". No comparison holds of
-/// NaN, and -0 compares as 0.
+/// RULES 7.4. No comparison holds of NaN, and -0 compares as 0.
 fn accepted(matrix: YuvStandardMatrix) -> bool {
     let from_0_to_half = |k: f32| (0.0..=0.5).contains(&k);
     match matrix {

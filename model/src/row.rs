@@ -1,4 +1,4 @@
-//! Document 01, "One row": luma and chroma of one row.
+//! Luma and chroma of one row: RULES 5.1, 5.2, 6.1, 6.2, 6.3, 6.4.
 
 use crate::curves::{Tables, tables};
 use crate::matrix::{Weights, weights};
@@ -78,15 +78,14 @@ impl Rules {
             let corrected = if p + 1 < w {
                 self.interpolated([(12, this.rgb(p)), (4, this.rgb(p + 1))])
             } else {
-                // "its own r, g, b, no tables"
+                // RULES 6.4: its own r, g, b, no tables.
                 this.rgb(p)
             };
             (u[j], v[j]) = chroma(&self.weights, self.range, corrected);
         }
     }
 
-    /// "interpolated per channel over linear values, plus 8, divided by 16 rounded down, then
-    /// through the gamma table"
+    /// RULES 6.2.
     fn interpolated<const N: usize>(&self, pixels: [(u64, [i64; 3]); N]) -> [i64; 3] {
         [0, 1, 2].map(|channel| {
             let linear = |rgb: [i64; 3]| u64::from(self.tables.linear[rgb[channel] as usize]);
@@ -102,14 +101,13 @@ pub fn interpolate<const N: usize>(terms: [(u64, u64); N]) -> u64 {
     (sum + 8) / 16
 }
 
-/// "(r × yr + g × yg + b × yb + by × 8,192 + 4,095) divided by 8,192 rounded down, at most
-/// by + ry". For every accepted matrix that is a byte.
+/// RULES 5.1. For every accepted matrix that is a byte.
 pub fn luma(weights: &Weights, range: YuvRange, rgb: [i64; 3]) -> u8 {
     let most = range.bias_y() + i64::from(range.range_y());
     weighted(weights.y, rgb, range.bias_y()).min(most) as u8
 }
 
-/// "the same with the cb or cr triple and 128 × 8,192, held between by and by + ruv".
+/// RULES 5.2.
 pub fn chroma(weights: &Weights, range: YuvRange, rgb: [i64; 3]) -> (u8, u8) {
     let least = range.bias_y();
     let most = least + i64::from(range.range_uv());
@@ -117,7 +115,7 @@ pub fn chroma(weights: &Weights, range: YuvRange, rgb: [i64; 3]) -> (u8, u8) {
     (held(weights.cb), held(weights.cr))
 }
 
-/// `div_euclid`: "The division rounds down below zero too."
+/// `div_euclid`: the division rounds down, below zero too (RULES 1.1).
 fn weighted(triple: [i64; 3], rgb: [i64; 3], bias: i64) -> i64 {
     let sum = rgb[0] * triple[0] + rgb[1] * triple[1] + rgb[2] * triple[2];
     (sum + bias * 8_192 + 4_095).div_euclid(8_192)

@@ -1,4 +1,4 @@
-//! Document 01, "The call arrives", "One row" and "The program": the settings of a call.
+//! The settings of a call: RULES 1.2, 1.3, 1.4, 1.5.
 
 /// The order of the bytes of a pixel.
 #[derive(Clone, Copy, Debug, PartialEq)]
@@ -41,7 +41,7 @@ pub enum SharpYuvGammaTransfer {
     Gamma2p8,
 }
 
-/// Document 01, "Bands": "Settings are channel order, sampling, range, matrix and transfer."
+/// RULES 1.2.
 #[derive(Clone, Copy, Debug, PartialEq)]
 pub struct Settings {
     pub channels: YuvSourceChannels,
@@ -52,7 +52,7 @@ pub struct Settings {
 }
 
 impl YuvSourceChannels {
-    /// Document 01, "The call arrives": c.
+    /// RULES 1.3: c.
     pub fn bytes(self) -> u64 {
         match self {
             YuvSourceChannels::Rgb | YuvSourceChannels::Bgr => 3,
@@ -60,7 +60,7 @@ impl YuvSourceChannels {
         }
     }
 
-    /// Where r, g and b stand among the first three bytes of a pixel.
+    /// RULES 1.3: where r, g and b stand among the first three bytes of a pixel.
     pub fn offsets(self) -> [usize; 3] {
         match self {
             YuvSourceChannels::Rgb | YuvSourceChannels::Rgba => [0, 1, 2],
@@ -69,12 +69,12 @@ impl YuvSourceChannels {
     }
 }
 
-/// Document 01, "The call arrives": cw.
+/// RULES 1.5: cw.
 pub fn chroma_width(w: u64) -> u64 {
     w.div_ceil(2)
 }
 
-/// Document 01, "The call arrives": ch.
+/// RULES 1.5: ch.
 pub fn chroma_height(sampling: YuvChromaSubsampling, h: u64) -> u64 {
     match sampling {
         YuvChromaSubsampling::Yuv420 => h.div_ceil(2),
@@ -89,7 +89,7 @@ pub fn plane_rows(sampling: YuvChromaSubsampling, h: u32) -> (u64, u64) {
 }
 
 impl YuvRange {
-    /// Document 01, "One row": by.
+    /// RULES 1.4: by.
     pub fn bias_y(self) -> i64 {
         match self {
             YuvRange::Limited => 16,
@@ -97,7 +97,7 @@ impl YuvRange {
         }
     }
 
-    /// Document 01, "One row": ry.
+    /// RULES 1.4: ry.
     pub fn range_y(self) -> u8 {
         match self {
             YuvRange::Limited => 219,
@@ -105,7 +105,7 @@ impl YuvRange {
         }
     }
 
-    /// Document 01, "One row": ruv.
+    /// RULES 1.4: ruv.
     pub fn range_uv(self) -> u8 {
         match self {
             YuvRange::Limited => 224,
@@ -114,7 +114,7 @@ impl YuvRange {
     }
 }
 
-// Document 01, "The program": the meaning of the code bytes. None: a code byte without a meaning.
+// RULES 1.2, 9.1: the meaning of the code bytes. None: a code byte without a meaning.
 
 pub fn channels_of(code: u8) -> Option<YuvSourceChannels> {
     match code {

@@ -1,4 +1,4 @@
-//! Runs the unaltered Rust where document 01 has it otherwise, on the smallest inputs that show
+//! Runs the unaltered Rust where the rules have it otherwise, on the smallest inputs that show
 //! it, and prints what it does. The lists of docs/DIFFERENCES.md are this program's.
 
 use model::{

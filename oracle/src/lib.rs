@@ -51,7 +51,7 @@ pub struct RustError {
 }
 
 impl RustError {
-    /// Document 01, "The call arrives": the refusal that has this error's name, where one does.
+    /// RULES 7.1: the refusal that has this error's name, where one does.
     /// The chroma planes share an error, so the caller says which of them it was.
     pub fn refusal(&self, chroma: u8) -> Option<Refusal> {
         let number = match self.name.as_str() {

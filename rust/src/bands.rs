@@ -5,7 +5,7 @@ use crate::ffi;
 use crate::mode::in_default_mode;
 use crate::settings::FrameDescription;
 
-/// A frame that is being converted: what its opening fixed, and how many of its rows are done.
+/// A frame that is being converted: what its opening fixed, and how many of its rows are done (RULES 8.1).
 #[derive(Debug, Copy, Clone, PartialEq)]
 pub struct FrameState {
     pub frame: FrameDescription,
@@ -31,7 +31,7 @@ impl FrameState {
     }
 
     /// Converts the next `rows` rows of the frame and hands the state back with them done. Planes and carried row are those that the accepted
-    /// call before left. A refusal (2 to 13) writes no byte and hands back the state that it got.
+    /// call before left. A refusal (2 to 13) writes no byte and hands back the state that it got (RULES 8.2, 8.5, 8.9).
     ///
     /// `source` has `rows` rows, `y`, `u` and `v` are the whole planes, `carried` is at least 3 × width bytes.
     #[allow(clippy::too_many_arguments)]

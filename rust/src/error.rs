@@ -1,4 +1,4 @@
-//! The refusals.
+//! The refusals: RULES 7.1.
 
 use std::error::Error;
 use std::fmt::{Display, Formatter};
@@ -10,7 +10,7 @@ pub struct MismatchedSize {
     pub received: usize,
 }
 
-/// The refusals, lowest number first. Where several hold, the lowest is answered.
+/// The refusals, lowest number first. Where several hold, the lowest is answered (RULES 7.1).
 #[derive(Debug, Copy, Clone, Eq, PartialEq)]
 pub enum YuvError {
     /// 1: a setting without a meaning. The enums of this crate have none, so no call here answers it.

@@ -9,7 +9,7 @@ use crate::settings::{
     YuvStandardMatrix,
 };
 
-/// Converts a whole frame, or answers one refusal (2, 3, 4, 6 to 12) and writes no byte.
+/// Converts a whole frame, or answers one refusal (2, 3, 4, 6 to 12) and writes no byte: RULES 7.8.
 ///
 /// `source` is exactly `stride` × height bytes; `y`, `u`, `v` are exactly their stride times their rows.
 pub fn rgbx_to_sharp_yuv(

@@ -1,4 +1,4 @@
-//! Document 01's worked lines and refusals, through the wrapper.
+//! Worked lines and refusals of docs/RULES.md, through the wrapper.
 
 use segvartin::*;
 

@@ -1,4 +1,4 @@
-/* Frame calls: document 01's worked lines, each refusal with its numbers, padding and refused buffers left as they were. */
+/* Frame calls: worked lines of docs/RULES.md, each refusal with its numbers, padding and refused buffers left as they were. */
 #include "lent.h"
 
 #include "segvartin.h"

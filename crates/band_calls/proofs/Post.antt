@@ -43,7 +43,7 @@ module _ (s : FrameState) (rows stride : ℕ) (source y u v carried : List ℕ) 
       → BandPost (bandCall s rows stride source y u v carried (record { state = stateOf (s .frame) (s .done + rows); answer = answer }) y′ u′ v′ carried′)
   finished is planes carry = record { answered = numbers; state = rw is; planes = rw is planes; carry = rw is carry }
 
--- "A refused call returns the state unchanged.", and writes no byte
+-- a refused call hands back the state that it was given, and writes no byte (RULES 7.2, 8.5)
 pub refused-writes-nothing : {k : BandCall} → ((n : ℕ) → taken (k .result .answer) n ≡ 0) → BandPost k → Untouched k
 refused-writes-nothing {k} none p =
     let d = k .state .frame in

@@ -1,4 +1,4 @@
--- An opening and a band call: what they are given, answer and leave. Document 01, "Bands", first paragraph.
+-- An opening and a band call: what they are given, answer and leave. docs/RULES.md, 8.1 to 8.5, 8.7 and 8.8.
 -- Assumes nothing.
 use Prim.Native.Nat.{ℕ, _+_, _*_, _-_, _/_, _%_}
 use mathlib.Core.Path.{_≡_}
@@ -19,43 +19,42 @@ use Rattle.definitions.specs.Bands.{ownRows, bandImage, Sharpened}
 use Rattle.band_calls.specs.declared.FrameState.{FrameState}
 use Rattle.band_calls.specs.declared.FrameAnswer.{FrameAnswer}
 
+-- RULES 8.1
 abbrev pub stateOf : FrameDescription → (done : ℕ) → FrameState
 stateOf d n = record { frame = d; done = n }
 
--- the band that a call is given
+-- RULES 8.2: the band that a call is given
 abbrev pub bandOf : FrameState → (rows stride : ℕ) → Band
 bandOf s rows stride = record { frame = s .frame; done = s .done; rows = rows; stride = stride }
 
--- "Opening fixes w, h, settings and plane strides, and answers 2, 3, 4."; a fresh state has 0 rows done. What a refused opening hands back is
--- left free: it is this state too.
+-- RULES 8.1: the state is this one where the opening is refused, too
 pub record OpenPost (d : FrameDescription) (r : FrameAnswer) : Type 0 where
   pub answered : numbersOf (r .answer) ≡ firstOf (openingRules d)
   pub state : r .state ≡ stateOf d 0
 
--- "5: a band has 0 rows, or more than remain." "Rows done at or past h means none remain.": h less the rows done is then 0
+-- RULES 8.3: with rows done at or past h, h less the rows done is 0 here
 abbrev pub rowRules : (h done rows : ℕ) → List Rule
 rowRules h done rows = rule 5 (eqb rows 0 || ltb (h - done) rows) 0 0 ∷ []
 
--- "13: carried row shorter than 3 × w (3 × w, its length); band calls only."
+-- RULES 8.4
 abbrev pub carriedRules : (w carried : ℕ) → List Rule
 carriedRules w carried = rule 13 (ltb carried (3 * w)) (3 * w) carried ∷ []
 
--- "It checks 2, 3, 4 again, 5, 6 to 12 (source rows are the band's, plane rows the frame's), 13."
+-- RULES 8.2: source rows are the band's, plane rows the frame's
 abbrev pub bandRules : FrameState → (rows stride : ℕ) → Lengths → (carried : ℕ) → List Rule
 bandRules s rows stride n carried =
     openingRules (s .frame) ++ rowRules (s .frame .height) (s .done) rows ++ lentRules (s .frame) rows stride n ++ carriedRules (s .frame .width) carried
 
--- "In 4:2:0 a band that ends on an even-numbered row (from 0) other than the frame's last stores the first three bytes of each pixel of that row
--- in the carried row, pixel p (from 0) at byte 3 × p; no other byte of it is written, and in 4:2:2 none." With `end` rows done the band's last
--- row is row end − 1.
+-- RULES 8.8: with `end` rows done the band's last row is row end − 1
 abbrev pub isCarried : YuvChromaSubsampling → (h end : ℕ) → Bool
 isCarried Yuv420 h end = eqb ((end - 1) % 2) 0 && not (eqb end h)
 isCarried Yuv422 h end = false
 
+-- RULES 8.8: how many bytes of the carried row are written
 abbrev pub carriedBytes : FrameDescription → (end : ℕ) → ℕ
 carriedBytes d end = cond (isCarried (d .settings .sampling) (d .height) end) (3 * d .width) 0
 
--- a band call: what it was given, what it handed back, and what it was lent as it left it
+-- RULES 8.2: what a band call was given, what it handed back, and what it was lent as it left it
 pub record BandCall : Type 0 where
   pub state : FrameState
   pub rows : ℕ
@@ -91,17 +90,19 @@ bandCall s rows stride source y u v carried r y′ u′ v′ carried′ = record
 abbrev pub lentTo : BandCall → Lengths
 lentTo k = lengthsOf (k .source) (k .y) (k .u) (k .v)
 
+-- RULES 8.2
 abbrev pub rulesOf : BandCall → List Rule
 rulesOf k = bandRules (k .state) (k .rows) (k .stride) (lentTo k) (length (k .carried))
 
--- its band, and the rows done once it finished its work
+-- RULES 8.2: its band
 abbrev pub bandGiven : BandCall → Band
 bandGiven k = bandOf (k .state) (k .rows) (k .stride)
 
+-- RULES 8.5: the rows done once it finished its work
 abbrev pub endOf : BandCall → ℕ
 endOf k = k .state .done + k .rows
 
--- everything of a call: what it handed back, and each byte of the planes and of the carried row
+-- RULES 8.2, 8.5, 8.7, 8.8: everything of a call: what it handed back, and each byte of the planes and of the carried row
 pub record BandPost (k : BandCall) : Type 0 where
   pub answered : numbersOf (k .result .answer) ≡ firstOf (rulesOf k)
   pub state : k .result .state ≡ stateOf (k .state .frame) (k .state .done + taken (k .result .answer) (k .rows))
@@ -110,6 +111,6 @@ pub record BandPost (k : BandCall) : Type 0 where
   pub carry : Painted (taken (k .result .answer) (carriedBytes (k .state .frame) (endOf k)))
       (λ q. ownRows (bandGiven k) (k .source) (endOf k - 1) (q / 3) (q % 3)) (k .carried) (k .carried′)
 
--- "A refused call .. gives back the state it got.", and writes no byte
+-- RULES 7.2, 8.5: what a refused call hands back and leaves
 abbrev pub Untouched : BandCall → Type 0
 Untouched k = (k .result .state ≡ k .state) × (k .y′ ≡ k .y) × (k .u′ ≡ k .u) × (k .v′ ≡ k .v) × (k .carried′ ≡ k .carried)

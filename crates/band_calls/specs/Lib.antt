@@ -1,3 +1,3 @@
--- Document 01, "Bands": what an opening and a band call promise.
+-- What an opening and a band call promise: docs/RULES.md, chapter 8.
 pub mod BandCall
 pub mod Same

@@ -19,7 +19,7 @@ use Rattle.band_calls.specs.BandCall.{BandCall, lentTo, rulesOf}
 use Rattle.band_calls.proofs.Accepted.{Accepted, accepted-band}
 use Rattle.band_lists.specs.BandLists.{isAccepted}
 
--- "accepted exactly when none of the conditions it checks holds"
+-- accepted exactly when none of the conditions that it asks holds (RULES 7.1)
 pub accepted-exactly : (k : BandCall) → (isAccepted k ≡ true) ↔ NoneHolds (rulesOf k)
 unfolding isAccepted
 accepted-exactly k =

@@ -1,2 +1,2 @@
--- Document 01, "Bands": what is claimed of every list of band calls.
+-- What is claimed of every list of band calls: docs/RULES.md, 8.9.
 pub mod BandLists

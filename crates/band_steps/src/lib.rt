@@ -103,7 +103,7 @@ pub fn carried_step(
 )
     requires { ⌜ ForStep YuvChromaSubsampling.Yuv420 work step (now sums) (now gamma) (length (now source)) (length (now u)) (length (now v)) ⌝ }
     requires { ⌜ 3 * frameOf work .width ≤ length (now carried) ⌝ }
-    requires { ⌜ (step .row % 2 ≡ 1) × (step .row < frameOf work .height) ⌝ }
+    requires { ⌜ (step .row % 2 ≡ 1) × (step .row < frameOf work .height) × (step .row ≡ work .done) ⌝ }
     ensures { λ _. ⌜ ((image : Image) → Sees work (now (source .entry)) image → pixelsOf 3 (now (carried .entry)) ≡ image (step .row - 1)
         → ChromaIs (frameOf work) (step .row / 2) image (now (u .entry)) (now (v .entry)) (now (u .exit)) (now (v .exit))) ⌝ }
 {

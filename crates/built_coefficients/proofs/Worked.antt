@@ -1,4 +1,4 @@
--- The line that document 01 works out, computed over the definitions: the nine weights of Fcc in full range.
+-- A line of example 4.3 of docs/RULES.md, computed over the definitions: the nine weights of Fcc in full range.
 -- Assumes nothing.
 use mathlib.Core.Path.{_≡_, refl}
 use lib.IntN.{pos}

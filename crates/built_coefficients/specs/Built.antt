@@ -1,5 +1,5 @@
--- The weights of a matrix in a range. Document 01, "The matrix": Bt601, Bt709, Bt2020, Smpte240 and Bt470_6 take the stored 13-bit sets named
--- `.._8_13PREC` of `built_coefficients.rs`, ten in all; Fcc and every Custom(kr, kb) go through `get_forward_transform` and `to_integers`.
+-- The weights of a matrix in a range: RULES 4.1, 4.3. Five matrices take the stored 13-bit sets named `.._8_13PREC` of `built_coefficients.rs`,
+-- ten in all; Fcc and every Custom(kr, kb) go through `get_forward_transform` and `to_integers`.
 -- Assumes nothing.
 use Prim.Native.Nat.{ℕ}
 use lib.IntN.{ℤ, pos, negℤ}
@@ -14,7 +14,7 @@ use Rattle.built_coefficients.specs.declared.BuiltTransform.{BuiltTransf
 use Rattle.built_coefficients.specs.declared.BuiltTransform.the-variants.{Stored, Nothing}
 
 -- ---- the ten sets: bt601Limited is FORWARD_BT601_LIMITED_8_13PREC, and so on
--- yr yg yb, cb_r cb_g cb_b, cr_r cr_g cr_b
+-- RULES 4.1: yr yg yb, cb_r cb_g cb_b, cr_r cr_g cr_b
 abbrev pub set : ℤ → ℤ → ℤ → ℤ → ℤ → ℤ → ℤ → ℤ → ℤ → CbCrForwardTransformI32
 set yr yg yb cbr cbg cbb crr crg crb = record {
   yr = yr;
@@ -31,6 +31,7 @@ set yr yg yb cbr cbg cbb crr crg crb = record {
 abbrev pub minus : ℕ → ℤ
 minus n = negℤ (pos n)
 
+-- RULES 4.1: the ten rows of its table, from here on
 abbrev pub bt601Limited : CbCrForwardTransformI32
 bt601Limited = set (pos 2104) (pos 4130) (pos 802) (minus 1214) (minus 2384) (pos 3598) (pos 3598) (minus 3013) (minus 585)
 
@@ -62,10 +63,12 @@ abbrev pub bt470Full : CbCrForwardTransformI32
 bt470Full = set (pos 1819) (pos 5789) (pos 584) (minus 979) (minus 3117) (pos 4096) (pos 4096) (minus 3721) (minus 375)
 
 -- ---- which of them a matrix takes, by range
+-- RULES 4.1
 abbrev pub pick : YuvRange → CbCrForwardTransformI32 → CbCrForwardTransformI32 → CbCrForwardTransformI32
 pick Limited limited full = limited
 pick Full limited full = full
 
+-- RULES 4.1: Fcc and Custom have no stored set
 abbrev pub builtTransform : YuvRange → YuvStandardMatrix → BuiltTransform
 builtTransform range Bt601 = Stored (pick range bt601Limited bt601Full)
 builtTransform range Bt709 = Stored (pick range bt709Limited bt709Full)
@@ -76,9 +79,11 @@ builtTransform range Fcc = Nothing
 builtTransform range (Custom kr kb) = Nothing
 
 -- ---- the weights of a matrix: stored, or else computed
+-- RULES 4.1, 4.3
 abbrev pub orComputed : BuiltTransform → CbCrForwardTransformI32 → CbCrForwardTransformI32
 orComputed (Stored transform) computed = transform
 orComputed Nothing computed = computed
 
+-- RULES 4.1, 4.3: Custom is always worked out
 unfoldable pub forwardTransform : YuvRange → YuvStandardMatrix → CbCrForwardTransformI32
 forwardTransform range matrix = orComputed (builtTransform range matrix) (computedWeights range (krKb matrix))

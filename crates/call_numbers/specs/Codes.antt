@@ -1,5 +1,4 @@
--- The numbers that C passes for a description: width, height, channels, sampling, range, matrix, transfer, y_stride, u_stride, v_stride, and beside
--- them kr and kb. Document 01, "The program", has the meaning of the codes; 6 is added, for a Custom matrix.
+-- The numbers that C passes for a description, and beside them kr and kb: docs/RULES.md, 1.2, 10.1 and 10.2.
 -- Where a number is missing or a code has no meaning, 0 or the first one stands here: refusal 1 is first, so no answer turns on it.
 -- Assumes nothing.
 use Prim.Native.Nat.{ℕ, _+_}
@@ -19,14 +18,15 @@ use Rattle.definitions.specs.declared.FrameDescription.{FrameDescription}
 use Rattle.yuv_error.specs.Rules.{Rule, rule}
 use Rattle.setting_codes.specs.Codes.{channelsCodes, samplingCodes, rangeCodes, matrixCodes, transferCodes, customCode}
 
--- number i of a call
+-- RULES 10.1: number i of a call
 abbrev pub at : List ℕ → ℕ → ℕ
 at numbers i = getD numbers i 0
 
--- kr, then kb
+-- RULES 1.2, 10.1: kr, then kb, looked at for a Custom matrix only
 abbrev pub matrixOf : ℕ → (custom : List Float) → YuvStandardMatrix
 matrixOf code custom = cond (eqb code customCode) (Custom (getD custom 0 nan) (getD custom 1 nan)) (getD matrixCodes code Bt601)
 
+-- RULES 1.2, 10.1
 unfoldable pub settingsOf : (numbers : List ℕ) → (custom : List Float) → YuvSettings
 settingsOf numbers custom = record {
   channels = getD channelsCodes (at numbers 2) Rgb;
@@ -36,7 +36,7 @@ settingsOf numbers custom = record {
   transfer = getD transferCodes (at numbers 6) Srgb;
 }
 
--- the frame that a description's numbers describe
+-- RULES 10.1: the frame that a description's numbers describe
 abbrev pub descriptionOf : (numbers : List ℕ) → (custom : List Float) → FrameDescription
 descriptionOf numbers custom = record {
   width = at numbers 0;
@@ -47,7 +47,7 @@ descriptionOf numbers custom = record {
   «v_stride» = at numbers 9;
 }
 
--- a description with a code without a meaning
+-- RULES 10.2: a description with a code without a meaning
 abbrev pub isUnknown : List ℕ → Bool
 isUnknown numbers =
     leb (length channelsCodes) (at numbers 2)
@@ -56,10 +56,10 @@ isUnknown numbers =
     || ltb customCode (at numbers 5)
     || leb (length transferCodes) (at numbers 6)
 
--- numbers without a meaning: not so many before a description of 10, or a code without a meaning
+-- RULES 10.2: not so many numbers before a description of 10, or a code without a meaning
 unfoldable pub isMalformed : (before : ℕ) → List ℕ → Bool
 isMalformed before numbers = cond (eqb (length numbers) (before + 10)) (isUnknown (drop before numbers)) true
 
--- refusal 1, first of all
+-- RULES 10.2: refusal 1, first of all
 abbrev pub numberRules : (before : ℕ) → List ℕ → List Rule
 numberRules before numbers = rule 1 (isMalformed before numbers) 0 0 ∷ []

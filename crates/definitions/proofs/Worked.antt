@@ -1,5 +1,5 @@
--- The starred lines of document 01, "Frames and entries worked out", as one set over the definitions. Where a line names no channel order,
--- transfer, sampling or size, it is shown for all of them.
+-- Worked lines, as one set over the definitions; they are among the examples of docs/RULES.md that the comments name. Where a line names no channel
+-- order, transfer, sampling or size, it is shown for all of them.
 -- Assumes nothing.
 use Prim.Native.Nat.{ℕ, _+_, _*_, _≤_, _<_}
 use mathlib.Core.Path.{_≡_, refl, sym, _∙_}
@@ -23,7 +23,7 @@ use Rattle.definitions.specs.Image.{Image}
 use Rattle.definitions.proofs.Inputs.{input420-pair, input420-last, input422-pair}
 use Rattle.definitions.proofs.Flat.{OneColour, FlatFrame, flat-frame}
 
--- ---- "linear 65,535, all its neighbours 0": the numbers, and where they are looked up
+-- ---- linear 65,535, all its neighbours 0, as in example 6.2: the numbers, and where they are looked up
 
 -- the numbers themselves
 pub record Sixteenths : Type 0 where
@@ -66,18 +66,18 @@ Paints s r g b y u v = (w h y-stride u-stride v-stride : ℕ) (image : Image) �
     → FlatFrame d image y u v
 
 pub record StarredLines : Type 0 where
-  -- "red 255,0,0, 1 by 1, Bt601 Full: 76, 85, 255 in either sampling"
+  -- example 7.8: red, Bt601 Full, in either sampling
   pub red : (c : YuvSourceChannels) (m : YuvChromaSubsampling) (t : SharpYuvGammaTransfer) → Paints (bt601 Full c m t) 255 0 0 76 85 255
-  -- "green, 1 by 1, 4:2:2, Bt601 Limited: 145, 54, 34"
+  -- example 7.8: green, Bt601 Limited
   pub green : (c : YuvSourceChannels) (m : YuvChromaSubsampling) (t : SharpYuvGammaTransfer) → Paints (bt601 Limited c m t) 0 255 0 145 54 34
-  -- "black and white, Bt601 Limited: Y 16, 235; chroma 128"
+  -- example 7.8: black and white, Bt601 Limited
   pub black : (c : YuvSourceChannels) (m : YuvChromaSubsampling) (t : SharpYuvGammaTransfer) → Paints (bt601 Limited c m t) 0 0 0 16 128 128
   pub white : (c : YuvSourceChannels) (m : YuvChromaSubsampling) (t : SharpYuvGammaTransfer) → Paints (bt601 Limited c m t) 255 255 255 235 128 128
-  -- the lines of the sRGB, Rec709 and Gamma2p2 entries
+  -- examples 3.4 and 3.5: entries of sRGB, Rec709 and Gamma2p2
   pub entries : curves.Worked
-  -- "Fcc Full: 2458 4833 901, −1381 −2715 4096, 4096 −3452 −644"
+  -- example 4.3: Fcc Full
   pub fcc : forwardTransform Full Fcc ≡ set (pos 2458) (pos 4833) (pos 901) (minus 1381) (minus 2715) (pos 4096) (pos 4096) (minus 3452) (minus 644)
-  -- "Linear 65,535, all its neighbours 0: 36,863 (weight 9), 49,151 (weight 12)"
+  -- example 6.2: 36,863 with the factor 9, 49,151 with 12
   pub sixteenths : Sixteenths
   pub looked-up : (d : FrameDescription) (row below : Pixels) (j i : ℕ) → Interpolated d row below j i
 

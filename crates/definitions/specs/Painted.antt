@@ -1,4 +1,4 @@
--- A row with its first bytes written. Document 01, "One row": only its first w or cw bytes are written.
+-- A row with its first bytes written: docs/RULES.md, 2.4.
 -- Assumes nothing.
 use Prim.Native.Nat.{ℕ}
 use mathlib.Core.Path.{_≡_}
@@ -7,7 +7,7 @@ use mathlib.Core.List.{List}
 use lib.Dec.{ltb}
 use lib.ListN.{length, getD}
 
--- `after` is `before` with its first n bytes f 0, f 1, .., and no other byte changed
+-- RULES 2.4: `after` is `before` with its first n bytes f 0, f 1, .., and no other byte changed
 pub record Painted (n : ℕ) (f : ℕ → ℕ) (before after : List ℕ) : Type 0 where
   pub size : length after ≡ length before
   pub byte : (k : ℕ) → getD after k 0 ≡ cond (ltb k n) (f k) (getD before k 0)

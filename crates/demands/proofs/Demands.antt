@@ -43,7 +43,7 @@ use Rattle.segvartin.proofs.Lists.{frame-first, frame-writes-nothing, frame-acc
 use Rattle.segvartin.proofs.Lists.{band-first, band-writes-nothing, all-met, refused-kept}
 use Rattle.demands.specs.Demands.{Replied, Demand1, Demand2, Demand3, WholeFrame, FrameBytes}
 
--- the promise's equation, read as document 01's sentence
+-- the promise's equation, read as the sentence of RULES 7.1
 lowest : (rules : List Rule) {x : Numbers} → inOrder 0 rules ≡ true → x ≡ firstOf rules → Lowest rules x
 lowest rules {x} up = first-is-lowest rules x up .0
 

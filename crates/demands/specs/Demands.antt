@@ -34,22 +34,22 @@ use Rattle.segvartin.specs.Calls.{ExportedOpening, frameOfOpening, rulesOfOpeni
 use Rattle.segvartin.specs.Calls.{ExportedBand, rulesOfBand, Kept, BandKept}
 use Rattle.segvartin.specs.Lists.{numbersTold, doneTold, openedState, asFrame, asBands, AllKept, RefusedKept}
 
--- ---- 1. "The answer to every call is finished work or one numbered refusal, for all sizes, strides, buffers and settings; a refusal writes no
--- byte."
+-- ---- 1. Every call answers finished work or one numbered refusal, for all sizes, strides, buffers and settings; a refusal writes no byte.
 
--- the answer, in its three numbers, is the lowest number whose condition holds, with that number's expected and received, or 0, finished work,
--- where none holds; and where it is a refusal, nothing changed
+-- RULES 7.1, 7.2: the answer, in its three numbers, is the lowest number whose condition holds, with that number's expected and received, or 0,
+-- finished work, where none holds; and where it is a refusal, nothing changed
 pub record Answered (rules : List Rule) (told : Numbers) (unchanged : Type 0) : Type 0 where
   pub lowest : Lowest rules told
   pub writes-nothing : 1 ≤ told .number → unchanged
 
--- the bytes that answer a request, by the three numbers that are the right answer to its rules
+-- RULES 9.3: the bytes that answer a request, by the three numbers that are the right answer to its rules
 abbrev pub Replied : (input bytes : List ℕ) → Type 0
 Replied input bytes =
     (x : Numbers) → Lowest (requestRules input) x
     → (x .number ≡ 0 → bytes ≡ firstBytes (answerAt input) (outputSize (frameOf input))) × (1 ≤ x .number → bytes ≡ refusalLine (x .number))
 
--- the calls of Rattle: frame, opening, band, and a request of the program; then those that C and Rust link, whose numbers come first to be refused
+-- RULES 7.1, 7.2: of the calls of Rattle, which are frame, opening, band, and a request of the program; then of those that C and Rust link, whose
+-- numbers come first to be refused
 pub record Demand1 : Type 0 where
   pub frame : (k : FrameCall) → FramePost k → Answered (frameRules k) (numbersOf (k .answer)) (Unwritten k)
   pub opening : (d : FrameDescription) (r : FrameAnswer) → OpenPost d r → Lowest (openingRules d) (numbersOf (r .answer))
@@ -63,16 +63,16 @@ pub record Demand1 : Type 0 where
   pub linked-band : (k : ExportedBand) → BandKept k
       → Answered (rulesOfBand k) (numbersTold (k .number) (k .told)) (Kept k (doneTold (k .told)))
 
--- ---- 2. "For frames of 1 to 16,384 pixels a side in whole rows, with any channel order, sampling, range, transfer and accepted matrix of document
--- 01: the planes equal those of the Rust over our stated curve tables, each table entry is the truncated H.273-shaped curve, and padding is
--- untouched."
+-- ---- 2. Frames of 1 to 16,384 pixels a side in whole rows, with any channel order, sampling, range, transfer and accepted matrix: every byte of
+-- the planes is the one that the rules name, which is that of the Rust over our stated curve tables; each table entry is the truncated curve; and
+-- padding is untouched.
 
--- so many whole rows of n bytes
+-- RULES 7.5, 7.6, 7.7: so many whole rows of n bytes
 pub record WholeRows (n rows stride : ℕ) (buffer : List ℕ) : Type 0 where
   pub row : n ≤ stride
   pub size : length buffer ≡ stride * rows
 
--- such a frame, with its planes
+-- RULES 7.3, 7.4, 7.5, 7.6, 7.7: such a frame, with its planes
 pub record WholeFrame (k : FrameCall) : Type 0 where
   pub width-least : 1 ≤ k .frame .width
   pub width-most : k .frame .width ≤ 16384
@@ -84,7 +84,8 @@ pub record WholeFrame (k : FrameCall) : Type 0 where
   pub u-rows : WholeRows (chromaSize (k .frame)) (chromaRows (k .frame)) (k .frame .«u_stride») (k .u)
   pub v-rows : WholeRows (chromaSize (k .frame)) (chromaRows (k .frame)) (k .frame .«v_stride») (k .v)
 
--- every byte of the planes: those of the rows by the definition, which the Rust over these tables is run against, the others as they were
+-- RULES 2.4, 2.5: every byte of the planes; those of the rows by the definition, which the Rust over these tables is run against, the others as they
+-- were
 pub record FrameBytes (k : FrameCall) : Type 0 where
   pub luma : (r x : ℕ) → r < k .frame .height → x < k .frame .width → getD (k .y′) (r * k .frame .«y_stride» + x) 0 ≡ lumaAt (k .frame) (imageOf k) r x
   pub cb : (r x : ℕ) → r < chromaRows (k .frame) → x < chromaSize (k .frame) → getD (k .u′) (r * k .frame .«u_stride» + x) 0 ≡ cbAt (k .frame) (imageOf k) r x
@@ -93,6 +94,7 @@ pub record FrameBytes (k : FrameCall) : Type 0 where
   pub u-padding : OthersEqual (chromaRows (k .frame)) (chromaSize (k .frame)) (k .frame .«u_stride») (k .u′) (k .u)
   pub v-padding : OthersEqual (chromaRows (k .frame)) (chromaSize (k .frame)) (k .frame .«v_stride») (k .v′) (k .v)
 
+-- RULES 2.4, 2.5, 3.4, 3.5, 7.8
 pub record Demand2 : Type 0 where
   -- every such frame is answered with finished work, and no other is
   pub finished : (k : FrameCall) → FramePost k → (k .answer ≡ Finished) ↔ WholeFrame k
@@ -100,9 +102,10 @@ pub record Demand2 : Type 0 where
   pub linear : (t : SharpYuvGammaTransfer) (v n : ℕ) → v < 256 → T (underCurve (curveOf t) (n over 65535) (v over 255)) ↔ n ≤ linearEntry t v
   pub gamma : (t : SharpYuvGammaTransfer) (i k : ℕ) → i < 65536 → T (underInverse (curveOf t) (k over 255) (i over 65535)) ↔ k ≤ gammaEntry t i
 
--- ---- 3. "For every list of band calls after a fresh opening, refused calls included, whatever their bands and buffers: .." The whole sentence stands,
--- part by part, in band_lists' specs/BandLists.antt.
+-- ---- 3. For every list of band calls after a fresh opening, refused calls included, whatever their bands and buffers, the finished rows are those of
+-- one frame call. The whole claim stands, part by part, in band_lists' specs/BandLists.antt.
 
+-- RULES 8.9, 10.3
 pub record Demand3 : Type 0 where
   pub calls : calls.Demand3
   -- the same for who links the library: an opening that was answered with 0, and a list of band calls, those refused with 1 included

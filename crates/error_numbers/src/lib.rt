@@ -11,7 +11,7 @@ pub struct AnswerNumbers {
     pub size: MismatchedSize,
 }
 
-// Document 01's number of a refusal, with its expected and received.
+// The number of a refusal, with its expected and received (RULES 7.1).
 pub fn error_numbers(e: YuvError) -> AnswerNumbers
     ensures { λ r. ⌜ sized (r .number) (r .size) ≡ errorNumbers e ⌝ }
 {

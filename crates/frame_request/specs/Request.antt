@@ -1,4 +1,4 @@
--- A request of the program: the frame that it describes, the refusals, and the bytes that answer it. Document 01, "The program".
+-- A request of the program: the frame that it describes, the refusals, and the bytes that answer it. docs/RULES.md, chapter 9.
 -- Where a request has fewer bytes than are asked of it here, 0 stands for the others: refusal 1 is first, so no answer turns on them.
 -- Assumes nothing.
 use Prim.Native.Nat.{ℕ, _+_, _*_, _-_, _/_, _%_}
@@ -28,10 +28,11 @@ use Rattle.frame_request.specs.declared.Response.the-variants.{Planes, R
 
 -- ---- what a request says
 
--- "w, h (u16, low byte first)"
+-- RULES 9.1: two bytes, the low one first
 abbrev pub wordAt : List ℕ → ℕ → ℕ
 wordAt input i = getD input i 0 + 256 * getD input (i + 1) 0
 
+-- RULES 1.2, 9.1
 unfoldable pub settingsOf : List ℕ → YuvSettings
 settingsOf input = record {
   channels = getD channelsCodes (getD input 4 0) Rgb;
@@ -41,7 +42,7 @@ settingsOf input = record {
   transfer = getD transferCodes (getD input 8 0) Srgb;
 }
 
--- the frame of a request, its planes without padding
+-- RULES 9.1: the frame of a request, its planes without padding
 unfoldable pub frameOf : List ℕ → FrameDescription
 frameOf input = record {
   width = wordAt input 0;
@@ -52,19 +53,21 @@ frameOf input = record {
   «v_stride» = chromaWidth (wordAt input 0);
 }
 
--- "then rows without padding"
+-- RULES 9.1: rows without padding
 abbrev pub sourceStride : FrameDescription → ℕ
 sourceStride d = d .width * channelsCount (d .settings .channels)
 
+-- RULES 9.3: the bytes of Y
 abbrev pub lumaSize : FrameDescription → ℕ
 lumaSize d = d .width * d .height
 
+-- RULES 9.3: the bytes of U, and of V
 abbrev pub chromaSize : FrameDescription → ℕ
 chromaSize d = chromaWidth (d .width) * chromaHeight (d .settings .sampling) (d .height)
 
 -- ---- which requests are refused
 
--- "1: program only: header under 9 bytes, or a code byte without a meaning."
+-- RULES 9.2: a code without a value
 abbrev pub hasUnknown : List ℕ → Bool
 hasUnknown input =
     leb (length channelsCodes) (getD input 4 0)
@@ -73,68 +76,73 @@ hasUnknown input =
     || leb (length matrixCodes) (getD input 7 0)
     || leb (length transferCodes) (getD input 8 0)
 
+-- RULES 9.2
 unfoldable pub malformed : List ℕ → Bool
 malformed input = ltb (length input) 9 || hasUnknown input
 
+-- RULES 9.2: 1
 abbrev pub headerRules : List ℕ → List Rule
 headerRules input = rule 1 (malformed input) 0 0 ∷ []
 
--- "3: .. in the program also w × h above 16,384."
+-- RULES 9.2: 3, of w × h
 abbrev pub areaRules : (w h : ℕ) → List Rule
 areaRules w h = rule 3 (ltb 16384 (w * h)) 0 0 ∷ []
 
--- 1, 2, 3
+-- RULES 9.2: 1, 2, 3
 abbrev pub openingRules : List ℕ → List Rule
 openingRules input = let d = frameOf input in headerRules input ++ (sizeRules (d .width) (d .height) ++ areaRules (d .width) (d .height))
 
--- the lengths of a source and of planes without padding
+-- RULES 9.2: the lengths of a source and of planes without padding
 abbrev pub packedLengths : FrameDescription → (source : ℕ) → Lengths
 packedLengths d source = record { source = source; y = lumaSize d; u = chromaSize d; v = chromaSize d }
 
--- 4 and 6 to 12
+-- RULES 9.2: 4 and 6 to 12, of which 6 and 12 alone can hold
 abbrev pub bufferRules : List ℕ → List Rule
 bufferRules input =
     let d = frameOf input in
     matrixRules (d .settings .matrix) ++ lentRules d (d .height) (sourceStride d) (packedLengths d (length (drop 9 input)))
 
+-- RULES 9.2
 abbrev pub requestRules : List ℕ → List Rule
 requestRules input = openingRules input ++ bufferRules input
 
 -- ---- what is answered
 
+-- RULES 7.1
 abbrev pub responseNumbers : Response → Numbers
 responseNumbers (Planes n) = numbers 0 0 0
 responseNumbers (Refused e) = errorNumbers e
 
--- how many bytes are answered, of a frame with n bytes in its planes
+-- RULES 9.3: how many bytes are answered, of a frame with n bytes in its planes
 abbrev pub bytesOf : Response → ℕ → ℕ
 bytesOf (Planes k) n = n
 bytesOf (Refused e) n = 0
 
--- how many the answer says
+-- RULES 9.3: how many the answer says
 abbrev pub bytesSaid : Response → ℕ
 bytesSaid (Planes k) = k
 bytesSaid (Refused e) = 0
 
--- byte p of rows of n bytes, without padding
+-- RULES 9.3: byte p of rows of n bytes, without padding
 abbrev pub byteIn : (ℕ → ℕ → ℕ) → (n p : ℕ) → ℕ
 byteIn rows n p = rows (p / n) (p % n)
 
--- "Output: Y, U, V without padding": byte p
+-- RULES 9.3: byte p of Y, U, V without padding
 unfoldable pub outputAt : FrameDescription → Image → (p : ℕ) → ℕ
 outputAt d image p =
     cond (ltb p (lumaSize d)) (byteIn (lumaAt d image) (d .width) p)
     (cond (ltb p (lumaSize d + chromaSize d)) (byteIn (cbAt d image) (chromaWidth (d .width)) (p - lumaSize d))
     (byteIn (crAt d image) (chromaWidth (d .width)) (p - (lumaSize d + chromaSize d))))
 
+-- RULES 9.3
 abbrev pub outputSize : FrameDescription → ℕ
 outputSize d = lumaSize d + 2 * chromaSize d
 
--- the bytes that answer a request
+-- RULES 9.3: the bytes that answer a request
 abbrev pub answerAt : List ℕ → (p : ℕ) → ℕ
 answerAt input = let d = frameOf input in outputAt d (sourceImage d (sourceStride d) (drop 9 input))
 
--- everything of a request: its bytes, the answer, and the output as it was left
+-- RULES 9.2, 9.3: everything of a request, by its bytes, the answer, and the output as it was left
 pub record RequestPost (input output : List ℕ) (response : Response) (output′ : List ℕ) : Type 0 where
   pub answered : responseNumbers response ≡ firstOf (requestRules input)
   pub said : bytesSaid response ≡ bytesOf response (outputSize (frameOf input))

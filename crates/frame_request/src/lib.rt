@@ -21,7 +21,7 @@ ghost use Rattle.frame_request.specs.Reply.{refusalLine, reply, Begins};
 // The bytes of w, h and the five codes.
 const HEADER: usize = 9;
 
-// The most pixels of a side, and of the frame, of document 01's refusal 3.
+// The most pixels of a side, and of the frame (RULES 7.3, 9.2).
 const MOST_PIXELS: u32 = 16384;
 
 // The answer to a request: the planes, so many bytes of output, or one numbered refusal.

@@ -1,4 +1,4 @@
--- What each code means. Document 01, "The program".
+-- What each code means: docs/RULES.md, 1.2.
 -- Assumes nothing.
 use Prim.Native.Nat.{ℕ}
 use mathlib.Core.List.{List, [], _∷_}
@@ -14,40 +14,43 @@ use Rattle.yuv_support.specs.declared.YuvStandardMatrix.the-variants.{Bt601, Bt
 use Rattle.sharp_gamma.specs.declared.SharpYuvGammaTransfer.{SharpYuvGammaTransfer}
 use Rattle.sharp_gamma.specs.declared.SharpYuvGammaTransfer.the-variants.{Srgb, Rec709, Gamma2p2, Gamma2p8}
 
--- the meaning of each code, at its place: "codes for channels (0 to 3: Rgb, Rgba, Bgra, Bgr)"
+-- RULES 1.2: the value of each code, at its place
 abbrev pub channelsCodes : List YuvSourceChannels
 channelsCodes = Rgb ∷ Rgba ∷ Bgra ∷ Bgr ∷ []
 
--- "sampling (0 4:2:0, 1 4:2:2)"
+-- RULES 1.2
 abbrev pub samplingCodes : List YuvChromaSubsampling
 samplingCodes = Yuv420 ∷ Yuv422 ∷ []
 
--- "range (0 Limited, 1 Full)"
+-- RULES 1.2
 abbrev pub rangeCodes : List YuvRange
 rangeCodes = Limited ∷ Full ∷ []
 
--- "matrix (0 to 5: Bt601, Bt709, Bt2020, Smpte240, Bt470_6, Fcc)"
+-- RULES 1.2: those with a code in the program too
 abbrev pub matrixCodes : List YuvStandardMatrix
 matrixCodes = Bt601 ∷ Bt709 ∷ Bt2020 ∷ Smpte240 ∷ «Bt470_6» ∷ Fcc ∷ []
 
--- "transfer (0 to 3: Srgb, Rec709, Gamma2p2, Gamma2p8)"
+-- RULES 1.2
 abbrev pub transferCodes : List SharpYuvGammaTransfer
 transferCodes = Srgb ∷ Rec709 ∷ Gamma2p2 ∷ Gamma2p8 ∷ []
 
--- a Custom matrix has the code after those of the named ones, whatever its kr and kb
+-- RULES 1.2: a Custom matrix has the code after those of the named ones, whatever its kr and kb
 abbrev pub customCode : ℕ
 customCode = length matrixCodes
 
 -- ---- the other way round
 
+-- RULES 1.2
 abbrev pub samplingCode : YuvChromaSubsampling → ℕ
 samplingCode Yuv420 = 0
 samplingCode Yuv422 = 1
 
+-- RULES 1.2
 abbrev pub rangeCode : YuvRange → ℕ
 rangeCode Limited = 0
 rangeCode Full = 1
 
+-- RULES 1.2
 abbrev pub matrixCode : YuvStandardMatrix → ℕ
 matrixCode Bt601 = 0
 matrixCode Bt709 = 1
@@ -57,6 +60,7 @@ matrixCode «Bt470_6» = 4
 matrixCode Fcc = 5
 matrixCode (Custom kr kb) = customCode
 
+-- RULES 1.2
 abbrev pub transferCode : SharpYuvGammaTransfer → ℕ
 transferCode Srgb = 0
 transferCode Rec709 = 1

@@ -1,4 +1,4 @@
--- The starred lines of document 01, "Frames and entries worked out", that speak of the curves, as one set over the definitions.
+-- Worked lines of the curves, as one set over the definitions; they are among the examples 3.4 and 3.5 of docs/RULES.md.
 -- Assumes nothing.
 use mathlib.Core.Path.{_≡_}
 use lib.Dec.{lit<}
@@ -33,7 +33,7 @@ worked = record {
   gamma2p2-linear-254 = linear-is Gamma2p2 254 64970 (lit< tt) tt;
 }
 
--- "At 0 a curve is 0, at 1 it is 1.", as entries: black and full colour go through both tables unchanged
+-- RULES 3.2, 3.3, at 0 and at 1, as entries: black and full colour go through both tables unchanged
 pub record Ends (t : SharpYuvGammaTransfer) : Type 0 where
   pub linear-0 : linearEntry t 0 ≡ 0
   pub linear-255 : linearEntry t 255 ≡ 65535

@@ -1,4 +1,4 @@
--- The curve of each transfer and its inverse: document 01, "The curves". Quotations are its sentences.
+-- The curve of each transfer and its inverse: docs/RULES.md, 3.1 to 3.3. Powers are compared by raising both sides.
 -- Assumes nothing.
 use Prim.Native.Nat.{ℕ}
 use mathlib.Core.Bool.{Bool, cond}
@@ -6,7 +6,7 @@ use Rattle.sharp_gamma.specs.declared.SharpYuvGammaTransfer.{SharpYuvGam
 use Rattle.sharp_gamma.specs.declared.SharpYuvGammaTransfer.the-variants.{Srgb, Rec709, Gamma2p2, Gamma2p8}
 use Rattle.sharp_gamma.specs.Fraction.{Fraction, whole, decimal, _plus_, _times_, _dividedBy_, power, _notAbove_, _below_}
 
--- "The four decimals of a row are slope, break, offset, scale, as the Rust functions use them." The power is up / down.
+-- RULES 3.1: the four decimals of a transfer and its power, up / down
 pub record Curve : Type 0 where
   pub slope : Fraction
   pub break : Fraction
@@ -15,37 +15,37 @@ pub record Curve : Type 0 where
   pub up : ℕ
   pub down : ℕ
 
+-- RULES 3.1: a row of the table
 abbrev pub row : (slope break offset scale : Fraction) (up down : ℕ) → Curve
 row s b o c u d = record { slope = s; break = b; offset = o; scale = c; up = u; down = d }
 
--- "with the source's decimals taken exactly: sRGB (12.92; 0.0030412825; 0.055010717; 1.0550107; power 12/5), Rec709 (4.5; 0.01805397; 0.09929682;
--- 1.0992968; 20/9), pure 11/5 and 14/5": a pure power breaks at 0, so that nothing of it is straight
+-- RULES 3.1: the decimals are exact. A pure power breaks at 0, so that nothing of it is straight.
 abbrev pub curveOf : SharpYuvGammaTransfer → Curve
 curveOf Srgb = row (decimal 12_92 2) (decimal 0_0030412825 10) (decimal 0_055010717 9) (decimal 1_0550107 7) 12 5
 curveOf Rec709 = row (decimal 4_5 1) (decimal 0_01805397 8) (decimal 0_09929682 8) (decimal 1_0992968 7) 20 9
 curveOf Gamma2p2 = row (whole 1) (whole 0) (whole 0) (whole 1) 11 5
 curveOf Gamma2p8 = row (whole 1) (whole 0) (whole 0) (whole 1) 14 5
 
--- "each with its own branch", straight below an end and curved from there on, and "At 0 a curve is 0, at 1 it is 1."
+-- RULES 3.2, 3.3: at 0 and at 1 by themselves, straight below an end and curved from there on
 pub data Branch : Type 0 where
   atZero straight curved atOne : Branch
 
+-- RULES 3.2, 3.3
 abbrev pub branchAt : Fraction → Fraction → Branch
 branchAt x end = cond (x notAbove whole 0) atZero (cond (whole 1 notAbove x) atOne (cond (x below end) straight curved))
 
--- y is not above the curve at x. "The curve is the formula of `linearize`": x / slope, or ((x + offset) / scale) ^ (up / down), and
--- "Powers are compared by raising both sides."
+-- RULES 3.2, 3.4: y is not above the curve at x, which is x / slope, or ((x + offset) / scale) ^ (up / down)
 abbrev pub underCurveOn : Branch → Curve → Fraction → Fraction → Bool
 underCurveOn atZero c y x = y notAbove whole 0
 underCurveOn straight c y x = y notAbove x dividedBy c .slope
 underCurveOn curved c y x = power y (c .down) notAbove power ((x plus c .offset) dividedBy c .scale) (c .up)
 underCurveOn atOne c y x = y notAbove whole 1
 
--- its branch: "below slope × break for `linearize`"
+-- RULES 3.2, 3.4: its straight part ends at slope × break
 unfoldable pub underCurve : Curve → Fraction → Fraction → Bool
 underCurve c y x = underCurveOn (branchAt x (c .slope times c .break)) c y x
 
--- x is not above the inverse at y. "the inverse that of `gamma`": slope * y, or scale * y ^ (down / up) - offset, with offset and scale taken to x's side
+-- RULES 3.3, 3.5: x is not above the inverse at y, which is slope * y, or scale * y ^ (down / up) - offset, with offset and scale taken to x's side
 -- before both sides are raised
 abbrev pub underInverseOn : Branch → Curve → Fraction → Fraction → Bool
 underInverseOn atZero c x y = x notAbove whole 0
@@ -53,6 +53,6 @@ underInverseOn straight c x y = x notAbove c .slope times y
 underInverseOn curved c x y = power ((x plus c .offset) dividedBy c .scale) (c .up) notAbove power y (c .down)
 underInverseOn atOne c x y = x notAbove whole 1
 
--- its branch: "below break for `gamma`"
+-- RULES 3.3, 3.5: its straight part ends at break, a test of its own
 unfoldable pub underInverse : Curve → Fraction → Fraction → Bool
 underInverse c x y = underInverseOn (branchAt y (c .break)) c x y

@@ -1,9 +1,11 @@
--- Exact fractions of whole numbers: a numerator over a denominator, never reduced, compared by multiplying crosswise.
+-- Exact fractions of whole numbers: a numerator over a denominator, never reduced, compared by multiplying crosswise. RULES 3.4, 3.5 compare such;
+-- none is rounded.
 -- Assumes nothing.
 use Prim.Native.Nat.{ℕ, _+_, _*_, _^_}
 use mathlib.Core.Bool.{Bool}
 use lib.Dec.{leb, ltb}
 
+-- RULES 3.4, 3.5
 pub record Fraction : Type 0 where
   pub num : ℕ
   pub den : ℕ
@@ -15,7 +17,7 @@ n over d = record { num = n; den = d }
 abbrev pub whole : ℕ → Fraction
 whole n = n over 1
 
--- a decimal by its digits and how many of them stand after the point: 12.92 is `decimal 12_92 2`
+-- RULES 3.1: a decimal by its digits and how many of them stand after the point, so 12.92 is `decimal 12_92 2`
 abbrev pub decimal : ℕ → ℕ → Fraction
 decimal digits places = digits over (10 ^ places)
 

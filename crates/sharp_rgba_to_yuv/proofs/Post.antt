@@ -36,7 +36,7 @@ module _ (d : FrameDescription) (stride : ℕ) (source y u v : List ℕ) (answer
         (subst (λ (image : Image). Sharpened d 0 (0 + d .height) image y u v y′ u′ v′) (all-rows-image (allRows d stride) source source refl) h));
   }
 
--- "a refusal writes no byte"
+-- a refusal writes no byte (RULES 7.2)
 pub refused-writes-nothing : (k : FrameCall) {e : YuvError} → k .answer ≡ Refused e → FramePost k → Unwritten k
 refused-writes-nothing k is p =
     let none = rw is at (p .planes) in

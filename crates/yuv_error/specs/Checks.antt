@@ -19,7 +19,7 @@ andThen (Refused e) b = Refused e
 abbrev pub planeRulesSaying : (narrow short : Numbers) → LentBuffer → List Rule
 planeRulesSaying narrow short b = record { holds = tooNarrow b; says = narrow } ∷ record { holds = tooShort b; says = short } ∷ []
 
--- "10: U", "11: the same for V"
+-- 10 is of U, 11 of V
 abbrev pub chromaNumber : ChromaPlane → ℕ
 chromaNumber U = 10
 chromaNumber «V» = 11

@@ -1,4 +1,4 @@
--- Document 01, "The call arrives": the refusals, as a list of rules.
+-- The refusals, as a list of rules: docs/RULES.md, chapter 7.
 pub mod Numbers
 pub mod Rules
 pub mod Order

@@ -1,4 +1,4 @@
--- Document 01's number, expected and received of each answer. "A refusal carries expected and received (both 0 where none is named)."
+-- Number, expected and received of each answer: docs/RULES.md, 7.1.
 -- Assumes nothing.
 use Prim.Native.Nat.{ℕ}
 use mathlib.Core.List.{List, [], _∷_}
@@ -12,17 +12,21 @@ use Rattle.yuv_error.specs.declared.YuvError.the-variants.{WholeRowsMism
 use Rattle.yuv_error.specs.declared.YuvAnswer.{YuvAnswer}
 use Rattle.yuv_error.specs.declared.YuvAnswer.the-variants.{Finished, Refused}
 
+-- RULES 7.1
 pub record Numbers : Type 0 where
   pub number : ℕ
   pub expected : ℕ
   pub received : ℕ
 
+-- RULES 7.1
 abbrev pub numbers : ℕ → ℕ → ℕ → Numbers
 numbers n e r = record { number = n; expected = e; received = r }
 
+-- RULES 7.1
 abbrev pub sized : ℕ → MismatchedSize → Numbers
 sized n m = numbers n (m .expected) (m .received)
 
+-- RULES 7.1: 0 and 0 where a condition names none
 abbrev pub errorNumbers : YuvError → Numbers
 errorNumbers MalformedRequest = numbers 1 0 0
 errorNumbers ZeroBaseSize = numbers 2 0 0
@@ -38,12 +42,12 @@ errorNumbers (VPlaneMinimumSizeMismatch m) = sized 11 m
 errorNumbers (WholeRowsMismatch m) = sized 12 m
 errorNumbers (CarriedRowSizeMismatch m) = sized 13 m
 
--- finished work is number 0
+-- RULES 7.1: finished work is number 0
 abbrev pub numbersOf : YuvAnswer → Numbers
 numbersOf Finished = numbers 0 0 0
 numbersOf (Refused e) = errorNumbers e
 
--- the answers by number, each with the size m where it carries one
+-- RULES 7.1: the answers by number, each with the size m where it carries one
 abbrev pub answers : MismatchedSize → List YuvAnswer
 answers m =
     Finished ∷
@@ -61,6 +65,6 @@ answers m =
     Refused (WholeRowsMismatch m) ∷
     Refused (CarriedRowSizeMismatch m) ∷ []
 
--- the answer of these numbers, the other way round
+-- RULES 7.1: the answer of these numbers, the other way round
 abbrev pub answerOf : Numbers → YuvAnswer
 answerOf x = getD (answers (record { expected = x .expected; received = x .received })) (x .number) Finished

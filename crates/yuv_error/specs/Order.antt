@@ -5,14 +5,15 @@ use mathlib.Core.Bool.{cond}
 use mathlib.Core.List.{List, [], _∷_}
 use lib.Dec.{eqb}
 
--- the numbers of the refusals, the first to be asked first
+-- RULES 7.1: the numbers of the refusals, the first to be asked first
 abbrev pub order : List ℕ
 order = 1 ∷ 2 ∷ 3 ∷ 4 ∷ 5 ∷ 6 ∷ 7 ∷ 8 ∷ 9 ∷ 10 ∷ 11 ∷ 12 ∷ 13 ∷ []
 
--- the place of n in a list; the list's length where n is not in it
+-- RULES 7.1: the place of n in a list; the list's length where n is not in it
 abbrev pub placeIn : List ℕ → ℕ → ℕ
 placeIn [] n = 0
 placeIn (m ∷ ms) n = cond (eqb m n) 0 (suc (placeIn ms n))
 
+-- RULES 7.1
 abbrev pub rank : ℕ → ℕ
 rank n = placeIn order n

@@ -1,4 +1,4 @@
-// The refusals: the errors and checks of the Rust's yuv_error.rs, with document 01's own beside them.
+// The refusals: the errors and checks of the Rust's yuv_error.rs, with those that the rules add beside them (RULES 7.1).
 ghost use mathlib.Core.Path.{_≡_};
 ghost use mathlib.Core.List.{_++_};
 ghost use Prim.Native.Nat.{_*_, _≤_};
@@ -12,7 +12,7 @@ ghost use Rattle.yuv_error.specs.Known.{Sized};
 use definitions::FrameDescription;
 use yuv_support::YuvStandardMatrix;
 
-// The most pixels a side, of document 01's refusal 3.
+// The most pixels a side (RULES 7.3).
 const MAX_SIDE: u32 = 16384;
 
 // Shows size mismatching.

@@ -45,7 +45,7 @@ carried-step-requires c κs =
         in-source = source-at w (p .lent) (le-refl _) (some k) is;
         in-chroma = chroma-at w (p .lent) (le-refl _) (some k) is;
       },
-      (q .pre .1 .0, (rw row (q .pre .1 .1), rw row (inside w (p .lent) (le-refl _) (some k)))),
+      (q .pre .1 .0, (rw row (q .pre .1 .1), rw row (inside w (p .lent) (le-refl _) (some k)), row)),
     )
 
 returns : tie.Need-returns
