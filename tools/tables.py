@@ -6,6 +6,10 @@ they stand in one place only; all arithmetic is exact. The text made is in the l
 
     tools/tables.py           write the file
     tools/tables.py --check   say what differs from the file, and fail if anything does
+    tools/tables.py --moved   say which entries of both tables, each worked out by itself, are not those of the
+                              scope document's decimals, which the digits of the definition replaced
+    tools/tables.py --moved TRANSFER BREAK SCALE
+                              say which are not those that this break and scale would give
 """
 import difflib
 import re
@@ -17,6 +21,12 @@ CRATE = Path(__file__).resolve().parent.parent / 'crates' / 'sharp_gamma'
 DEFINITION = CRATE / 'specs' / 'Curve.antt'
 TABLES = CRATE / 'src' / 'tables.rt'
 TRANSFERS = ['Srgb', 'Rec709', 'Gamma2p2', 'Gamma2p8']
+
+# Slope, break, offset, scale and power of the scope document; its offset was a decimal of its own.
+SCOPE_DOCUMENT = {
+    'Srgb': [Fraction('12.92'), Fraction('0.0030412825'), Fraction('0.055010717'), Fraction('1.0550107'), 12, 5],
+    'Rec709': [Fraction('4.5'), Fraction('0.01805397'), Fraction('0.09929682'), Fraction('1.0992968'), 20, 9],
+}
 
 HEADER = '''\
 // Made by tools/tables.py from the decimals of specs/Curve.antt: change those, and run it.
@@ -30,12 +40,17 @@ def number(term):
     return Fraction(int(digits), 10 ** int(places[0]) if places else 1)
 
 
+def row(slope, end, scale, up, down):
+    """Slope, break, offset, scale, and the power's numerator and denominator: the offset is the scale less 1."""
+    return [slope, end, scale - 1, scale, up, down]
+
+
 def curves():
-    """Each transfer's slope, break, offset, scale, and its power's numerator and denominator."""
+    """Each transfer's row."""
     found = {}
-    for name, terms, up, down in re.findall(r'^curveOf (\w+) = row ((?:\([^)]*\) ){4})(\d+) (\d+)$',
+    for name, terms, up, down in re.findall(r'^curveOf (\w+) = row ((?:\([^)]*\) ){3})(\d+) (\d+)$',
                                             DEFINITION.read_text(), re.MULTILINE):
-        found[name] = [number(term) for term in re.findall(r'\(([^)]*)\)', terms)] + [int(up), int(down)]
+        found[name] = row(*(number(term) for term in re.findall(r'\(([^)]*)\)', terms)), int(up), int(down))
     if list(found) != TRANSFERS:
         sys.exit(f'{DEFINITION}: found rows for {list(found)}, expected {TRANSFERS}')
     return found
@@ -90,6 +105,35 @@ def first_index(curve):
             for k in range(256)]
 
 
+def gamma(curve):
+    """Every gamma entry; what is not above the inverse stays so when it is made smaller, so each is sought from the one before."""
+    entries, k = [], 0
+    for i in range(65536):
+        def passes(k):
+            return under_inverse(curve, Fraction(k, 255), Fraction(i, 65535))
+        while k > 0 and not passes(k):
+            k -= 1
+        while k < 255 and passes(k + 1):
+            k += 1
+        entries.append(k)
+    return entries
+
+
+def moved(others):
+    """Print the entries that the curves of `others` make otherwise than the definition's."""
+    compared = unlike = 0
+    print('transfer  table  index  entry  with the other digits')
+    for transfer, curve in curves().items():
+        other = others.get(transfer, curve)
+        for name, table in ('linear', linear), ('gamma', gamma):
+            for index, (entry, instead) in enumerate(zip(table(curve), table(other))):
+                compared += 1
+                if entry != instead:
+                    unlike += 1
+                    print(f'{transfer}  {name}  {index}  {entry}  {instead}')
+    print(f'{unlike} of {compared} entries differ')
+
+
 def constant(comment, name, entries):
     lines = ''.join(f'    {entry},\n' for entry in entries)
     return f'\n// {comment}\npub const {name}: [u16; 256] = [\n{lines}];\n'
@@ -106,14 +150,19 @@ def text():
 
 
 def main():
-    made = text()
-    if sys.argv[1:] == []:
-        TABLES.write_text(made)
-    elif sys.argv[1:] == ['--check']:
-        differs = list(difflib.unified_diff(TABLES.read_text().splitlines(), made.splitlines(),
+    words = sys.argv[1:]
+    if words == []:
+        TABLES.write_text(text())
+    elif words == ['--check']:
+        differs = list(difflib.unified_diff(TABLES.read_text().splitlines(), text().splitlines(),
                                             str(TABLES), 'what tools/tables.py makes', lineterm=''))
         if differs:
             sys.exit('\n'.join(differs))
+    elif words == ['--moved']:
+        moved(SCOPE_DOCUMENT)
+    elif len(words) == 4 and words[0] == '--moved' and words[1] in TRANSFERS:
+        slope, _, _, _, up, down = curves()[words[1]]
+        moved({words[1]: row(slope, Fraction(words[2]), Fraction(words[3]), up, down)})
     else:
         sys.exit(__doc__)
 

@@ -239,12 +239,13 @@ fn kept(mistake: Mistake, exact: f64) -> f32 {
 
 /// RULES 3.1: slope, break, offset, scale and power of a transfer.
 fn curve(transfer: SharpYuvGammaTransfer) -> [f64; 5] {
-    match transfer {
-        SharpYuvGammaTransfer::Srgb => [12.92, 0.0030412825, 0.055010717, 1.0550107, 2.4],
-        SharpYuvGammaTransfer::Rec709 => [4.5, 0.01805397, 0.09929682, 1.0992968, 20.0 / 9.0],
-        SharpYuvGammaTransfer::Gamma2p2 => [1.0, 0.0, 0.0, 1.0, 2.2],
-        SharpYuvGammaTransfer::Gamma2p8 => [1.0, 0.0, 0.0, 1.0, 2.8],
-    }
+    let [slope, break_at, scale, power] = match transfer {
+        SharpYuvGammaTransfer::Srgb => [12.92, 0.003041282560128, 1.055010718947587, 2.4],
+        SharpYuvGammaTransfer::Rec709 => [4.5, 0.018053968510807, 1.099296826809442, 20.0 / 9.0],
+        SharpYuvGammaTransfer::Gamma2p2 => [1.0, 0.0, 1.0, 2.2],
+        SharpYuvGammaTransfer::Gamma2p8 => [1.0, 0.0, 1.0, 2.8],
+    };
+    [slope, break_at, scale - 1.0, scale, power]
 }
 
 /// The nearest whole number, where the rule takes the largest that is not above.

@@ -5,7 +5,7 @@ use crate::whole::Whole;
 use std::sync::OnceLock;
 
 /// A decimal x of RULES 3.1 is held as x × ONE, which is whole for all of them.
-const ONE: u64 = 1_0000000000;
+const ONE: u64 = 1_000000000000000;
 
 /// Slope, break, offset and scale are × ONE. The power is up/down.
 struct Curve {
@@ -17,38 +17,33 @@ struct Curve {
     down: u32,
 }
 
-/// The decimals of RULES 3.1: the underscore stands where their point does.
+/// The decimals of RULES 3.1: the underscore stands where their point does. A power alone has
+/// nothing below its break at 0, and a scale of 1 and the offset of 0 that it makes change nothing.
 #[allow(clippy::zero_prefixed_literal)]
 fn curve(transfer: SharpYuvGammaTransfer) -> Curve {
-    match transfer {
-        SharpYuvGammaTransfer::Srgb => Curve {
-            slope: 12_9200000000,
-            break_at: 0_0030412825,
-            offset: 0_0550107170,
-            scale: 1_0550107000,
-            up: 12,
-            down: 5,
-        },
-        SharpYuvGammaTransfer::Rec709 => Curve {
-            slope: 4_5000000000,
-            break_at: 0_0180539700,
-            offset: 0_0992968200,
-            scale: 1_0992968000,
-            up: 20,
-            down: 9,
-        },
-        SharpYuvGammaTransfer::Gamma2p2 => pure(11, 5),
-        SharpYuvGammaTransfer::Gamma2p8 => pure(14, 5),
-    }
-}
-
-/// A power alone: nothing is below a break at 0, an offset of 0 and a scale of 1 change nothing.
-fn pure(up: u32, down: u32) -> Curve {
+    let (slope, break_at, scale, up, down) = match transfer {
+        SharpYuvGammaTransfer::Srgb => (
+            12_920000000000000,
+            0_003041282560128,
+            1_055010718947587,
+            12,
+            5,
+        ),
+        SharpYuvGammaTransfer::Rec709 => (
+            4_500000000000000,
+            0_018053968510807,
+            1_099296826809442,
+            20,
+            9,
+        ),
+        SharpYuvGammaTransfer::Gamma2p2 => (ONE, 0, ONE, 11, 5),
+        SharpYuvGammaTransfer::Gamma2p8 => (ONE, 0, ONE, 14, 5),
+    };
     Curve {
-        slope: ONE,
-        break_at: 0,
-        offset: 0,
-        scale: ONE,
+        slope,
+        break_at,
+        offset: scale - ONE,
+        scale,
         up,
         down,
     }
@@ -67,7 +62,7 @@ pub fn linear_entry(transfer: SharpYuvGammaTransfer, v: u8) -> u16 {
         < 255 * u128::from(curve.slope) * u128::from(curve.break_at);
     if below {
         // The largest n with n/65,535 <= (v/255) / slope.
-        return (65_535 * v * ONE / (255 * curve.slope)) as u16;
+        return (65_535 * u128::from(v) * u128::from(ONE) / (255 * u128::from(curve.slope))) as u16;
     }
     // n/65,535 <= ((v/255 + offset) / scale)^(up/down), both sides raised to the power down and
     // multiplied by 65,535^down × (255 × scale)^up:
@@ -118,9 +113,10 @@ impl GammaRule {
             // At 1 it is 1.
             return 255;
         }
-        if i * ONE < 65_535 * self.curve.break_at {
+        let (wide, one) = (u128::from(i), u128::from(ONE));
+        if wide * one < 65_535 * u128::from(self.curve.break_at) {
             // The largest k with k/255 <= slope × i/65,535.
-            return (255 * i * self.curve.slope / (65_535 * ONE)) as u8;
+            return (255 * wide * u128::from(self.curve.slope) / (65_535 * one)) as u8;
         }
         // k/255 <= scale × (i/65,535)^(down/up) - offset, that is
         // ((k/255 + offset) / scale)^(up/down) <= i/65,535, made whole as in `linear_entry`:

@@ -36,7 +36,7 @@ module _ (c : Curve) (a : Axis) where
       let b = both (linearUnder v 0) (not (linearUnder v 65536)) (every-at (λ v _. linearUnder v 0 && not (linearUnder v 65536)) (replicate 256 0) t v h) in
       largest-means (linearUnder v) (λ m n h. curve-down c (a .den) (a .rises m n h) (v over 255)) (b .0) 65535 (T-not (linearUnder v 65536) (b .1)) n
 
-  -- at each i the entries start at 0 and end by 255: as the inverse rises, two indices are enough, the last and, since it jumps to 1 there, the one before
+  -- at each i the entries start at 0 and end by 255: as the inverse rises, two indices are enough, the last and, as 1 is its own branch, the one before
   abbrev gammaBounds : Bool
   gammaBounds = steady c (place a 0) && crosses c (place a 256) && (not (gammaUnder 65534 256) && not (gammaUnder 65535 256))
 

@@ -1,10 +1,10 @@
 -- The curve of each transfer and its inverse: docs/RULES.md, 3.1 to 3.3. Powers are compared by raising both sides.
 -- Assumes nothing.
-use Prim.Native.Nat.{ℕ}
+use Prim.Native.Nat.{ℕ, _-_}
 use mathlib.Core.Bool.{Bool, cond}
 use Rattle.sharp_gamma.specs.declared.SharpYuvGammaTransfer.{SharpYuvGammaTransfer}
 use Rattle.sharp_gamma.specs.declared.SharpYuvGammaTransfer.the-variants.{Srgb, Rec709, Gamma2p2, Gamma2p8}
-use Rattle.sharp_gamma.specs.Fraction.{Fraction, whole, decimal, _plus_, _times_, _dividedBy_, power, _notAbove_, _below_}
+use Rattle.sharp_gamma.specs.Fraction.{Fraction, _over_, whole, decimal, _plus_, _times_, _dividedBy_, power, _notAbove_, _below_}
 
 -- RULES 3.1: the four decimals of a transfer and its power, up / down
 pub record Curve : Type 0 where
@@ -15,16 +15,16 @@ pub record Curve : Type 0 where
   pub up : ℕ
   pub down : ℕ
 
--- RULES 3.1: a row of the table
-abbrev pub row : (slope break offset scale : Fraction) (up down : ℕ) → Curve
-row s b o c u d = record { slope = s; break = b; offset = o; scale = c; up = u; down = d }
+-- RULES 3.1: a row of the table. The offset is the scale less 1; no scale is below 1.
+abbrev pub row : (slope break scale : Fraction) (up down : ℕ) → Curve
+row s b c u d = record { slope = s; break = b; offset = (c .num - c .den) over c .den; scale = c; up = u; down = d }
 
 -- RULES 3.1: the decimals are exact. A pure power breaks at 0, so that nothing of it is straight.
 abbrev pub curveOf : SharpYuvGammaTransfer → Curve
-curveOf Srgb = row (decimal 12_92 2) (decimal 0_0030412825 10) (decimal 0_055010717 9) (decimal 1_0550107 7) 12 5
-curveOf Rec709 = row (decimal 4_5 1) (decimal 0_01805397 8) (decimal 0_09929682 8) (decimal 1_0992968 7) 20 9
-curveOf Gamma2p2 = row (whole 1) (whole 0) (whole 0) (whole 1) 11 5
-curveOf Gamma2p8 = row (whole 1) (whole 0) (whole 0) (whole 1) 14 5
+curveOf Srgb = row (decimal 12_92 2) (decimal 0_003041282560128 15) (decimal 1_055010718947587 15) 12 5
+curveOf Rec709 = row (decimal 4_5 1) (decimal 0_018053968510807 15) (decimal 1_099296826809442 15) 20 9
+curveOf Gamma2p2 = row (whole 1) (whole 0) (whole 1) 11 5
+curveOf Gamma2p8 = row (whole 1) (whole 0) (whole 1) 14 5
 
 -- RULES 3.2, 3.3: at 0 and at 1 by themselves, straight below an end and curved from there on
 pub data Branch : Type 0 where
