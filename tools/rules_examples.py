@@ -34,7 +34,7 @@ ORDERS = {row[0]: (int(row[1]), tuple(map(int, row[2:5]))) for row in table('1.3
 CODES = {row[0]: [item.split(' ', 1)[1] for item in row[1].split(', ')] for row in table('1.2')}
 STORED = {(row[0], row[1]): [int(cell) for cell in row[2:]] for row in table('4.1')}
 FCC = tuple(struct.unpack('>f', bytes.fromhex(table('4.3')[0][i]))[0] for i in (2, 4))
-D = 10 ** 10
+D = 10 ** 15
 
 
 class Curve:
@@ -42,6 +42,7 @@ class Curve:
         decimals = [Fraction(text) for text in row[1:5]]
         self.slope, self.brk, self.offset, self.scale, self.up, self.down = map(int, row[5:])
         assert [self.slope, self.brk, self.offset, self.scale] == [d * D for d in decimals], row
+        assert self.offset == self.scale - D, row
 
 
 CURVES = {row[0]: Curve(row) for row in table('3.1')}
@@ -467,7 +468,8 @@ def _():
 @example('3.1')
 def _():
     for name, c in CURVES.items():
-        yield f'{name}: SCALE − OFFSET = {c.scale - c.offset}, where D is {D}; SLOPE × BREAK = {c.slope * c.brk}'
+        assert c.scale - c.offset == D
+        yield f'{name}: SCALE − OFFSET = {c.scale - c.offset} = D; SLOPE × BREAK = {c.slope * c.brk}'
 
 
 @example('3.2')
@@ -493,6 +495,15 @@ def _():
         for i in (last, last + 1):
             left = i * D
             yield f'{name}, i {i}: {left} {"<" if left < bound else "≥"} {bound}, so i {i} is in the {"straight" if left < bound else "curved"} part'
+    most = max(max(65534 * D, 65535 * c.brk).bit_length() for c in CURVES.values())
+    yield f'the longest of these products, for any transfer and i, has {most} bits'
+    for name in ('Srgb', 'Rec709'):
+        c = CURVES[name]
+        # x is above the curved part at break where ((x + offset) / scale) ^ up is above break ^ down.
+        above = [(Fraction(c.slope * c.brk, D * D) + step + Fraction(c.offset, D)) ** c.up * D ** c.down * D ** c.up > c.brk ** c.down * c.scale ** c.up
+                 for step in (Fraction(-1, D), 0, Fraction(1, D))]
+        assert above[0] is False and above[2] is True
+        yield f'{name}, y = break: the curved part lies {"below" if above[1] else "above"} the straight one, by less than 1 / D'
 
 
 def sides(left, right):
@@ -512,11 +523,18 @@ def _():
         for m in (n, n + 1):
             yield f'{name}, v {v}, curved: n {m}: {sides(*linear_sides(CURVES[name], v, m))}' + (f', so entry {v} is {n}' if m > n else '')
     yield f'Srgb, v 255: {LINEAR["Srgb"][255]}'
+    for v in (0, 255):
+        for name, c in CURVES.items():
+            n = LINEAR[name][v]
+            left, right = (n * 255 * c.slope, 65535 * v * D) if linear_straight(c, v) else linear_sides(c, v, n)
+            assert left == right
+    yield 'every transfer, v 0 by the second or third line: n 0 exactly; v 255 by the third: n 65535 exactly, both sides equal'
     c = CURVES['Srgb']
     nearest = (2 * 65535 * 10 * D + 255 * c.slope) // (2 * 255 * c.slope)
     yield f'wrong, rounded to the nearest: Srgb, v 10: {nearest}, whose gamma entry is {GAMMA["Srgb"][nearest]}'
     most = max(max(x.bit_length() for x in linear_sides(c, 254, 65535)) for c in CURVES.values())
-    yield f'the longest of these numbers, for any transfer and v, has {most} bits'
+    short = max(max(65535 * v * D, 255 * c.slope).bit_length() for c in CURVES.values() for v in range(1, 255) if linear_straight(c, v))
+    yield f'the longest of these numbers, for any transfer and v, has {most} bits, in straight parts {short}'
 
 
 @example('3.5')
@@ -528,8 +546,15 @@ def _():
         m = GAMMA[name][i]
         for k in (m, m + 1):
             yield f'{name}, i {i}, curved: m {k}: {sides(*gamma_sides(CURVES[name], i, k))}' + (f', so entry {i} is {m}' if k > m else '')
+    for i in (0, 65535):
+        for name, c in CURVES.items():
+            m = GAMMA[name][i]
+            left, right = (m * 65535 * D, 255 * i * c.slope) if gamma_straight(c, i) else gamma_sides(c, i, m)
+            assert left == right
+    yield 'every transfer, i 0 by the second or third line: m 0 exactly; i 65535 by the third: m 255 exactly, both sides equal'
     most = max(max(x.bit_length() for x in gamma_sides(c, 65534, 255)) for c in CURVES.values())
-    yield f'the longest of these numbers, for any transfer, i and m, has {most} bits'
+    short = max(max(255 * i * c.slope, 65535 * D).bit_length() for c in CURVES.values() for i in range(1, 65535) if gamma_straight(c, i))
+    yield f'the longest of these numbers, for any transfer, i and m, has {most} bits, in straight parts {short}'
 
 
 @example('4.1')

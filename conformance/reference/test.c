@@ -126,9 +126,9 @@ static void test_curves(void)
         const char *left_next;
         const char *right;
     } curved[] = {
-        {REFERENCE_SRGB, 160, 23037, 171, "932597288456", "932799718950", "932798991120"},
-        {REFERENCE_GAMMA2P2, 254, 64970, 161, "343167632545", "343194043057", "343192194397"},
-        {REFERENCE_GAMMA2P8, 205, 35568, 197, "279807758773", "279847095184", "279846947186"},
+        {REFERENCE_SRGB, 160, 23037, 231, "932597489445", "932799919983", "932799023064"},
+        {REFERENCE_GAMMA2P2, 254, 64970, 216, "343167632545", "343194043057", "343192194397"},
+        {REFERENCE_GAMMA2P8, 205, 35568, 267, "279807758773", "279847095184", "279846947186"},
     };
     static const struct {
         unsigned transfer;
@@ -139,9 +139,9 @@ static void test_curves(void)
         const char *left_next;
         const char *right;
     } inverse[] = {
-        {REFERENCE_SRGB, 200, 10, 161, "447630892777", "730171105455", "459954121917"},
-        {REFERENCE_SRGB, 36863, 197, 172, "942846333547", "997880540321", "978403320947"},
-        {REFERENCE_GAMMA2P2, 22231, 155, 159, "149973731983", "160967092919", "160967047484"},
+        {REFERENCE_SRGB, 200, 10, 221, "447631003803", "730171279323", "459954221044"},
+        {REFERENCE_SRGB, 36863, 197, 232, "942846360174", "997880568369", "978403531808"},
+        {REFERENCE_GAMMA2P2, 22231, 155, 214, "149973731983", "160967092919", "160967047484"},
     };
     unsigned place;
     unsigned v;
@@ -191,7 +191,7 @@ static void test_curves(void)
     }
 }
 
-/* RULES 3.4, 3.5: the longest number of any comparison has 972 bits, so the carry out of the highest limb is always 0. */
+/* RULES 3.4, 3.5: the longest number of any comparison has 1,304 bits, so the carry out of the highest limb is always 0. */
 static void test_longest(void)
 {
     const struct transfer *transfer = &transfers[REFERENCE_REC709];
@@ -202,8 +202,23 @@ static void test_longest(void)
     sides[0] = linear_power(transfer, &scale, 65535);
     sides[1] = byte_power(transfer, 255);
     for (place = 0; place < 2; place++) {
-        expect("3.4", 61, 0, sides[place].limbs[61]);
-        expect("3.4", 60, 1, sides[place].limbs[60] >= 0x800u && sides[place].limbs[60] < 0x1000u);
+        expect("3.4", 81, 1, sides[place].limbs[81] >= 0x80u && sides[place].limbs[81] < 0x100u);
+    }
+}
+
+/* RULES 3.4, 3.5: at 1 the comparison of the curved part has equal sides, so 65,535 and 255 are what it gives too. */
+static void test_equal_at_1(void)
+{
+    unsigned code;
+
+    for (code = 0; code < REFERENCE_TRANSFERS; code++) {
+        const struct transfer *transfer = &transfers[code];
+        struct big scale = big_times_power(big_one(), 255u * transfer->scale, transfer->up);
+        struct big linear_side = linear_power(transfer, &scale, 65535);
+        struct big byte_side = byte_power(transfer, 255);
+
+        expect("3.4", (long)code, 1, big_not_above(&linear_side, &byte_side));
+        expect("3.5", (long)code, 1, big_not_above(&byte_side, &linear_side));
     }
 }
 
@@ -981,6 +996,7 @@ int main(void)
     test_numbers();
     test_curves();
     test_longest();
+    test_equal_at_1();
     test_every_gamma_entry();
     test_checksums();
     test_steps();
