@@ -1,11 +1,12 @@
 #!/usr/bin/env python3
 """Make crates/sharp_gamma/src/tables.rt, the constant tables of every transfer.
 
-The decimals are read out of crates/sharp_gamma/specs/Curve.antt, the file of the definition, so that
-they stand in one place only; all arithmetic is exact. The text made is in the layout of `rt fmt`.
+The decimals are read out of crates/sharp_gamma/specs/Curve.antt, the file of the definition; all
+arithmetic is exact. The text made is in the layout of `rt fmt`. The tables do not depend on the last
+digits, so these are held to the table of RULES 3.1.
 
     tools/tables.py           write the file
-    tools/tables.py --check   say what differs from the file, and fail if anything does
+    tools/tables.py --check   say what differs from the file, or from RULES 3.1, and fail if anything does
     tools/tables.py --moved   say which entries of both tables, each worked out by itself, are not those of the
                               scope document's decimals, which the digits of the definition replaced
     tools/tables.py --moved TRANSFER BREAK SCALE
@@ -17,7 +18,9 @@ import sys
 from fractions import Fraction
 from pathlib import Path
 
-CRATE = Path(__file__).resolve().parent.parent / 'crates' / 'sharp_gamma'
+ROOT = Path(__file__).resolve().parent.parent
+RULES = ROOT / 'docs' / 'RULES.md'
+CRATE = ROOT / 'crates' / 'sharp_gamma'
 DEFINITION = CRATE / 'specs' / 'Curve.antt'
 TABLES = CRATE / 'src' / 'tables.rt'
 TRANSFERS = ['Srgb', 'Rec709', 'Gamma2p2', 'Gamma2p8']
@@ -54,6 +57,14 @@ def curves():
     if list(found) != TRANSFERS:
         sys.exit(f'{DEFINITION}: found rows for {list(found)}, expected {TRANSFERS}')
     return found
+
+
+def ruled():
+    """The same rows out of the table of RULES 3.1, where the offset stands as a decimal too."""
+    page = RULES.read_text()
+    lines = re.findall(r'^\| (\w+) \| (\d.*) \|$', page[page.index('**3.1 '):page.index('**3.2 ')], re.MULTILINE)
+    cells = {name: [Fraction(cell) for cell in rest.split(' | ')] for name, rest in lines}
+    return {name: row[:4] + row[-2:] for name, row in cells.items()}
 
 
 def not_above(value, up, down, limit):
@@ -158,6 +169,8 @@ def main():
                                             str(TABLES), 'what tools/tables.py makes', lineterm=''))
         if differs:
             sys.exit('\n'.join(differs))
+        if ruled() != curves():
+            sys.exit(f'{RULES}: the table of 3.1 has not the decimals of {DEFINITION}')
     elif words == ['--moved']:
         moved(SCOPE_DOCUMENT)
     elif len(words) == 4 and words[0] == '--moved' and words[1] in TRANSFERS:
