@@ -64,7 +64,7 @@ def ruled():
     page = RULES.read_text()
     lines = re.findall(r'^\| (\w+) \| (\d.*) \|$', page[page.index('**3.1 '):page.index('**3.2 ')], re.MULTILINE)
     cells = {name: [Fraction(cell) for cell in rest.split(' | ')] for name, rest in lines}
-    return {name: row[:4] + row[-2:] for name, row in cells.items()}
+    return {name: found[:4] + found[-2:] for name, found in cells.items()}
 
 
 def not_above(value, up, down, limit):
