@@ -20,6 +20,7 @@ use Rattle.pixel_pairs.specs.Tables.{SumTables, Summed, Prepared}
 use Rattle.pixel_pairs.specs.Pixels.{Paired, Light, total, leftLuma, rightLuma, firstThree, byteAt, sixteenthsOf, quartersOf, correctedBy, Over}
 use Rattle.pixel_pairs.specs.Pixels.{Linears, ColourAt}
 use Rattle.pixel_pairs.specs.Rows.{lumas, inputs420, inputs422, RowOf, InRow, LumaRoom, ChromaRoom, Rows420, Row422, Lent420, Lent422, putPair}
+use Rattle.pixel_pairs.specs.Rows.{putBlock422, blockAt}
 use Rattle.pixel_pairs.specs.Rows.{LumaWritten, LumasPainted, LumasWritten, Lumas422, ChromaPainted, ChromaWritten}
 use Rattle.pixel_pairs.specs.Rows.{LumaMore, ChromaMore, Begun, Begun420, Begun422, Stepped}
 use Rattle.definitions.proofs.Painted.{painted-none, painted-more}
@@ -148,6 +149,11 @@ module _ (d : FrameDescription) (count : ℕ) {block : Block} (in-row : InRow d 
         rw (e, ea, eb) (painted-to (omega (arith, in-row .inside, in-row .next))
         (painted-pair (in-row .inside) (in-row .next) (row .luma) (painted-to (omega (arith, in-row .inside)) p)));
   }
+
+-- the lumas of a block, by their values
+pub block-put : (d : FrameDescription) (count : ℕ) (j : ℕ) {this y y′ : List ℕ} {a b : ℕ} → Row422 d count this y → a ≡ lumas d count this (2 * j)
+    → b ≡ lumas d count this (2 * j + 1) → y′ ≡ set (set y (0 + 2 * j) a) (0 + (2 * j + 1)) b → y′ ≡ putBlock422 d count this (blockAt j) y
+block-put d count j room ea eb e = e ∙ rw (ea, eb)
 
 -- and another
 pub luma-both : (L : ℕ → List ℕ → List ℕ → Type 0) (d : FrameDescription) (j : ℕ) {y y₁ y₂ : List ℕ} → LumaMore L d j (j + 1) y y₁

@@ -4,6 +4,9 @@ use mathlib.Core.Path.{_≡_}
 use mathlib.Core.List.{List}
 use Prim.Native.Nat.{ℕ, zero, suc, _+_, _*_, _/_, _%_, _<_}
 use lib.ListN.{getD}
+use Rattle.definitions.specs.declared.FrameDescription.{FrameDescription}
+use Rattle.definitions.specs.Pixel.{cbOf, crOf}
+use Rattle.definitions.specs.Row.{ofColour}
 use Rattle.pixel_pairs.specs.declared.Bytes.{Bytes}
 use Rattle.pixel_pairs.specs.declared.Colours.{Colours}
 use Rattle.pixel_pairs.specs.declared.Sums.{Sums}
@@ -81,3 +84,10 @@ ColourAt input j b = b ≡ firstThree (input j)
 
 abbrev pub ColoursAt : (input : ℕ → ℕ → ℕ) → (j : ℕ) → Colours → Type 0
 ColoursAt input j c = ColourAt input j (c .first) × ColourAt input (j + 1) (c .second)
+
+-- the chroma of a colour
+abbrev pub cbByte : FrameDescription → Bytes → ℕ
+cbByte d b = ofColour (d .settings) (cbOf (d .settings)) (byteAt b)
+
+abbrev pub crByte : FrameDescription → Bytes → ℕ
+crByte d b = ofColour (d .settings) (crOf (d .settings)) (byteAt b)

@@ -59,6 +59,18 @@ pub record InRow (d : FrameDescription) (at : Block) : Type 0 where
 abbrev pub putPair : (start x next : ℕ) → (ℕ → ℕ) → List ℕ → List ℕ
 putPair start x next f y = set (set y (start + x) (f x)) (start + next) (f next)
 
+-- the lumas of a block, in two rows and in one
+abbrev pub putBlock420 : FrameDescription → (count : ℕ) → (this below : List ℕ) → Block → List ℕ → List ℕ
+putBlock420 d count this below b y =
+    putPair (d .«y_stride») (2 * b .j) (b .next) (lumaRow d (pixelsOf count below)) (putPair 0 (2 * b .j) (b .next) (lumaRow d (pixelsOf count this)) y)
+
+abbrev pub putBlock422 : FrameDescription → (count : ℕ) → (this : List ℕ) → Block → List ℕ → List ℕ
+putBlock422 d count this b y = putPair 0 (2 * b .j) (b .next) (lumaRow d (pixelsOf count this)) y
+
+-- block j where pixel 2j + 1 is there
+abbrev pub blockAt : (j : ℕ) → Block
+blockAt j = record { j = j; next = 2 * j + 1 }
+
 -- `after` is `before` with n bytes f 0, f 1, .. from `upper` on and n bytes g 0, g 1, .. from `lower` on, and no other byte changed
 pub record TwoPainted (upper lower n : ℕ) (f g : ℕ → ℕ) (before after : List ℕ) : Type 0 where
   pub size : length after ≡ length before

@@ -18,9 +18,9 @@ ghost use Rattle.definitions.specs.Row.{pixelsOf};
 ghost use Rattle.pixel_pairs.specs.Weights.{Converts, ByteWeights};
 ghost use Rattle.pixel_pairs.specs.Tables.{Summed, Prepared};
 ghost use Rattle.pixel_pairs.specs.Pixels.{firstThree, Paired, Light, total, leftLuma, rightLuma};
-ghost use Rattle.pixel_pairs.specs.Pixels.{sixteenthsOf, quartersOf, correctedBy, Over, Linears, ColourAt, ColoursAt};
+ghost use Rattle.pixel_pairs.specs.Pixels.{sixteenthsOf, quartersOf, correctedBy, Over, Linears, ColourAt, ColoursAt, cbByte, crByte};
 ghost use Rattle.pixel_pairs.specs.Rows.{lumas, inputs420, inputs422, RowOf, Rows420, Row422, InRow, putPair};
-ghost use Rattle.pixel_pairs.specs.Rows.{LumasPainted, Lumas422, LumaMore, ChromaMore};
+ghost use Rattle.pixel_pairs.specs.Rows.{LumasPainted, Lumas422, LumaMore, ChromaMore, putBlock420, putBlock422, blockAt};
 use tables::Conversion;
 use tables::Weights;
 
@@ -147,6 +147,7 @@ pub fn put_chroma(rows: Conversion, b: Bytes, j: usize, u: &mut [u8], v: &mut [u
     requires { ⌜ Converts rows ⌝ }
     requires { ⌜ (j < length (now u)) × (j < length (now v)) ⌝ }
     ensures { λ _. ⌜ ChromaMore (rows .frame) (λ input. ColourAt input j b) j (j + 1) (now (u .entry)) (now (v .entry)) (now (u .exit)) (now (v .exit)) ⌝ }
+    ensures { λ _. ⌜ (now (u .exit) ≡ set (now (u .entry)) j (cbByte (rows .frame) b)) × (now (v .exit) ≡ set (now (v .entry)) j (crByte (rows .frame) b)) ⌝ }
 {
     let cb = rows.cb;
     let cr = rows.cr;
@@ -159,6 +160,8 @@ pub fn put_chromas(rows: Conversion, c: Colours, j: usize, u: &mut [u8], v: &mut
     requires { ⌜ Converts rows ⌝ }
     requires { ⌜ (j + 1 < length (now u)) × (j + 1 < length (now v)) ⌝ }
     ensures { λ _. ⌜ ChromaMore (rows .frame) (λ input. ColoursAt input j c) j (j + 2) (now (u .entry)) (now (v .entry)) (now (u .exit)) (now (v .exit)) ⌝ }
+    ensures { λ _. ⌜ (now (u .exit) ≡ set (set (now (u .entry)) j (cbByte (rows .frame) (c .first))) (j + 1) (cbByte (rows .frame) (c .second)))
+        × (now (v .exit) ≡ set (set (now (v .entry)) j (crByte (rows .frame) (c .first))) (j + 1) (crByte (rows .frame) (c .second))) ⌝ }
 {
     let first = c.first;
     let second = c.second;
@@ -227,6 +230,7 @@ pub fn block420(
     ensures { λ b. ⌜ ColourAt (inputs420 (rows .frame) count (now (this .entry)) (now (below .entry))) (block .j) b ⌝ }
     ensures { λ _. ⌜ LumaMore (LumasPainted (rows .frame) count (now (this .entry)) (now (below .entry))) (rows .frame) (block .j) (block .j + 1)
         (now (y .entry)) (now (y .exit)) ⌝ }
+    ensures { λ _. ⌜ now (y .exit) ≡ putBlock420 (rows .frame) count (now (this .entry)) (now (below .entry)) block (now (y .entry)) ⌝ }
 {
     let frame = rows.frame;
     let lower = frame.y_stride as usize;
@@ -252,6 +256,7 @@ pub fn block422(
     requires { ⌜ InRow (rows .frame) block ⌝ }
     ensures { λ b. ⌜ ColourAt (inputs422 (rows .frame) count (now (this .entry))) (block .j) b ⌝ }
     ensures { λ _. ⌜ LumaMore (Lumas422 (rows .frame) count (now (this .entry))) (rows .frame) (block .j) (block .j + 1) (now (y .entry)) (now (y .exit)) ⌝ }
+    ensures { λ _. ⌜ now (y .exit) ≡ putBlock422 (rows .frame) count (now (this .entry)) block (now (y .entry)) ⌝ }
 {
     let x = 2 * block.j;
     let next = block.next;
@@ -280,6 +285,8 @@ pub fn four420(
     ensures { λ c. ⌜ ColoursAt (inputs420 (rows .frame) count (now (this .entry)) (now (below .entry))) j c ⌝ }
     ensures { λ _. ⌜ LumaMore (LumasPainted (rows .frame) count (now (this .entry)) (now (below .entry))) (rows .frame) j (j + 2)
         (now (y .entry)) (now (y .exit)) ⌝ }
+    ensures { λ _. ⌜ now (y .exit) ≡ putBlock420 (rows .frame) count (now (this .entry)) (now (below .entry)) (blockAt (j + 1))
+        (putBlock420 (rows .frame) count (now (this .entry)) (now (below .entry)) (blockAt j) (now (y .entry))) ⌝ }
 {
     let k = j + 1;
     let here = Block { j, next: 2 * j + 1 };
@@ -307,6 +314,8 @@ pub fn four422(
     requires { ⌜ 2 * j + 3 < rows .frame .width ⌝ }
     ensures { λ c. ⌜ ColoursAt (inputs422 (rows .frame) count (now (this .entry))) j c ⌝ }
     ensures { λ _. ⌜ LumaMore (Lumas422 (rows .frame) count (now (this .entry))) (rows .frame) j (j + 2) (now (y .entry)) (now (y .exit)) ⌝ }
+    ensures { λ _. ⌜ now (y .exit) ≡ putBlock422 (rows .frame) count (now (this .entry)) (blockAt (j + 1))
+        (putBlock422 (rows .frame) count (now (this .entry)) (blockAt j) (now (y .entry))) ⌝ }
 {
     let x = 2 * j;
     let right = x + 1;

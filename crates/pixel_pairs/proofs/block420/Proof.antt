@@ -70,11 +70,11 @@ returns c =
     let a = Start (first .before) in
     let i = a .pre .1 .1 in
     let f = lumaRow (a .args .rows .frame) (lower a) in
-    let put = putPair (a .args .rows .frame .«y_stride») (2 * a .args .block .j) (a .args .block .next) f in (
+    let put = putPair (a .args .rows .frame .«y_stride») (2 * a .args .block .j) (a .args .block .next) f in
+    let put-both = second .luma-pair2 .ensures .1 ∙ ap put (first .luma-pair .ensures .1) in (
       colour420-is (a .pre .0) (a .args .block .j) (a .args .block .next) (i .inside) (i .next) (upper a) (lower a)
           (first .luma-pair .ensures .0) (second .luma-pair2 .ensures .0) (c .before .sixteenths .ensures) (c .mixed .ensures),
-      luma420-more (a .args .rows .frame) (a .args .count) i (a .pre .1 .0)
-          (second .luma-pair2 .ensures .1 ∙ ap put (first .luma-pair .ensures .1)),
+      (luma420-more (a .args .rows .frame) (a .args .count) i (a .pre .1 .0) put-both, put-both),
     )
 
 pub block420-spec : {M : Type 1} → statement M
@@ -87,5 +87,5 @@ block420-spec =
     luma-pair-requires-2
     sixteenths-requires
     mixed-requires
-    (λ c. returns c .1 .size)
+    (λ c. returns c .1 .0 .size)
     returns)

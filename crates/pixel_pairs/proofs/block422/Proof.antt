@@ -52,7 +52,7 @@ returns c =
     let j = a .args .block .j in
     let last : d .width ≤ 2 * j + 1 = omega (arith, t .if1 .taken, i .inside, i .next) in (
       c .at .ensures ∙ three-same (λ k _. input422-last d (row a) j k last),
-      luma422-more d (a .args .count) i (a .pre .1 .0) refl refl (pair .luma-pair .ensures .1),
+      (luma422-more d (a .args .count) i (a .pre .1 .0) refl refl (pair .luma-pair .ensures .1), pair .luma-pair .ensures .1),
     )
 
 returns-2 : tie.Need-returns-2
@@ -63,7 +63,7 @@ returns-2 c =
     let i = a .pre .1 .1 in (
       colour422-is (a .pre .0) (a .args .block .j) (a .args .block .next) (i .inside) (i .next) (row a) (pair .luma-pair .ensures .0) (right e)
           (c .before .quarters .ensures) (c .mixed .ensures),
-      luma422-more (a .args .rows .frame) (a .args .count) i (a .pre .1 .0) refl refl (pair .luma-pair .ensures .1),
+      (luma422-more (a .args .rows .frame) (a .args .count) i (a .pre .1 .0) refl refl (pair .luma-pair .ensures .1), pair .luma-pair .ensures .1),
     )
 
 pub block422-spec : {M : Type 1} → statement M
@@ -75,7 +75,7 @@ block422-spec =
     at-requires
     (λ c κs. search needs)
     mixed-requires
-    (λ c. returns c .1 .size)
+    (λ c. returns c .1 .0 .size)
     returns
-    (λ c. returns-2 c .1 .size)
+    (λ c. returns-2 c .1 .0 .size)
     returns-2)

@@ -1,7 +1,9 @@
 -- `four420` meets its contract: a block, and the next one.
 -- Assumes nothing.
 use borrow.Author.Needs.{needs}
-use Rattle.pixel_pairs.specs.Rows.{LumasPainted}
+use Prim.Native.Nat.{_+_}
+use mathlib.Core.Path.{ap, _∙_}
+use Rattle.pixel_pairs.specs.Rows.{LumasPainted, putBlock420, blockAt}
 use Rattle.pixel_pairs.proofs.Pairs.{four-in-row, rows-room, luma-both}
 use Rattle.pixel_pairs.proofs.four420.Statement.{statement}
 use Rattle.pixel_pairs.proofs.four420.Tie as tie
@@ -19,7 +21,7 @@ block420-requires-2 : tie.Need-block420-requires-2
 block420-requires-2 c κs =
     let first = First c in
     let a = Start (first .before) in
-    (a .pre .0, (rows-room (a .args .y .now) (first .block420 .ensures .1 .size) (a .pre .1 .0), four-in-row _ (a .args .j) (a .pre .1 .1) .1))
+    (a .pre .0, (rows-room (a .args .y .now) (first .block420 .ensures .1 .0 .size) (a .pre .1 .0), four-in-row _ (a .args .j) (a .pre .1 .1) .1))
 
 returns : tie.Need-returns
 returns c =
@@ -27,8 +29,12 @@ returns c =
     let first = First (second .before) in
     let a = Start (first .before) .args in (
       (first .block420 .ensures .0, second .block4202 .ensures .0),
-      luma-both (LumasPainted (a .rows .frame) (a .count) (a .this .now) (a .below .now))
-          (a .rows .frame) (a .j) (first .block420 .ensures .1) (second .block4202 .ensures .1),
+      (
+        luma-both (LumasPainted (a .rows .frame) (a .count) (a .this .now) (a .below .now))
+            (a .rows .frame) (a .j) (first .block420 .ensures .1 .0) (second .block4202 .ensures .1 .0),
+        second .block4202 .ensures .1 .1 ∙ ap (putBlock420 (a .rows .frame) (a .count) (a .this .now) (a .below .now) (blockAt (a .j + 1)))
+            (first .block420 .ensures .1 .1),
+      ),
     )
 
 pub four420-spec : {M : Type 1} → statement M
@@ -42,5 +48,5 @@ four420-spec =
     (λ c. search needs)
     block420-requires
     block420-requires-2
-    (λ c. returns c .1 .size)
+    (λ c. returns c .1 .0 .size)
     returns)

@@ -1,12 +1,13 @@
 -- `four422` meets its contract: both pairs, then their colours, then their lumas.
 -- Assumes nothing.
-use mathlib.Core.Path.{refl}
+use mathlib.Core.Path.{refl, ap, _∙_}
 use Prim.Native.Nat.{_+_, _*_, _<_}
 use native.Mathlib.Omega.{arith}
 use borrow.Author.Needs.{needs}
 use Rattle.definitions.specs.Row.{Pixels, pixelsOf}
-use Rattle.pixel_pairs.specs.Rows.{Lumas422, InRow}
+use Rattle.pixel_pairs.specs.Rows.{Lumas422, InRow, putBlock422, blockAt}
 use Rattle.pixel_pairs.proofs.Pairs.{pair-ready, fits-ready, lumas-is, linears422-ready, colour422-is, four-in-row, row-room, luma422-more, luma-both}
+use Rattle.pixel_pairs.proofs.Pairs.{block-put}
 use Rattle.pixel_pairs.proofs.four422.Statement.{statement}
 use Rattle.pixel_pairs.proofs.four422.Tie as tie
 
@@ -87,14 +88,19 @@ returns c =
     let room = a .pre .1 .0 in
     let l₁ = lumas-is (p .summed) (row a) _ _ (first .pair .ensures) in
     let l₂ = lumas-is (p .summed) (row a) _ _ (second .pair2 .ensures) in
-    let more = luma422-more d count (here a) room (l₁ .0) (l₁ .1) (put₁ .put-luma .ensures) in (
+    let more = luma422-more d count (here a) room (l₁ .0) (l₁ .1) (put₁ .put-luma .ensures) in
+    let room₂ = row-room (a .args .y .now) (more .size) room in (
       (
         colour422-is p j _ (here a .inside) (here a .next) (row a) (first .pair .ensures) refl (mixed₁ .before .quarters .ensures) (mixed₁ .mixed .ensures),
         colour422-is p (j + 1) _ (there a .inside) (there a .next) (row a) (second .pair2 .ensures) refl (mixed₂ .before .quarters2 .ensures)
             (mixed₂ .mixed2 .ensures),
       ),
-      luma-both (Lumas422 d count (a .args .this .now)) d j more
-          (luma422-more d count (there a) (row-room (a .args .y .now) (more .size) room) (l₂ .0) (l₂ .1) (put₂ .put-luma2 .ensures)),
+      (
+        luma-both (Lumas422 d count (a .args .this .now)) d j more
+            (luma422-more d count (there a) room₂ (l₂ .0) (l₂ .1) (put₂ .put-luma2 .ensures)),
+        block-put d count (j + 1) room₂ (l₂ .0) (l₂ .1) (put₂ .put-luma2 .ensures)
+            ∙ ap (putBlock422 d count (a .args .this .now) (blockAt (j + 1))) (block-put d count j room (l₁ .0) (l₁ .1) (put₁ .put-luma .ensures)),
+      ),
     )
 
 pub four422-spec : {M : Type 1} → statement M
@@ -114,5 +120,5 @@ four422-spec =
     mixed-requires-2
     put-luma-requires
     put-luma-requires-2
-    (λ c. returns c .1 .size)
+    (λ c. returns c .1 .0 .size)
     returns)

@@ -1,6 +1,8 @@
 -- `put_chroma` meets its contract: what the weights of an accepted matrix make of three bytes is what the definition holds.
 -- Assumes nothing.
-use Prim.Native.Nat.{_<_}
+use Prim.Native.Nat.{ℕ, _<_}
+use mathlib.Core.Path.{ap}
+use lib.ListN.{set}
 use native.Mathlib.Omega.{arith}
 use borrow.Author.Needs.{needs}
 use Rattle.pixel_pairs.specs.Pixels.{byteAt, AreBytes}
@@ -28,9 +30,12 @@ returns c =
     let s = a .args .rows .frame .settings in
     let b = a .args .b in
     let p = a .pre .0 in
-    chroma-more (a .args .rows .frame) b (a .args .j) (a .pre .1 .0) (a .pre .1 .1)
-    (cb-is s (p .shape) (byteAt b) (bytes a) (cb .weigh .result) (rw (p .cb) at (cb .weigh .ensures)))
-    (cr-is s (p .shape) (byteAt b) (bytes a) (c .weigh2 .result) (rw (p .cr) at (c .weigh2 .ensures)))
+    let j = a .args .j in
+    let in-u = cb-is s (p .shape) (byteAt b) (bytes a) (cb .weigh .result) (rw (p .cb) at (cb .weigh .ensures)) in
+    let in-v = cr-is s (p .shape) (byteAt b) (bytes a) (c .weigh2 .result) (rw (p .cr) at (c .weigh2 .ensures)) in (
+      chroma-more (a .args .rows .frame) b j (a .pre .1 .0) (a .pre .1 .1) in-u in-v,
+      (ap (λ (x : ℕ). set (a .args .u .now) j x) in-u, ap (λ (x : ℕ). set (a .args .v .now) j x) in-v),
+    )
 
 pub put-chroma-spec : {M : Type 1} → statement M
 put-chroma-spec =

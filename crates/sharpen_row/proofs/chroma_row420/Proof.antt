@@ -93,7 +93,7 @@ loop-again q =
     let test = c .before .loop-test .taken in
     let e = colour420-is (start c .pre .0) (loop c .loop .j) (c .right-of .result) (inside c) (c .right-of .ensures) (upper c) (lower c)
     (p .before .pair .ensures) (p .pair2 .ensures) (m .before .sixteenths .ensures) (m .mixed .ensures) in
-    (omega (arith, test), Put q .put-chroma .ensures .further _ e _ _ (loop c .loop .inv .1))
+    (omega (arith, test), Put q .put-chroma .ensures .0 .further _ e _ _ (loop c .loop .inv .1))
 
 returns : tie.Need-returns Inv-loop μ-loop
 returns c =

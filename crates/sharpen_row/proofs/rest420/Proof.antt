@@ -63,7 +63,7 @@ loop-again c =
     let count = loop t .before .pixel-size .result in (
       omega (arith, t .before .loop-test .taken),
       stepped-more (LumasPainted d count (a .this .now) (a .below .now)) d
-          (inputs420 d count (a .this .now) (a .below .now)) (block .1) (Put c .put-chroma .ensures) (block .0) (loop t .loop .inv .1),
+          (inputs420 d count (a .this .now) (a .below .now)) (block .1 .0) (Put c .put-chroma .ensures .0) (block .0) (loop t .loop .inv .1),
     )
 
 returns : tie.Need-returns Inv-loop μ-loop

@@ -62,8 +62,8 @@ loop-again c =
     let d = a .rows .frame in
     let count = loop t .before .pixel-size .result in (
       omega (arith, t .before .loop-test .taken),
-      stepped-more (Lumas422 d count (a .this .now)) d (inputs422 d count (a .this .now)) (block .1)
-          (Put c .put-chroma .ensures) (block .0) (loop t .loop .inv .1),
+      stepped-more (Lumas422 d count (a .this .now)) d (inputs422 d count (a .this .now)) (block .1 .0)
+          (Put c .put-chroma .ensures .0) (block .0) (loop t .loop .inv .1),
     )
 
 returns : tie.Need-returns Inv-loop μ-loop

@@ -49,7 +49,7 @@ loop-again c =
     let L = Lumas422 (a .rows .frame) 4 (a .this .now) in
     let input = inputs422 (a .rows .frame) 4 (a .this .now) in (
       omega (arith, t .loop-test .taken),
-      begun-to L (a .rows .frame) input (omega arith) (begun-more L (a .rows .frame) input (four .1) (Put c .put-chromas .ensures) (four .0)
+      begun-to L (a .rows .frame) input (omega arith) (begun-more L (a .rows .frame) input (four .1 .0) (Put c .put-chromas .ensures .0) (four .0)
           (t .before .loop .inv .1)),
     )
 
