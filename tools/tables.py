@@ -1,12 +1,12 @@
 #!/usr/bin/env python3
-"""Make crates/sharp_gamma/src/tables.rt, the constant tables of every transfer.
+"""Make crates/sharp_gamma/src/truncated.rt and nearest.rt, the constant tables of every transfer.
 
 The decimals are read out of crates/sharp_gamma/specs/Curve.antt, the file of the definition; all
 arithmetic is exact. The text made is in the layout of `rt fmt`. The tables do not depend on the last
 digits, so these are held to the table of RULES 3.1.
 
-    tools/tables.py           write the file
-    tools/tables.py --check   say what differs from the file, or from RULES 3.1, and fail if anything does
+    tools/tables.py           write the files
+    tools/tables.py --check   say what differs from the files, or from RULES 3.1, and fail if anything does
     tools/tables.py --moved   say which entries of both tables, each worked out by itself, are not those of the
                               scope document's decimals, which the digits of the definition replaced
     tools/tables.py --moved TRANSFER BREAK SCALE
@@ -16,14 +16,17 @@ import difflib
 import re
 import sys
 from fractions import Fraction
+from itertools import product
 from pathlib import Path
 
 ROOT = Path(__file__).resolve().parent.parent
 RULES = ROOT / 'docs' / 'RULES.md'
 CRATE = ROOT / 'crates' / 'sharp_gamma'
 DEFINITION = CRATE / 'specs' / 'Curve.antt'
-TABLES = CRATE / 'src' / 'tables.rt'
 TRANSFERS = ['Srgb', 'Rec709', 'Gamma2p2', 'Gamma2p8']
+
+# What each rounding takes off an entry before it is compared. Its tables stand in a file of its name.
+ROUNDINGS = {'Truncated': Fraction(0), 'Nearest': Fraction(1, 2)}
 
 # Slope, break, offset, scale and power of the scope document; its offset was a decimal of its own.
 SCOPE_DOCUMENT = {
@@ -106,22 +109,22 @@ def first(passes, end):
     return low
 
 
-def linear(curve):
-    return [first(lambda n: not under_curve(curve, Fraction(n, 65535), Fraction(v, 255)), 65536) - 1
+def linear(curve, off):
+    return [first(lambda n: not under_curve(curve, (n - off) / 65535, Fraction(v, 255)), 65536) - 1
             for v in range(256)]
 
 
-def first_index(curve):
-    return [first(lambda i: under_inverse(curve, Fraction(k, 255), Fraction(i, 65535)), 65536)
+def first_index(curve, off):
+    return [first(lambda i: k == 0 or under_inverse(curve, (k - off) / 255, Fraction(i, 65535)), 65536)
             for k in range(256)]
 
 
-def gamma(curve):
+def gamma(curve, off):
     """Every gamma entry; what is not above the inverse stays so when it is made smaller, so each is sought from the one before."""
     entries, k = [], 0
     for i in range(65536):
         def passes(k):
-            return under_inverse(curve, Fraction(k, 255), Fraction(i, 65535))
+            return under_inverse(curve, (k - off) / 255, Fraction(i, 65535))
         while k > 0 and not passes(k):
             k -= 1
         while k < 255 and passes(k + 1):
@@ -133,15 +136,15 @@ def gamma(curve):
 def moved(others):
     """Print the entries that the curves of `others` make otherwise than the definition's."""
     compared = unlike = 0
-    print('transfer  table  index  entry  with the other digits')
+    print('transfer  rounding  table  index  entry  with the other digits')
     for transfer, curve in curves().items():
         other = others.get(transfer, curve)
-        for name, table in ('linear', linear), ('gamma', gamma):
-            for index, (entry, instead) in enumerate(zip(table(curve), table(other))):
+        for (rounding, off), (name, table) in product(ROUNDINGS.items(), (('linear', linear), ('gamma', gamma))):
+            for index, (entry, instead) in enumerate(zip(table(curve, off), table(other, off))):
                 compared += 1
                 if entry != instead:
                     unlike += 1
-                    print(f'{transfer}  {name}  {index}  {entry}  {instead}')
+                    print(f'{transfer}  {rounding}  {name}  {index}  {entry}  {instead}')
     print(f'{unlike} of {compared} entries differ')
 
 
@@ -150,25 +153,32 @@ def constant(comment, name, entries):
     return f'\n// {comment}\npub const {name}: [u16; 256] = [\n{lines}];\n'
 
 
-def text():
+def text(off):
     made = HEADER
     for transfer, curve in curves().items():
         name = transfer.upper()
-        made += constant(f'{transfer}: the linear entry of each byte.', f'{name}_LINEAR', linear(curve))
+        made += constant(f'{transfer}: the linear entry of each byte.', f'{name}_LINEAR', linear(curve, off))
         made += constant(f'{transfer}: the first index whose gamma entry is at least k, for each byte k.',
-                         f'{name}_FIRST_INDEX', first_index(curve))
+                         f'{name}_FIRST_INDEX', first_index(curve, off))
     return made
+
+
+def files():
+    """Each file with its text."""
+    return {CRATE / 'src' / f'{rounding.lower()}.rt': text(off) for rounding, off in ROUNDINGS.items()}
 
 
 def main():
     words = sys.argv[1:]
     if words == []:
-        TABLES.write_text(text())
+        for file, made in files().items():
+            file.write_text(made)
     elif words == ['--check']:
-        differs = list(difflib.unified_diff(TABLES.read_text().splitlines(), text().splitlines(),
-                                            str(TABLES), 'what tools/tables.py makes', lineterm=''))
-        if differs:
-            sys.exit('\n'.join(differs))
+        for file, made in files().items():
+            differs = list(difflib.unified_diff(file.read_text().splitlines(), made.splitlines(),
+                                                str(file), 'what tools/tables.py makes', lineterm=''))
+            if differs:
+                sys.exit('\n'.join(differs))
         if ruled() != curves():
             sys.exit(f'{RULES}: the table of 3.1 has not the decimals of {DEFINITION}')
     elif words == ['--moved']:

@@ -186,9 +186,10 @@ pub fn sharpen_band(
     let range = settings.range;
     let matrix = settings.matrix;
     let transfer = settings.transfer;
+    let rounding = settings.rounding;
     let t = built_coefficients::search_forward_transform(range, matrix);
-    let linear = sharp_gamma::linear_map_table(transfer);
-    let gamma = sharp_gamma::gamma_map_table(transfer);
+    let linear = sharp_gamma::linear_map_table(transfer, rounding);
+    let gamma = sharp_gamma::gamma_map_table(transfer, rounding);
     let mut sums = [0u64; 1536];
     tables::sum_tables(frame, t, &linear, &mut sums);
     let rows = tables::conversion_of(frame, t);

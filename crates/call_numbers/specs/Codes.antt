@@ -13,12 +13,13 @@ use Rattle.yuv_support.specs.declared.YuvRange.the-variants.{Limited}
 use Rattle.yuv_support.specs.declared.YuvStandardMatrix.{YuvStandardMatrix}
 use Rattle.yuv_support.specs.declared.YuvStandardMatrix.the-variants.{Bt601, Custom}
 use Rattle.sharp_gamma.specs.declared.SharpYuvGammaTransfer.the-variants.{Srgb}
+use Rattle.sharp_gamma.specs.declared.TableRounding.the-variants.{Truncated}
 use Rattle.definitions.specs.declared.YuvSettings.{YuvSettings}
 use Rattle.definitions.specs.declared.FrameDescription.{FrameDescription}
 use Rattle.yuv_error.specs.Rules.{Rule, rule}
-use Rattle.setting_codes.specs.Codes.{channelsCodes, samplingCodes, rangeCodes, matrixCodes, transferCodes, customCode}
+use Rattle.setting_codes.specs.Codes.{channelsCodes, samplingCodes, rangeCodes, matrixCodes, transferCodes, roundingCodes, customCode}
 
--- RULES 10.1: number i of a call
+-- RULES 10.1: number i of a call, 0 where it is not given
 abbrev pub at : List ℕ → ℕ → ℕ
 at numbers i = getD numbers i 0
 
@@ -34,6 +35,7 @@ settingsOf numbers custom = record {
   range = getD rangeCodes (at numbers 4) Limited;
   matrix = matrixOf (at numbers 5) custom;
   transfer = getD transferCodes (at numbers 6) Srgb;
+  rounding = getD roundingCodes (at numbers 10) Truncated;
 }
 
 -- RULES 10.1: the frame that a description's numbers describe
@@ -55,10 +57,15 @@ isUnknown numbers =
     || leb (length rangeCodes) (at numbers 4)
     || ltb customCode (at numbers 5)
     || leb (length transferCodes) (at numbers 6)
+    || leb (length roundingCodes) (at numbers 10)
 
--- RULES 10.2: not so many numbers before a description of 10, or a code without a meaning
+-- RULES 10.1: so many numbers before a description, which has 10, or 11 with the rounding
+abbrev pub isCounted : (before count : ℕ) → Bool
+isCounted before count = eqb count (before + 10) || eqb count (before + 11)
+
+-- RULES 10.2: another count of numbers, or a code without a meaning
 unfoldable pub isMalformed : (before : ℕ) → List ℕ → Bool
-isMalformed before numbers = cond (eqb (length numbers) (before + 10)) (isUnknown (drop before numbers)) true
+isMalformed before numbers = cond (isCounted before (length numbers)) (isUnknown (drop before numbers)) true
 
 -- RULES 10.2: refusal 1, first of all
 abbrev pub numberRules : (before : ℕ) → List ℕ → List Rule

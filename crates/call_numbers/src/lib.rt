@@ -14,19 +14,31 @@ ghost use Rattle.call_numbers.specs.Codes.{matrixOf, settingsOf, descrip
 // The numbers of a description: width, height, channels, sampling, range, matrix, transfer, y_stride, u_stride, v_stride.
 const DESCRIPTION: usize = 10;
 
+// The same with the rounding, which comes last.
+const WITH_ROUNDING: usize = 11;
+
 // The code of a matrix of the caller's own kr and kb; those below it are the named ones.
 const CUSTOM: u32 = 6;
+
+// Number i, or 0 where it is not given.
+pub fn number_at(numbers: &[u32], i: usize) -> u32
+    ensures { λ r. ⌜ r ≡ getD (now (numbers .entry)) i 0 ⌝ }
+{
+    if numbers.len() <= i { 0 } else { numbers[i] }
+}
 
 // Whether one of a description's codes has no meaning.
 fn has_unknown(numbers: &[u32]) -> bool
     requires { ⌜ 10 ≤ length (now numbers) ⌝ }
     ensures { λ r. ⌜ r ≡ isUnknown (now (numbers .entry)) ⌝ }
 {
+    let rounding = number_at(numbers, DESCRIPTION);
     (numbers[2] >= 4)
         | (numbers[3] >= 2)
         | (numbers[4] >= 2)
         | (numbers[5] > CUSTOM)
         | (numbers[6] >= 4)
+        | (rounding >= 2)
 }
 
 // Whether there are not so many numbers and a description, or one of its codes has no meaning.
@@ -34,10 +46,11 @@ pub fn is_malformed(before: usize, numbers: &[u32]) -> bool
     requires { ⌜ before ≤ 3 ⌝ }
     ensures { λ r. ⌜ r ≡ isMalformed before (now (numbers .entry)) ⌝ }
 {
-    if numbers.len() != before + DESCRIPTION {
-        return true;
+    let count = numbers.len();
+    if (count == before + DESCRIPTION) | (count == before + WITH_ROUNDING) {
+        return has_unknown(&numbers[before..]);
     }
-    has_unknown(&numbers[before..])
+    true
 }
 
 fn matrix_of(code: u32, custom: &[f32; 2]) -> YuvStandardMatrix
@@ -60,6 +73,7 @@ fn settings_of(numbers: &[u32], custom: &[f32; 2]) -> YuvSettings
         range: setting_codes::range_of(numbers[4]),
         matrix: matrix_of(numbers[5], custom),
         transfer: setting_codes::transfer_of(numbers[6]),
+        rounding: setting_codes::rounding_of(number_at(numbers, DESCRIPTION)),
     }
 }
 
@@ -85,13 +99,6 @@ pub fn describe_after(before: usize, numbers: &[u32], custom: &[f32; 2]) -> Fram
     ensures { λ r. ⌜ r ≡ descriptionOf (drop before (now (numbers .entry))) (now (custom .entry)) ⌝ }
 {
     describe(&numbers[before..], custom)
-}
-
-// The first number, or 0 where there is none.
-pub fn first_of(numbers: &[u32]) -> u32
-    ensures { λ r. ⌜ r ≡ getD (now (numbers .entry)) 0 0 ⌝ }
-{
-    if numbers.len() == 0 { 0 } else { numbers[0] }
 }
 
 // Tells an answer: its number, and its expected and received.

@@ -9,12 +9,11 @@ use Rattle.yuv_support.specs.declared.YuvChromaSubsampling.{YuvChromaSubsamplin
 use Rattle.yuv_support.specs.declared.YuvChromaSubsampling.the-variants.{Yuv420, Yuv422}
 use Rattle.yuv_support.specs.Channels.{rOffset, gOffset, bOffset}
 use Rattle.yuv_support.specs.Sampling.{chromaHeight}
-use Rattle.sharp_gamma.specs.Entry.{gammaEntry}
 use Rattle.sharp_gamma.proofs.Worked.{ends}
 use Rattle.definitions.specs.declared.YuvSettings.{YuvSettings}
 use Rattle.definitions.specs.declared.FrameDescription.{FrameDescription}
 use Rattle.definitions.specs.Pixel.{lumaOf, cbOf, crOf}
-use Rattle.definitions.specs.Row.{Pixels, linear, corrected, ofColour, lumaRow, input420, input422, cbRow, crRow}
+use Rattle.definitions.specs.Row.{Pixels, linear, gammaOf, corrected, ofColour, lumaRow, input420, input422, cbRow, crRow}
 use Rattle.definitions.proofs.Inputs.{input420-pair, input420-last, input422-pair, input422-last}
 use Rattle.definitions.specs.Image.{Image, lumaAt, chromaInput, cbAt, crAt, chromaSize, chromaRows}
 use Rattle.definitions.proofs.Planes.{below?}
@@ -25,11 +24,11 @@ End v = (v ≡ 0) ⊎ (v ≡ 255)
 -- sixteen sixteenths of an end, through both tables
 back : (s : YuvSettings) (v sum : ℕ) → End v → sum ≡ 16 * linear s v → corrected s sum ≡ v
 back s v sum (inl e) h =
-    let t = ends (s .transfer) in
-    ap (λ (n : ℕ). gammaEntry (s .transfer) ((n + 8) / 16)) (h ∙ ap (λ (v : ℕ). 16 * linear s v) e ∙ ap (λ (n : ℕ). 16 * n) (t .linear-0)) ∙ t .gamma-0 ∙ sym e
+    let t = ends (s .transfer) (s .rounding) in
+    ap (λ (n : ℕ). gammaOf s ((n + 8) / 16)) (h ∙ ap (λ (v : ℕ). 16 * linear s v) e ∙ ap (λ (n : ℕ). 16 * n) (t .linear-0)) ∙ t .gamma-0 ∙ sym e
 back s v sum (inr e) h =
-    let t = ends (s .transfer) in
-    ap (λ (n : ℕ). gammaEntry (s .transfer) ((n + 8) / 16)) (h ∙ ap (λ (v : ℕ). 16 * linear s v) e ∙ ap (λ (n : ℕ). 16 * n) (t .linear-255))
+    let t = ends (s .transfer) (s .rounding) in
+    ap (λ (n : ℕ). gammaOf s ((n + 8) / 16)) (h ∙ ap (λ (v : ℕ). 16 * linear s v) e ∙ ap (λ (n : ℕ). 16 * n) (t .linear-255))
     ∙ t .gamma-65535 ∙ sym e
 
 module _ (d : FrameDescription) (row below : Pixels) (j i v : ℕ) (end : End v) (wide : 2 * j < d .width)

@@ -1,5 +1,5 @@
 -- Worked lines, as one set over the definitions; they are among the examples of docs/RULES.md that the comments name. Where a line names no channel
--- order, transfer, sampling or size, it is shown for all of them.
+-- order, transfer, rounding, sampling or size, it is shown for all of them.
 -- Assumes nothing.
 use Prim.Native.Nat.{ℕ, _+_, _*_, _≤_, _<_}
 use mathlib.Core.Path.{_≡_, refl, sym, _∙_}
@@ -13,12 +13,12 @@ use Rattle.yuv_support.specs.declared.YuvStandardMatrix.the-variants.{Bt601, Fc
 use Rattle.built_coefficients.specs.Built.{set, minus, forwardTransform}
 use Rattle.built_coefficients.proofs.Worked.{fcc-full}
 use Rattle.sharp_gamma.specs.declared.SharpYuvGammaTransfer.{SharpYuvGammaTransfer}
-use Rattle.sharp_gamma.specs.Entry.{gammaEntry}
+use Rattle.sharp_gamma.specs.declared.TableRounding.{TableRounding}
 use Rattle.sharp_gamma.proofs.Worked as curves
 use Rattle.definitions.specs.declared.YuvSettings.{YuvSettings}
 use Rattle.definitions.specs.declared.FrameDescription.{FrameDescription}
 use Rattle.definitions.specs.Pixel.{weigh, lumaOf, cbOf, crOf}
-use Rattle.definitions.specs.Row.{Pixels, linear, interpolated, input420, input422}
+use Rattle.definitions.specs.Row.{Pixels, linear, gammaOf, interpolated, input420, input422}
 use Rattle.definitions.specs.Image.{Image}
 use Rattle.definitions.proofs.Inputs.{input420-pair, input420-last, input422-pair}
 use Rattle.definitions.proofs.Flat.{OneColour, FlatFrame, flat-frame}
@@ -37,11 +37,11 @@ sixteenths = record { weight-9 = refl; weight-12 = refl }
 pub record Interpolated (d : FrameDescription) (row below : Pixels) (j i : ℕ) : Type 0 where
   pub weight-9 : 2 * j + 1 < d .width → linear (d .settings) (row (2 * j) i) ≡ 65535 → linear (d .settings) (row (2 * j + 1) i) ≡ 0
       → linear (d .settings) (below (2 * j) i) ≡ 0 → linear (d .settings) (below (2 * j + 1) i) ≡ 0
-      → input420 d row below j i ≡ gammaEntry (d .settings .transfer) 36863
+      → input420 d row below j i ≡ gammaOf (d .settings) 36863
   pub weight-12 : d .width ≤ 2 * j + 1 → linear (d .settings) (row (2 * j) i) ≡ 65535 → linear (d .settings) (below (2 * j) i) ≡ 0
-      → input420 d row below j i ≡ gammaEntry (d .settings .transfer) 49151
+      → input420 d row below j i ≡ gammaOf (d .settings) 49151
   pub weight-12-of-422 : 2 * j + 1 < d .width → linear (d .settings) (row (2 * j) i) ≡ 65535 → linear (d .settings) (row (2 * j + 1) i) ≡ 0
-      → input422 d row j i ≡ gammaEntry (d .settings .transfer) 49151
+      → input422 d row j i ≡ gammaOf (d .settings) 49151
 
 pub looked-up : (d : FrameDescription) (row below : Pixels) (j i : ℕ) → Interpolated d row below j i
 looked-up d row below j i =
@@ -54,8 +54,9 @@ looked-up d row below j i =
 -- ---- all starred lines
 
 -- Bt601 in a range, and whatever else
-abbrev bt601 : YuvRange → YuvSourceChannels → YuvChromaSubsampling → SharpYuvGammaTransfer → YuvSettings
-bt601 range channels sampling transfer = record { channels = channels; sampling = sampling; range = range; matrix = Bt601; transfer = transfer }
+abbrev bt601 : YuvRange → YuvSourceChannels → YuvChromaSubsampling → SharpYuvGammaTransfer → TableRounding → YuvSettings
+bt601 range channels sampling transfer rounding =
+    record { channels = channels; sampling = sampling; range = range; matrix = Bt601; transfer = transfer; rounding = rounding }
 
 abbrev frameWith : YuvSettings → (w h y-stride u-stride v-stride : ℕ) → FrameDescription
 frameWith s w h y-stride u-stride v-stride = record { width = w; height = h; settings = s; «y_stride» = y-stride; «u_stride» = u-stride; «v_stride» = v-stride }
@@ -67,12 +68,12 @@ Paints s r g b y u v = (w h y-stride u-stride v-stride : ℕ) (image : Image) �
 
 pub record StarredLines : Type 0 where
   -- example 7.8: red, Bt601 Full, in either sampling
-  pub red : (c : YuvSourceChannels) (m : YuvChromaSubsampling) (t : SharpYuvGammaTransfer) → Paints (bt601 Full c m t) 255 0 0 76 85 255
+  pub red : (c : YuvSourceChannels) (m : YuvChromaSubsampling) (t : SharpYuvGammaTransfer) (q : TableRounding) → Paints (bt601 Full c m t q) 255 0 0 76 85 255
   -- example 7.8: green, Bt601 Limited
-  pub green : (c : YuvSourceChannels) (m : YuvChromaSubsampling) (t : SharpYuvGammaTransfer) → Paints (bt601 Limited c m t) 0 255 0 145 54 34
+  pub green : (c : YuvSourceChannels) (m : YuvChromaSubsampling) (t : SharpYuvGammaTransfer) (q : TableRounding) → Paints (bt601 Limited c m t q) 0 255 0 145 54 34
   -- example 7.8: black and white, Bt601 Limited
-  pub black : (c : YuvSourceChannels) (m : YuvChromaSubsampling) (t : SharpYuvGammaTransfer) → Paints (bt601 Limited c m t) 0 0 0 16 128 128
-  pub white : (c : YuvSourceChannels) (m : YuvChromaSubsampling) (t : SharpYuvGammaTransfer) → Paints (bt601 Limited c m t) 255 255 255 235 128 128
+  pub black : (c : YuvSourceChannels) (m : YuvChromaSubsampling) (t : SharpYuvGammaTransfer) (q : TableRounding) → Paints (bt601 Limited c m t q) 0 0 0 16 128 128
+  pub white : (c : YuvSourceChannels) (m : YuvChromaSubsampling) (t : SharpYuvGammaTransfer) (q : TableRounding) → Paints (bt601 Limited c m t q) 255 255 255 235 128 128
   -- examples 3.4 and 3.5: entries of sRGB, Rec709 and Gamma2p2
   pub entries : curves.Worked
   -- example 4.3: Fcc Full
@@ -84,10 +85,10 @@ pub record StarredLines : Type 0 where
 pub starred-lines : StarredLines
 unfolding forwardTransform lumaOf cbOf crOf weigh
 starred-lines = record {
-  red = λ c m t w h ys us vs image. flat-frame (frameWith (bt601 Full c m t) w h ys us vs) image 255 0 0 (inr refl) (inl refl) (inl refl);
-  green = λ c m t w h ys us vs image. flat-frame (frameWith (bt601 Limited c m t) w h ys us vs) image 0 255 0 (inl refl) (inr refl) (inl refl);
-  black = λ c m t w h ys us vs image. flat-frame (frameWith (bt601 Limited c m t) w h ys us vs) image 0 0 0 (inl refl) (inl refl) (inl refl);
-  white = λ c m t w h ys us vs image. flat-frame (frameWith (bt601 Limited c m t) w h ys us vs) image 255 255 255 (inr refl) (inr refl) (inr refl);
+  red = λ c m t q w h ys us vs image. flat-frame (frameWith (bt601 Full c m t q) w h ys us vs) image 255 0 0 (inr refl) (inl refl) (inl refl);
+  green = λ c m t q w h ys us vs image. flat-frame (frameWith (bt601 Limited c m t q) w h ys us vs) image 0 255 0 (inl refl) (inr refl) (inl refl);
+  black = λ c m t q w h ys us vs image. flat-frame (frameWith (bt601 Limited c m t q) w h ys us vs) image 0 0 0 (inl refl) (inl refl) (inl refl);
+  white = λ c m t q w h ys us vs image. flat-frame (frameWith (bt601 Limited c m t q) w h ys us vs) image 255 255 255 (inr refl) (inr refl) (inr refl);
   entries = curves.worked;
   fcc = fcc-full;
   sixteenths = sixteenths;

@@ -31,13 +31,17 @@ lumaRow d row x = ofColour (d .settings) (lumaOf (d .settings)) (row x)
 abbrev pub interpolated : ℕ → ℕ
 interpolated sum = (sum + 8) / 16
 
+-- RULES 6.2: L, the linear table of the frame's transfer and rounding
+abbrev pub linear : YuvSettings → ℕ → ℕ
+linear s = linearEntry (s .transfer) (s .rounding)
+
+-- RULES 6.2: the gamma table of both
+abbrev pub gammaOf : YuvSettings → ℕ → ℕ
+gammaOf s = gammaEntry (s .transfer) (s .rounding)
+
 -- RULES 6.2: from a sum to a channel of the chroma colour
 abbrev pub corrected : YuvSettings → ℕ → ℕ
-corrected s sum = gammaEntry (s .transfer) (interpolated sum)
-
--- RULES 6.2: L
-abbrev pub linear : YuvSettings → ℕ → ℕ
-linear s v = linearEntry (s .transfer) v
+corrected s sum = gammaOf s (interpolated sum)
 
 -- RULES 6.3: byte i of the chroma colour at column j; this and right stand in `row`, below and below right in `below`
 unfoldable pub input420 : FrameDescription → (row below : Pixels) → (j i : ℕ) → ℕ

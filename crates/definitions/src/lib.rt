@@ -1,5 +1,6 @@
 // What a frame is converted by: its settings and its description. The meaning of its planes stands in specs/.
 use sharp_gamma::SharpYuvGammaTransfer;
+use sharp_gamma::TableRounding;
 use yuv_support::YuvChromaSubsampling;
 use yuv_support::YuvRange;
 use yuv_support::YuvSourceChannels;
@@ -12,6 +13,7 @@ pub struct YuvSettings {
     pub range: YuvRange,
     pub matrix: YuvStandardMatrix,
     pub transfer: SharpYuvGammaTransfer,
+    pub rounding: TableRounding,
 }
 
 // A frame's size, settings and plane strides: what an opening fixes and a frame call is given.

@@ -17,7 +17,8 @@ use Rattle.yuv_error.specs.Lowest.{Lowest}
 use Rattle.sharp_gamma.specs.declared.SharpYuvGammaTransfer.{SharpYuvGammaTransfer}
 use Rattle.sharp_gamma.specs.Fraction.{_over_}
 use Rattle.sharp_gamma.specs.Curve.{curveOf, underCurve, underInverse}
-use Rattle.sharp_gamma.specs.Entry.{linearEntry, gammaEntry}
+use Rattle.sharp_gamma.specs.declared.TableRounding.{TableRounding}
+use Rattle.sharp_gamma.specs.Entry.{place, linearEntry, gammaEntry}
 use Rattle.definitions.specs.declared.FrameDescription.{FrameDescription}
 use Rattle.definitions.specs.Image.{rowSize, chromaSize, chromaRows, lumaAt, cbAt, crAt}
 use Rattle.yuv_error.specs.Lent.{openingRules}
@@ -63,9 +64,9 @@ pub record Demand1 : Type 0 where
   pub linked-band : (k : ExportedBand) → BandKept k
       → Answered (rulesOfBand k) (numbersTold (k .number) (k .told)) (Kept k (doneTold (k .told)))
 
--- ---- 2. Frames of 1 to 16,384 pixels a side in whole rows, with any channel order, sampling, range, transfer and accepted matrix: every byte of
--- the planes is the one that the rules name, which is that of the Rust over our stated curve tables; each table entry is the truncated curve; and
--- padding is untouched.
+-- ---- 2. Frames of 1 to 16,384 pixels a side in whole rows, with any channel order, sampling, range, transfer, rounding and accepted matrix:
+-- every byte of the planes is the one that the rules name, which is that of the Rust over our stated curve tables; each table entry is the curve's, by
+-- the rounding; and padding is untouched.
 
 -- RULES 7.5, 7.6, 7.7: so many whole rows of n bytes
 pub record WholeRows (n rows stride : ℕ) (buffer : List ℕ) : Type 0 where
@@ -99,8 +100,10 @@ pub record Demand2 : Type 0 where
   -- every such frame is answered with finished work, and no other is
   pub finished : (k : FrameCall) → FramePost k → (k .answer ≡ Finished) ↔ WholeFrame k
   pub planes : (k : FrameCall) → FramePost k → WholeFrame k → FrameBytes k
-  pub linear : (t : SharpYuvGammaTransfer) (v n : ℕ) → v < 256 → T (underCurve (curveOf t) (n over 65535) (v over 255)) ↔ n ≤ linearEntry t v
-  pub gamma : (t : SharpYuvGammaTransfer) (i k : ℕ) → i < 65536 → T (underInverse (curveOf t) (k over 255) (i over 65535)) ↔ k ≤ gammaEntry t i
+  pub linear : (t : SharpYuvGammaTransfer) (r : TableRounding) (v n : ℕ) → v < 256
+      → T (underCurve (curveOf t) (place r 65535 n) (v over 255)) ↔ n ≤ linearEntry t r v
+  pub gamma : (t : SharpYuvGammaTransfer) (r : TableRounding) (i k : ℕ) → i < 65536
+      → T (underInverse (curveOf t) (place r 255 k) (i over 65535)) ↔ k ≤ gammaEntry t r i
 
 -- ---- 3. For every list of band calls after a fresh opening, refused calls included, whatever their bands and buffers, the finished rows are those of
 -- one frame call. The whole claim stands, part by part, in band_lists' specs/BandLists.antt.

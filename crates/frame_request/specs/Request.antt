@@ -14,6 +14,7 @@ use Rattle.yuv_support.specs.declared.YuvStandardMatrix.the-variants.{Bt601}
 use Rattle.yuv_support.specs.Channels.{channelsCount}
 use Rattle.yuv_support.specs.Sampling.{chromaWidth, chromaHeight}
 use Rattle.sharp_gamma.specs.declared.SharpYuvGammaTransfer.the-variants.{Srgb}
+use Rattle.sharp_gamma.specs.declared.TableRounding.the-variants.{Truncated}
 use Rattle.setting_codes.specs.Codes.{channelsCodes, samplingCodes, rangeCodes, matrixCodes, transferCodes}
 use Rattle.definitions.specs.declared.YuvSettings.{YuvSettings}
 use Rattle.definitions.specs.Painted.{Painted}
@@ -32,7 +33,7 @@ use Rattle.frame_request.specs.declared.Response.the-variants.{Planes, R
 abbrev pub wordAt : List ℕ → ℕ → ℕ
 wordAt input i = getD input i 0 + 256 * getD input (i + 1) 0
 
--- RULES 1.2, 9.1
+-- RULES 1.2, 9.1: the five codes; the rounding has none
 unfoldable pub settingsOf : List ℕ → YuvSettings
 settingsOf input = record {
   channels = getD channelsCodes (getD input 4 0) Rgb;
@@ -40,6 +41,7 @@ settingsOf input = record {
   range = getD rangeCodes (getD input 6 0) Limited;
   matrix = getD matrixCodes (getD input 7 0) Bt601;
   transfer = getD transferCodes (getD input 8 0) Srgb;
+  rounding = Truncated;
 }
 
 -- RULES 9.1: the frame of a request, its planes without padding

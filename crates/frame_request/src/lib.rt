@@ -1,6 +1,7 @@
 // A request of the program `frame`, from its bytes to those that answer it.
 use definitions::FrameDescription;
 use definitions::YuvSettings;
+use sharp_gamma::TableRounding;
 use yuv_error::YuvAnswer;
 use yuv_error::YuvError;
 ghost use mathlib.Core.Path.{_≡_};
@@ -57,6 +58,7 @@ fn settings_of(input: &[u8]) -> YuvSettings
         range: setting_codes::range_of(input[6] as u32),
         matrix: setting_codes::matrix_of(input[7] as u32),
         transfer: setting_codes::transfer_of(input[8] as u32),
+        rounding: TableRounding::Truncated, // the program has no code for it
     }
 }
 

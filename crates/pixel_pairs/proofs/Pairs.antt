@@ -6,10 +6,10 @@ use Prim.Native.Nat.{ℕ, _+_, _*_, _-_, _≤_, _<_, min}
 use native.Mathlib.Omega.{arith}
 use lib.ListN.{length, set, length-set}
 use Rattle.forward_transform.specs.declared.CbCrForwardTransformI32.{CbCrForwardTransformI32}
-use Rattle.sharp_gamma.specs.Entry.{gammaEntry, TableOf}
+use Rattle.sharp_gamma.specs.Entry.{TableOf}
 use Rattle.definitions.specs.declared.FrameDescription.{FrameDescription}
 use Rattle.definitions.specs.Pixel.{cbOf, crOf}
-use Rattle.definitions.specs.Row.{Pixels, ofColour, lumaRow, cbRow, crRow, input420, input422}
+use Rattle.definitions.specs.Row.{Pixels, gammaOf, ofColour, lumaRow, cbRow, crRow, input420, input422}
 use Rattle.definitions.specs.Image.{pixelSize, chromaSize}
 use Rattle.pixel_pairs.specs.declared.tables.Conversion.{Conversion}
 use Rattle.pixel_pairs.specs.declared.Sums.{Sums}
@@ -31,7 +31,7 @@ use Rattle.pixel_pairs.proofs.TableSums.{in-row, light, total-fits, lum
 -- what a call has worked out, as its rows ask for it
 pub prepared : (d : FrameDescription) {t : CbCrForwardTransformI32} {rows : Conversion} {sums gamma : List ℕ} → Weighed (d .settings) t
     → rows ≡ conversionOf d → SumTables (d .settings) sums
-    → TableOf 65536 (gammaEntry (d .settings .transfer)) gamma → Prepared rows sums gamma
+    → TableOf 65536 (gammaOf (d .settings)) gamma → Prepared rows sums gamma
 prepared d w e tables corrects =
     rw e (record {
       summed = record {

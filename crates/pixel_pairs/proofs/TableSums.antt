@@ -8,12 +8,12 @@ use native.Mathlib.Nat.{mul-le-mul-right, add-mul, one-mul}
 use native.Mathlib.Omega.{arith}
 use lib.ListN.{length, getD}
 use Rattle.forward_transform.specs.Shape.{Shape}
-use Rattle.sharp_gamma.specs.Entry.{TableOf, gammaEntry}
+use Rattle.sharp_gamma.specs.Entry.{TableOf}
 use Rattle.sharp_gamma.proofs.Bounds.{linear-entry-le}
 use Rattle.definitions.specs.declared.YuvSettings.{YuvSettings}
 use Rattle.definitions.specs.declared.FrameDescription.{FrameDescription}
 use Rattle.definitions.specs.Pixel.{weightsOf, lumaOf}
-use Rattle.definitions.specs.Row.{Pixels, linear, corrected, ofColour, input420, input422}
+use Rattle.definitions.specs.Row.{Pixels, linear, gammaOf, corrected, ofColour, input420, input422}
 use Rattle.pixel_pairs.specs.declared.Sums.{Sums}
 use Rattle.pixel_pairs.specs.Tables.{lumaPart, Places, SumTables, leftEntry, rightEntry}
 use Rattle.pixel_pairs.specs.Pixels.{AreBytes, sumAt, entriesAt, Paired, Light, total, leftLuma, rightLuma, sixteenthsOf, quartersOf, correctedBy, Over}
@@ -76,10 +76,10 @@ module _ (s : YuvSettings) (p : Shape (s .range) (weightsOf s)) where
 
   module _ {sums : List ℕ} (tables : SumTables s sums) where
     left-light : (i x : ℕ) → i < 3 → x < 256 → getD sums (256 * i + x) 0 < 9223372036854775808
-    left-light i x h l = omega (arith, tables .left i x h l, linear-entry-le (s .transfer) x, part-small {f = λ _. x} (λ _ _. l) i h)
+    left-light i x h l = omega (arith, tables .left i x h l, linear-entry-le (s .transfer) (s .rounding) x, part-small {f = λ _. x} (λ _ _. l) i h)
 
     right-light : (i x : ℕ) → i < 3 → x < 256 → getD sums (768 + 256 * i + x) 0 < 9223372036854775808
-    right-light i x h l = omega (arith, tables .right i x h l, linear-entry-le (s .transfer) x, part-small {f = λ _. x} (λ _ _. l) i h)
+    right-light i x h l = omega (arith, tables .right i x h l, linear-entry-le (s .transfer) (s .rounding) x, part-small {f = λ _. x} (λ _ _. l) i h)
 
     pub light : Light sums
     light k h =
@@ -102,7 +102,7 @@ module _ (s : YuvSettings) (p : Shape (s .range) (weightsOf s)) where
           (q .e2 ∙ entries-are 2 (omega arith))
 
       pub linears-small : (i : ℕ) → linear s (f i) ≤ 65535 × linear s (g i) ≤ 65535
-      linears-small i = (linear-entry-le (s .transfer) (f i), linear-entry-le (s .transfer) (g i))
+      linears-small i = (linear-entry-le (s .transfer) (s .rounding) (f i), linear-entry-le (s .transfer) (s .rounding) (g i))
 
       -- both lumas
       pub total-is : total t ≡ 17592186044416 * (3 * linear s (f 0) + 2 + linear s (g 0) + (3 * linear s (f 1) + 2 + linear s (g 1)) +
@@ -124,7 +124,7 @@ module _ (s : YuvSettings) (p : Shape (s .range) (weightsOf s)) where
 -- ---- the chroma input
 
 module _ (d : FrameDescription) (p : Shape (d .settings .range) (weightsOf (d .settings))) {sums gamma : List ℕ} (tables : SumTables (d .settings) sums)
-    (corrects : TableOf 65536 (gammaEntry (d .settings .transfer)) gamma) (j next : ℕ) (inside : 2 * j < d .width)
+    (corrects : TableOf 65536 (gammaOf (d .settings)) gamma) (j next : ℕ) (inside : 2 * j < d .width)
     (is : next ≡ min (2 * j + 1) (d .width - 1)) where
   -- a pair over another
   module _ (row below : Pixels) {a b : Sums} (q : Paired sums (row (2 * j)) (row next) a) (r : Paired sums (below (2 * j)) (below next) b) where

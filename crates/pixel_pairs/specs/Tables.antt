@@ -5,10 +5,10 @@ use mathlib.Core.List.{List}
 use Prim.Native.Nat.{ℕ, zero, suc, _+_, _*_, _<_}
 use lib.IntN.{natAbs}
 use lib.ListN.{length, getD}
-use Rattle.sharp_gamma.specs.Entry.{gammaEntry, TableOf}
+use Rattle.sharp_gamma.specs.Entry.{TableOf}
 use Rattle.definitions.specs.declared.YuvSettings.{YuvSettings}
 use Rattle.definitions.specs.Pixel.{biasY}
-use Rattle.definitions.specs.Row.{linear}
+use Rattle.definitions.specs.Row.{linear, gammaOf}
 use Rattle.pixel_pairs.specs.declared.tables.Conversion.{Conversion}
 use Rattle.pixel_pairs.specs.declared.tables.Weights.{Weights}
 use Rattle.pixel_pairs.specs.Weights.{lumaWeights, Converts}
@@ -46,4 +46,4 @@ pub record Summed (rows : Conversion) (sums : List ℕ) : Type 0 where
 
 pub record Prepared (rows : Conversion) (sums gamma : List ℕ) : Type 0 where
   pub summed : Summed rows sums
-  pub corrects : TableOf 65536 (gammaEntry (rows .frame .settings .transfer)) gamma
+  pub corrects : TableOf 65536 (gammaOf (rows .frame .settings)) gamma

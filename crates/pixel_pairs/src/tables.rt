@@ -5,7 +5,8 @@ ghost use mathlib.Core.Path.{_≡_};
 ghost use Prim.Native.Nat.{_+_, _*_, _≤_, _<_};
 ghost use lib.IntN.{natAbs};
 ghost use lib.ListN.{getD, length};
-ghost use Rattle.sharp_gamma.specs.Entry.{linearEntry, TableOf};
+ghost use Rattle.sharp_gamma.specs.Entry.{TableOf};
+ghost use Rattle.definitions.specs.Row.{linear as linearOf};
 ghost use Rattle.pixel_pairs.specs.Weights.{Weighed, byPlace, conversionOf};
 ghost use Rattle.pixel_pairs.specs.Tables.{leftEntry, rightEntry, SumTables};
 ghost use Rattle.pixel_pairs.specs.Rows.{TwoPainted};
@@ -126,7 +127,7 @@ pub fn sum_tables(
     sums: &mut [u64; 1536],
 )
     requires { ⌜ Weighed (frame .settings) t ⌝ }
-    requires { ⌜ TableOf 256 (linearEntry (frame .settings .transfer)) (now linear) ⌝ }
+    requires { ⌜ TableOf 256 (linearOf (frame .settings)) (now linear) ⌝ }
     requires { ⌜ length (now sums) ≡ 1536 ⌝ }
     ensures { λ _. ⌜ SumTables (frame .settings) (now (sums .exit)) ⌝ }
 {

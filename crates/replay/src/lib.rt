@@ -68,24 +68,34 @@ fn read_matrix() -> YuvStandardMatrix {
     }
 }
 
-fn read_settings() -> YuvSettings {
-    YuvSettings {
-        channels: setting_codes::channels_of(read_number()),
-        sampling: setting_codes::sampling_of(read_number()),
-        range: setting_codes::range_of(read_number()),
-        matrix: read_matrix(),
-        transfer: setting_codes::transfer_of(read_number()),
-    }
-}
-
+// The numbers of a description, in their order; the rounding's code is the last.
 pub fn read_frame() -> FrameDescription {
+    let width = read_number();
+    let height = read_number();
+    let channels = setting_codes::channels_of(read_number());
+    let sampling = setting_codes::sampling_of(read_number());
+    let range = setting_codes::range_of(read_number());
+    let matrix = read_matrix();
+    let transfer = setting_codes::transfer_of(read_number());
+    let y_stride = read_number();
+    let u_stride = read_number();
+    let v_stride = read_number();
+    let rounding = setting_codes::rounding_of(read_number());
+    let settings = YuvSettings {
+        channels,
+        sampling,
+        range,
+        matrix,
+        transfer,
+        rounding,
+    };
     FrameDescription {
-        width: read_number(),
-        height: read_number(),
-        settings: read_settings(),
-        y_stride: read_number(),
-        u_stride: read_number(),
-        v_stride: read_number(),
+        width,
+        height,
+        settings,
+        y_stride,
+        u_stride,
+        v_stride,
     }
 }
 

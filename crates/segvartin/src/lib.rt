@@ -101,7 +101,7 @@ fn band_told(
     if call_numbers::is_malformed(OF_BAND, numbers) {
         return Told {
             answer: YuvAnswer::Refused(YuvError::MalformedRequest),
-            done: call_numbers::first_of(numbers),
+            done: call_numbers::number_at(numbers, 0),
         };
     }
     let frame = call_numbers::describe_after(OF_BAND, numbers, custom);

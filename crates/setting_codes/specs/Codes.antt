@@ -13,6 +13,8 @@ use Rattle.yuv_support.specs.declared.YuvStandardMatrix.{YuvStandardMatrix}
 use Rattle.yuv_support.specs.declared.YuvStandardMatrix.the-variants.{Bt601, Bt709, Bt2020, Smpte240, «Bt470_6», Fcc, Custom}
 use Rattle.sharp_gamma.specs.declared.SharpYuvGammaTransfer.{SharpYuvGammaTransfer}
 use Rattle.sharp_gamma.specs.declared.SharpYuvGammaTransfer.the-variants.{Srgb, Rec709, Gamma2p2, Gamma2p8}
+use Rattle.sharp_gamma.specs.declared.TableRounding.{TableRounding}
+use Rattle.sharp_gamma.specs.declared.TableRounding.the-variants.{Truncated, Nearest}
 
 -- RULES 1.2: the value of each code, at its place
 abbrev pub channelsCodes : List YuvSourceChannels
@@ -33,6 +35,10 @@ matrixCodes = Bt601 ∷ Bt709 ∷ Bt2020 ∷ Smpte240 ∷ «Bt470_6» ∷ Fcc �
 -- RULES 1.2
 abbrev pub transferCodes : List SharpYuvGammaTransfer
 transferCodes = Srgb ∷ Rec709 ∷ Gamma2p2 ∷ Gamma2p8 ∷ []
+
+-- RULES 1.2
+abbrev pub roundingCodes : List TableRounding
+roundingCodes = Truncated ∷ Nearest ∷ []
 
 -- RULES 1.2: a Custom matrix has the code after those of the named ones, whatever its kr and kb
 abbrev pub customCode : ℕ

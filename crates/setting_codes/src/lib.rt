@@ -1,9 +1,10 @@
 // Settings as numbers, for callers that have no enums: the codes of a request and of the C functions.
 ghost use mathlib.Core.Path.{_≡_};
 ghost use lib.ListN.{getD};
-ghost use Rattle.setting_codes.specs.Codes.{channelsCodes, samplingCodes, rangeCodes, matrixCodes, transferCodes};
+ghost use Rattle.setting_codes.specs.Codes.{channelsCodes, samplingCodes, rangeCodes, matrixCodes, transferCodes, roundingCodes};
 ghost use Rattle.setting_codes.specs.Codes.{samplingCode, rangeCode, matrixCode, transferCode};
 use sharp_gamma::SharpYuvGammaTransfer;
+use sharp_gamma::TableRounding;
 use yuv_support::YuvChromaSubsampling;
 use yuv_support::YuvRange;
 use yuv_support::YuvSourceChannels;
@@ -66,6 +67,16 @@ pub fn transfer_of(code: u32) -> SharpYuvGammaTransfer
         2 => SharpYuvGammaTransfer::Gamma2p2,
         3 => SharpYuvGammaTransfer::Gamma2p8,
         _ => SharpYuvGammaTransfer::Srgb,
+    }
+}
+
+pub fn rounding_of(code: u32) -> TableRounding
+    ensures { λ r. ⌜ r ≡ getD roundingCodes code TableRounding.Truncated ⌝ }
+{
+    match code {
+        0 => TableRounding::Truncated,
+        1 => TableRounding::Nearest,
+        _ => TableRounding::Truncated,
     }
 }
 

@@ -2,13 +2,14 @@
 -- Assumes nothing.
 use Prim.Native.Nat.{ℕ, _≤_}
 use Rattle.sharp_gamma.specs.declared.SharpYuvGammaTransfer.{SharpYuvGammaTransfer}
+use Rattle.sharp_gamma.specs.declared.TableRounding.{TableRounding}
 use Rattle.sharp_gamma.specs.Entry.{linearEntry, gammaEntry}
 use Rattle.sharp_gamma.proofs.Largest.{largest-le}
 
-pub linear-entry-le : (t : SharpYuvGammaTransfer) (v : ℕ) → linearEntry t v ≤ 65535
+pub linear-entry-le : (t : SharpYuvGammaTransfer) (r : TableRounding) (v : ℕ) → linearEntry t r v ≤ 65535
 unfolding linearEntry
-linear-entry-le t v = largest-le _ 65535
+linear-entry-le t r v = largest-le _ 65535
 
-pub gamma-entry-le : (t : SharpYuvGammaTransfer) (i : ℕ) → gammaEntry t i ≤ 255
+pub gamma-entry-le : (t : SharpYuvGammaTransfer) (r : TableRounding) (i : ℕ) → gammaEntry t r i ≤ 255
 unfolding gammaEntry
-gamma-entry-le t i = largest-le _ 255
+gamma-entry-le t r i = largest-le _ 255

@@ -1,5 +1,5 @@
 mod Computed
-mod Axis
+mod Place
 mod Order
 mod Rise
 mod Table

@@ -12,11 +12,11 @@ use native.Mathlib.Decide.{decLt}
 use lib.Dec.{T, T-not}
 use lib.ListN.{getD, length}
 use Rattle.sharp_gamma.specs.declared.SharpYuvGammaTransfer.{SharpYuvGammaTransfer}
+use Rattle.sharp_gamma.specs.declared.TableRounding.{TableRounding}
 use Rattle.sharp_gamma.specs.Curve.{Curve, curveOf}
-use Rattle.sharp_gamma.specs.Entry.{linearEntry, gammaEntry, TableOf}
+use Rattle.sharp_gamma.specs.Entry.{place, linearEntry, gammaEntry, TableOf}
 use Rattle.sharp_gamma.specs.FirstIndices.{FirstIndices}
 use Rattle.sharp_gamma.proofs.Computed.{both, three, every, every-at}
-use Rattle.sharp_gamma.proofs.Axis.{Axis, place, truncated}
 use Rattle.sharp_gamma.proofs.Rise.{steady, inverse-rises}
 use Rattle.sharp_gamma.proofs.Meaning.{linearUnder, gammaUnder, linear-means, gamma-means}
 
@@ -40,47 +40,47 @@ fails-before : (p : ℕ → Bool) → ((i j : ℕ) → i ≤ j → T (p i) → T
 fails-before p up zero i t h u = not-suc-le-zero h
 fails-before p up (suc s) i t h u = T-not (p s) t (up i s (le-of-suc-le-suc h) u)
 
-module _ (t : SharpYuvGammaTransfer) where
+module _ (t : SharpYuvGammaTransfer) (r : TableRounding) where
   abbrev pub isLinear : ℕ → ℕ → Bool
-  isLinear v = isLast (linearUnder (curveOf t) (truncated 65535) v)
+  isLinear v = isLast (linearUnder (curveOf t) r v)
 
   abbrev pub isGamma : ℕ → ℕ → Bool
-  isGamma i = isLast (gammaUnder (curveOf t) (truncated 255) i)
+  isGamma i = isLast (gammaUnder (curveOf t) r i)
 
-  pub linear-is : (v n : ℕ) → v < 256 → T (isLinear v n) → linearEntry t v ≡ n
-  linear-is v n h = last-is (linearUnder (curveOf t) (truncated 65535) v) (linearEntry t v) (λ n. linear-means t v n h) n
+  pub linear-is : (v n : ℕ) → v < 256 → T (isLinear v n) → linearEntry t r v ≡ n
+  linear-is v n h = last-is (linearUnder (curveOf t) r v) (linearEntry t r v) (λ n. linear-means t r v n h) n
 
-  pub gamma-is : (i k : ℕ) → i < 65536 → T (isGamma i k) → gammaEntry t i ≡ k
-  gamma-is i k h = last-is (gammaUnder (curveOf t) (truncated 255) i) (gammaEntry t i) (λ k. gamma-means t i k h) k
+  pub gamma-is : (i k : ℕ) → i < 65536 → T (isGamma i k) → gammaEntry t r i ≡ k
+  gamma-is i k h = last-is (gammaUnder (curveOf t) r i) (gammaEntry t r i) (λ k. gamma-means t r i k h) k
 
-module _ (c : Curve) (a : Axis) where
+module _ (c : Curve) (r : TableRounding) where
   -- the fraction of k is not above the inverse at s, and is above it before; and it is one that the inverse does not fall below again
   abbrev pub isFirst : ℕ → ℕ → Bool
-  isFirst k s = steady c (place a k) && gammaUnder c a s k && failsBefore (λ i. gammaUnder c a i k) s
+  isFirst k s = steady c (place r 255 k) && gammaUnder c r s k && failsBefore (λ i. gammaUnder c r i k) s
 
   first-indices-of :
-      (entry : ℕ → ℕ) → ((i k : ℕ) → i < 65536 → T (gammaUnder c a i k) ↔ k ≤ entry i) →
+      (entry : ℕ → ℕ) → ((i k : ℕ) → i < 65536 → T (gammaUnder c r i k) ↔ k ≤ entry i) →
       (l : List ℕ) → length l ≡ 256 → T (every isFirst l) → FirstIndices entry l
   first-indices-of entry means l size test = record {
-    from = λ k i h r g. means i k r .0 (up k h (getD l k 0) i g (parts k h .1));
-    before = λ k i h r g. go k i r (fails-before (λ i. gammaUnder c a i k) (up k h) (getD l k 0) i (parts k h .2) g) (decLt (entry i) k);
+    from = λ k i h b g. means i k b .0 (up k h (getD l k 0) i g (parts k h .1));
+    before = λ k i h b g. go k i b (fails-before (λ i. gammaUnder c r i k) (up k h) (getD l k 0) i (parts k h .2) g) (decLt (entry i) k);
   }
     where
-      parts : (k : ℕ) → k < 256 → T (steady c (place a k)) × T (gammaUnder c a (getD l k 0) k) × T (failsBefore (λ i. gammaUnder c a i k) (getD l k 0))
+      parts : (k : ℕ) → k < 256 → T (steady c (place r 255 k)) × T (gammaUnder c r (getD l k 0) k) × T (failsBefore (λ i. gammaUnder c r i k) (getD l k 0))
       parts k h =
-          three (steady c (place a k)) (gammaUnder c a (getD l k 0) k) (failsBefore (λ i. gammaUnder c a i k) (getD l k 0))
+          three (steady c (place r 255 k)) (gammaUnder c r (getD l k 0) k) (failsBefore (λ i. gammaUnder c r i k) (getD l k 0))
           (every-at isFirst l test k (omega arith))
 
-      up : (k : ℕ) → k < 256 → (i j : ℕ) → i ≤ j → T (gammaUnder c a i k) → T (gammaUnder c a j k)
-      up k h = inverse-rises c (place a k) (parts k h .0)
+      up : (k : ℕ) → k < 256 → (i j : ℕ) → i ≤ j → T (gammaUnder c r i k) → T (gammaUnder c r j k)
+      up k h = inverse-rises c (place r 255 k) (parts k h .0)
 
-      go : (k i : ℕ) → i < 65536 → (T (gammaUnder c a i k) → ⊥) → Dec (entry i < k) → entry i < k
-      go k i r f (yes h) = h
-      go k i r f (no h) = absurd (f (means i k r .1 (omega arith)))
+      go : (k i : ℕ) → i < 65536 → (T (gammaUnder c r i k) → ⊥) → Dec (entry i < k) → entry i < k
+      go k i b f (yes h) = h
+      go k i b f (no h) = absurd (f (means i k b .1 (omega arith)))
 
-module _ {u t : SharpYuvGammaTransfer} (e : u ≡ t) {l : List ℕ} (size : length l ≡ 256) where
-  pub linear-table : T (every (isLinear t) l) → TableOf 256 (linearEntry u) l
-  linear-table test = rw e (record { size = size; at = λ v h. sym (linear-is t v (getD l v 0) h (every-at (isLinear t) l test v (omega arith))) })
+module _ {u t : SharpYuvGammaTransfer} (e : u ≡ t) {q r : TableRounding} (d : q ≡ r) {l : List ℕ} (size : length l ≡ 256) where
+  pub linear-table : T (every (isLinear t r) l) → TableOf 256 (linearEntry u q) l
+  linear-table test = rw (e, d) (record { size = size; at = λ v h. sym (linear-is t r v (getD l v 0) h (every-at (isLinear t r) l test v (omega arith))) })
 
-  pub first-indices : T (every (isFirst (curveOf t) (truncated 255)) l) → FirstIndices (gammaEntry u) l
-  first-indices test = rw e (first-indices-of (curveOf t) (truncated 255) (gammaEntry t) (gamma-means t) l size test)
+  pub first-indices : T (every (isFirst (curveOf t) r) l) → FirstIndices (gammaEntry u q) l
+  first-indices test = rw (e, d) (first-indices-of (curveOf t) r (gammaEntry t r) (gamma-means t r) l size test)

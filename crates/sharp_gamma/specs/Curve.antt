@@ -1,10 +1,10 @@
 -- The curve of each transfer and its inverse: docs/RULES.md, 3.1 to 3.3. Powers are compared by raising both sides.
 -- Assumes nothing.
-use Prim.Native.Nat.{ℕ, _-_}
+use Prim.Native.Nat.{ℕ}
 use mathlib.Core.Bool.{Bool, cond}
 use Rattle.sharp_gamma.specs.declared.SharpYuvGammaTransfer.{SharpYuvGammaTransfer}
 use Rattle.sharp_gamma.specs.declared.SharpYuvGammaTransfer.the-variants.{Srgb, Rec709, Gamma2p2, Gamma2p8}
-use Rattle.sharp_gamma.specs.Fraction.{Fraction, _over_, whole, decimal, _plus_, _times_, _dividedBy_, power, _notAbove_, _below_}
+use Rattle.sharp_gamma.specs.Fraction.{Fraction, _over_, whole, decimal, _plus_, _less_, _times_, _dividedBy_, power, _notAbove_, _below_}
 
 -- RULES 3.1: the four decimals of a transfer and its power, up / down
 pub record Curve : Type 0 where
@@ -17,7 +17,7 @@ pub record Curve : Type 0 where
 
 -- RULES 3.1: a row of the table. The offset is the scale less 1; no scale is below 1.
 abbrev pub row : (slope break scale : Fraction) (up down : ℕ) → Curve
-row s b c u d = record { slope = s; break = b; offset = (c .num - c .den) over c .den; scale = c; up = u; down = d }
+row s b c u d = record { slope = s; break = b; offset = c less whole 1; scale = c; up = u; down = d }
 
 -- RULES 3.1: the decimals are exact. A pure power breaks at 0, so that nothing of it is straight.
 abbrev pub curveOf : SharpYuvGammaTransfer → Curve

@@ -1,7 +1,7 @@
 -- Exact fractions of whole numbers: a numerator over a denominator, never reduced, compared by multiplying crosswise. RULES 3.4, 3.5 compare such;
 -- none is rounded.
 -- Assumes nothing.
-use Prim.Native.Nat.{ℕ, _+_, _*_, _^_}
+use Prim.Native.Nat.{ℕ, _+_, _-_, _*_, _^_}
 use mathlib.Core.Bool.{Bool}
 use lib.Dec.{leb, ltb}
 
@@ -24,6 +24,11 @@ decimal digits places = digits over (10 ^ places)
 infixl 55 _plus_
 abbrev pub _plus_ : Fraction → Fraction → Fraction
 x plus y = (x .num * y .den + y .num * x .den) over (x .den * y .den)
+
+-- 0 where y is above x
+infixl 55 _less_
+abbrev pub _less_ : Fraction → Fraction → Fraction
+x less y = (x .num * y .den - y .num * x .den) over (x .den * y .den)
 
 infixl 60 _times_
 abbrev pub _times_ : Fraction → Fraction → Fraction

@@ -1,6 +1,7 @@
 // The curve tables from which `rgbx_to_sharp_yuv` takes linear values and corrected bytes. A call
 // makes both once and lends them to its rows.
-mod tables; // tables.rt: the constants
+mod nearest; // the constants of each rounding, made by tools/tables.py
+mod truncated;
 
 ghost use Rattle.sharp_gamma.specs.Entry.{TableOf, linearEntry, gammaEntry};
 ghost use Rattle.sharp_gamma.specs.FirstIndices.{FirstIndices};
@@ -17,24 +18,40 @@ pub enum SharpYuvGammaTransfer {
     Gamma2p8,
 }
 
+// Which whole number stands in a table for the curve's value there, in both tables of a call alike
+pub enum TableRounding {
+    // The largest that is not above the value
+    Truncated,
+    // The nearest, of two equally near the upper: a flat colour comes back closer to what it was
+    Nearest,
+}
+
 // The linear value of each byte.
-pub fn linear_map_table(transfer: SharpYuvGammaTransfer) -> [u16; 256]
-    ensures { λ r. ⌜ TableOf 256 (linearEntry transfer) r ⌝ }
+pub fn linear_map_table(transfer: SharpYuvGammaTransfer, rounding: TableRounding) -> [u16; 256]
+    ensures { λ r. ⌜ TableOf 256 (linearEntry transfer rounding) r ⌝ }
 {
-    match transfer {
-        SharpYuvGammaTransfer::Srgb => tables::SRGB_LINEAR,
-        SharpYuvGammaTransfer::Rec709 => tables::REC709_LINEAR,
-        SharpYuvGammaTransfer::Gamma2p2 => tables::GAMMA2P2_LINEAR,
-        SharpYuvGammaTransfer::Gamma2p8 => tables::GAMMA2P8_LINEAR,
+    match rounding {
+        TableRounding::Truncated => match transfer {
+            SharpYuvGammaTransfer::Srgb => truncated::SRGB_LINEAR,
+            SharpYuvGammaTransfer::Rec709 => truncated::REC709_LINEAR,
+            SharpYuvGammaTransfer::Gamma2p2 => truncated::GAMMA2P2_LINEAR,
+            SharpYuvGammaTransfer::Gamma2p8 => truncated::GAMMA2P8_LINEAR,
+        },
+        TableRounding::Nearest => match transfer {
+            SharpYuvGammaTransfer::Srgb => nearest::SRGB_LINEAR,
+            SharpYuvGammaTransfer::Rec709 => nearest::REC709_LINEAR,
+            SharpYuvGammaTransfer::Gamma2p2 => nearest::GAMMA2P2_LINEAR,
+            SharpYuvGammaTransfer::Gamma2p8 => nearest::GAMMA2P8_LINEAR,
+        },
     }
 }
 
 // The byte for each linear value. 65,536 numbers are too many for a constant; but the byte rises
 // with the value, so the table is runs of equal bytes, and 256 first indices say where each starts.
-pub fn gamma_map_table(transfer: SharpYuvGammaTransfer) -> [u8; 65536]
-    ensures { λ r. ⌜ TableOf 65536 (gammaEntry transfer) r ⌝ }
+pub fn gamma_map_table(transfer: SharpYuvGammaTransfer, rounding: TableRounding) -> [u8; 65536]
+    ensures { λ r. ⌜ TableOf 65536 (gammaEntry transfer rounding) r ⌝ }
 {
-    let first = first_index_table(transfer);
+    let first = first_index_table(transfer, rounding);
     let mut table = [255u8; 65536]; // the run of 255 is the last: it stands from the start
     let mut i: usize = 0;
     for k in 0..255u8 {
@@ -48,13 +65,21 @@ pub fn gamma_map_table(transfer: SharpYuvGammaTransfer) -> [u8; 65536]
 }
 
 // For each byte k the first index whose gamma entry is at least k.
-fn first_index_table(transfer: SharpYuvGammaTransfer) -> [u16; 256]
-    ensures { λ r. ⌜ FirstIndices (gammaEntry transfer) r ⌝ }
+fn first_index_table(transfer: SharpYuvGammaTransfer, rounding: TableRounding) -> [u16; 256]
+    ensures { λ r. ⌜ FirstIndices (gammaEntry transfer rounding) r ⌝ }
 {
-    match transfer {
-        SharpYuvGammaTransfer::Srgb => tables::SRGB_FIRST_INDEX,
-        SharpYuvGammaTransfer::Rec709 => tables::REC709_FIRST_INDEX,
-        SharpYuvGammaTransfer::Gamma2p2 => tables::GAMMA2P2_FIRST_INDEX,
-        SharpYuvGammaTransfer::Gamma2p8 => tables::GAMMA2P8_FIRST_INDEX,
+    match rounding {
+        TableRounding::Truncated => match transfer {
+            SharpYuvGammaTransfer::Srgb => truncated::SRGB_FIRST_INDEX,
+            SharpYuvGammaTransfer::Rec709 => truncated::REC709_FIRST_INDEX,
+            SharpYuvGammaTransfer::Gamma2p2 => truncated::GAMMA2P2_FIRST_INDEX,
+            SharpYuvGammaTransfer::Gamma2p8 => truncated::GAMMA2P8_FIRST_INDEX,
+        },
+        TableRounding::Nearest => match transfer {
+            SharpYuvGammaTransfer::Srgb => nearest::SRGB_FIRST_INDEX,
+            SharpYuvGammaTransfer::Rec709 => nearest::REC709_FIRST_INDEX,
+            SharpYuvGammaTransfer::Gamma2p2 => nearest::GAMMA2P2_FIRST_INDEX,
+            SharpYuvGammaTransfer::Gamma2p8 => nearest::GAMMA2P8_FIRST_INDEX,
+        },
     }
 }

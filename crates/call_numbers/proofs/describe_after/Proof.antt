@@ -1,6 +1,6 @@
--- `describe_after` meets its contract: past the numbers before it a description has ten.
+-- `describe_after` meets its contract: past the numbers before it a description has ten at least.
 -- Assumes nothing.
-use Prim.Native.Nat.{_+_}
+use Prim.Native.Nat.{_+_, _≤_}
 use mathlib.Core.Path.{_≡_, _∙_}
 use native.Mathlib.Omega.{arith}
 use lib.ListN.{length, length-drop}
@@ -9,7 +9,7 @@ use borrow.Author.Needs.{needs}
 use Rattle.call_numbers.proofs.describe_after.Statement.{statement}
 use Rattle.call_numbers.proofs.describe_after.Tie as tie
 
-long : (s : tie.Start) → length (s .args .numbers .now) ≡ s .args .before + 10
+long : (s : tie.Start) → s .args .before + 10 ≤ length (s .args .numbers .now)
 long s = counted (s .args .before) (s .args .numbers .now) (s .pre .1)
 
 sub-describe : tie.Need-sub-describe

@@ -8,10 +8,12 @@ use Rattle.call_numbers.proofs.settings_of.Tie as tie
 returns : tie.Need-returns
 unfolding settingsOf
 returns c =
-    let m = c .before .before in
+    let n = c .before in
+    let t = n .before in
+    let m = t .before .before in
     let r = m .before .before in
     let s = r .before .before in
-    rw (s .before .before .channels-of .ensures, s .sampling-of .ensures, r .range-of .ensures, m .matrix-of .ensures, c .transfer-of .ensures)
+    rw (s .before .before .channels-of .ensures, s .sampling-of .ensures, r .range-of .ensures, m .matrix-of .ensures, t .transfer-of .ensures, c .rounding-of .ensures, n .number-at .ensures)
 
 pub settings-of-spec : {M : Type 1} → statement M
 settings-of-spec =
@@ -26,5 +28,7 @@ settings-of-spec =
     (λ c. search needs)
     (λ c κs. search needs)
     (λ c. search needs)
+    (λ c κs. search needs)
+    (λ c κs. search needs)
     (λ c κs. search needs)
     returns)

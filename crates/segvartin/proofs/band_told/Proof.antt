@@ -13,7 +13,7 @@ use Rattle.segvartin.proofs.band_told.Tie as tie
 returns : tie.Need-returns
 returns c =
     let m = c .before .before in
-    holds _ (sym (m .is-malformed .ensures) ∙ c .before .if1 .taken) (refl, (c .first-of .ensures, refl, refl, refl, refl))
+    holds _ (sym (m .is-malformed .ensures) ∙ c .before .if1 .taken) (refl, (c .number-at .ensures, refl, refl, refl, refl))
 
 meant : (c : tie.Else1) → isMalformed 3 (c .before .before .before .before .before .before .before .before .args .numbers .now) ≡ false
 meant c = sym (c .before .is-malformed .ensures) ∙ c .if1 .left

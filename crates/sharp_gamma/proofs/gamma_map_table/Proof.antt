@@ -40,7 +40,7 @@ loop-again c =
 returns : tie.Need-returns Inv-loop2 μ-loop2 Inv-loop μ-loop
 returns c =
     let inv = c .before .loop .inv in
-    finish (inv .2) (omega arith) (inv .0) _ (c .before .before .first-index-table .ensures) (gamma-entry-le _)
+    finish (inv .2) (omega arith) (inv .0) _ (c .before .before .first-index-table .ensures) (gamma-entry-le _ _)
 
 pub gamma-map-table-spec : {M : Type 1} → statement M
 gamma-map-table-spec =
