@@ -5,10 +5,12 @@
  * calls on separate buffers may run on separate threads. A call takes less than 96 KiB of stack.
  *
  * Call segvartin_frame, segvartin_open and segvartin_band, or the same calls with their numbers in structs: segvartin_convert_frame,
- * segvartin_open_frame and segvartin_convert_band. They only pass numbers on to the library's segvartin_call_ functions below.
+ * segvartin_open_frame and segvartin_convert_band. With a choice that these do not have, which today is the rounding of the curve tables:
+ * segvartin_convert_frame_with, segvartin_open_frame_with and segvartin_convert_band_with. All only pass numbers on to the library's
+ * segvartin_call_ functions below.
  *
- * docs/RULES.md has the rules that fix each byte and each answer; RULES 7.1 below names one of them. The three functions are the calls of
- * its chapter 10.
+ * docs/RULES.md has the rules that fix each byte and each answer; RULES 7.1 below names one of them. The library's three functions are the
+ * calls of its chapter 10.
  *
  * Every function answers finished work (0) or the number of one refusal, and a refusal writes no byte of a plane or of the carried row.
  * This holds for all values of all numbers: sizes, strides, lengths, codes, kr, kb. What no function can check, and the caller must see to:
@@ -60,12 +62,18 @@ enum {
 enum { SEGVARTIN_SRGB = 0, SEGVARTIN_REC709 = 1, SEGVARTIN_GAMMA2P2 = 2, SEGVARTIN_GAMMA2P8 = 3 };
 
 /*
+ * Rounding of both curve tables (RULES 1.2, 3.4, 3.5): each entry down, or to the nearest with halves upward. One of segvartin_options; a call
+ * without them is SEGVARTIN_TRUNCATED.
+ */
+enum { SEGVARTIN_TRUNCATED = 0, SEGVARTIN_NEAREST = 1 };
+
+/*
  * What a call answers (RULES 7.1). Where several conditions hold, the lowest number is answered. In parentheses: what *expected and *received get;
  * where nothing stands there, and after finished work, both get 0.
  */
 enum {
     SEGVARTIN_FINISHED = 0,
-    /* a code of channels, sampling, range, matrix or transfer without a meaning; of segvartin_call_ also another count of numbers */
+    /* a code of channels, sampling, range, matrix, transfer or rounding without a meaning; of segvartin_call_ also another count of numbers */
     SEGVARTIN_MALFORMED_REQUEST = 1,
     /* w or h is 0 */
     SEGVARTIN_ZERO_BASE_SIZE = 2,
@@ -101,7 +109,8 @@ enum {
  * exception ends the program.
  *
  *   numbers          frame: stride, description. open: description. band: done, rows, stride, description. The description is ten numbers:
- *                    width, height, channels, sampling, range, matrix, transfer, y_stride, u_stride, v_stride. Any other count is refusal 1.
+ *                    width, height, channels, sampling, range, matrix, transfer, y_stride, u_stride, v_stride; or eleven, the last of them
+ *                    rounding, which is SEGVARTIN_TRUNCATED where it is not given. Any other count is refusal 1.
  *                    A later version may take further numbers; a call that does not give them stays the call that it is today
  *   custom           kr, kb
  *   told             gets expected, received, and in open and band the rows done: 0, and what they are after the band
@@ -132,6 +141,39 @@ static inline void segvartin_set_mode(uint32_t mode) { __asm__ __volatile__("ldm
 /* Where the mode changes nothing is inlined, so that no floating-point operation of the caller's is moved to where the mode is not its own. */
 #define SEGVARTIN_APART static __attribute__((noinline, unused))
 
+/* The library's calls in the default mode, with the parameters that they have above. All functions below make their calls by these three. */
+SEGVARTIN_APART uint32_t segvartin_frame_in_default_mode(const uint32_t *numbers, size_t numbers_len, const float custom[2],
+                                                         const uint8_t *source, size_t source_len, uint8_t *y, size_t y_len, uint8_t *u,
+                                                         size_t u_len, uint8_t *v, size_t v_len, size_t told[2]) {
+    const uint32_t mode = segvartin_get_mode();
+    uint32_t number;
+    segvartin_set_mode(SEGVARTIN_DEFAULT_MODE);
+    number = segvartin_call_frame(numbers, numbers_len, custom, source, source_len, y, y_len, u, u_len, v, v_len, told);
+    segvartin_set_mode(mode);
+    return number;
+}
+
+SEGVARTIN_APART uint32_t segvartin_open_in_default_mode(const uint32_t *numbers, size_t numbers_len, const float custom[2], size_t told[3]) {
+    const uint32_t mode = segvartin_get_mode();
+    uint32_t number;
+    segvartin_set_mode(SEGVARTIN_DEFAULT_MODE);
+    number = segvartin_call_open(numbers, numbers_len, custom, told);
+    segvartin_set_mode(mode);
+    return number;
+}
+
+SEGVARTIN_APART uint32_t segvartin_band_in_default_mode(const uint32_t *numbers, size_t numbers_len, const float custom[2],
+                                                        const uint8_t *source, size_t source_len, uint8_t *y, size_t y_len, uint8_t *u,
+                                                        size_t u_len, uint8_t *v, size_t v_len, uint8_t *carried, size_t carried_len,
+                                                        size_t told[3]) {
+    const uint32_t mode = segvartin_get_mode();
+    uint32_t number;
+    segvartin_set_mode(SEGVARTIN_DEFAULT_MODE);
+    number = segvartin_call_band(numbers, numbers_len, custom, source, source_len, y, y_len, u, u_len, v, v_len, carried, carried_len, told);
+    segvartin_set_mode(mode);
+    return number;
+}
+
 /*
  * Converts a whole frame (RULES 7.8). Answers 0, or a refusal: 1 to 4, 6 to 12.
  *
@@ -142,18 +184,14 @@ static inline void segvartin_set_mode(uint32_t mode) { __asm__ __volatile__("ldm
  *   u, v             ch rows of cw bytes: u_stride at least cw, u_len exactly u_stride * ch; so for v
  *   expected, received    always written
  */
-SEGVARTIN_APART uint32_t segvartin_frame(uint32_t width, uint32_t height, uint32_t channels, uint32_t sampling, uint32_t range, uint32_t matrix,
-                                         float kr, float kb, uint32_t transfer, const uint8_t *source, size_t source_len, uint32_t stride,
-                                         uint8_t *y, size_t y_len, uint32_t y_stride, uint8_t *u, size_t u_len, uint32_t u_stride, uint8_t *v,
-                                         size_t v_len, uint32_t v_stride, size_t *expected, size_t *received) {
+static inline uint32_t segvartin_frame(uint32_t width, uint32_t height, uint32_t channels, uint32_t sampling, uint32_t range, uint32_t matrix,
+                                       float kr, float kb, uint32_t transfer, const uint8_t *source, size_t source_len, uint32_t stride,
+                                       uint8_t *y, size_t y_len, uint32_t y_stride, uint8_t *u, size_t u_len, uint32_t u_stride, uint8_t *v,
+                                       size_t v_len, uint32_t v_stride, size_t *expected, size_t *received) {
     const uint32_t numbers[11] = {stride, width, height, channels, sampling, range, matrix, transfer, y_stride, u_stride, v_stride};
     const float custom[2] = {kr, kb};
     size_t told[2];
-    const uint32_t mode = segvartin_get_mode();
-    uint32_t number;
-    segvartin_set_mode(SEGVARTIN_DEFAULT_MODE);
-    number = segvartin_call_frame(numbers, 11, custom, source, source_len, y, y_len, u, u_len, v, v_len, told);
-    segvartin_set_mode(mode);
+    const uint32_t number = segvartin_frame_in_default_mode(numbers, 11, custom, source, source_len, y, y_len, u, u_len, v, v_len, told);
     *expected = told[0];
     *received = told[1];
     return number;
@@ -166,17 +204,13 @@ SEGVARTIN_APART uint32_t segvartin_frame(uint32_t width, uint32_t height, uint32
  *   done             gets 0, the rows done so far, also after a refusal
  *   the others       as in segvartin_frame
  */
-SEGVARTIN_APART uint32_t segvartin_open(uint32_t width, uint32_t height, uint32_t channels, uint32_t sampling, uint32_t range, uint32_t matrix,
-                                        float kr, float kb, uint32_t transfer, uint32_t y_stride, uint32_t u_stride, uint32_t v_stride,
-                                        uint32_t *done, size_t *expected, size_t *received) {
+static inline uint32_t segvartin_open(uint32_t width, uint32_t height, uint32_t channels, uint32_t sampling, uint32_t range, uint32_t matrix,
+                                      float kr, float kb, uint32_t transfer, uint32_t y_stride, uint32_t u_stride, uint32_t v_stride,
+                                      uint32_t *done, size_t *expected, size_t *received) {
     const uint32_t numbers[10] = {width, height, channels, sampling, range, matrix, transfer, y_stride, u_stride, v_stride};
     const float custom[2] = {kr, kb};
     size_t told[3];
-    const uint32_t mode = segvartin_get_mode();
-    uint32_t number;
-    segvartin_set_mode(SEGVARTIN_DEFAULT_MODE);
-    number = segvartin_call_open(numbers, 10, custom, told);
-    segvartin_set_mode(mode);
+    const uint32_t number = segvartin_open_in_default_mode(numbers, 10, custom, told);
     *expected = told[0];
     *received = told[1];
     *done = told[2] & 0xffffffffu; /* the rows done are 32 bits */
@@ -197,20 +231,17 @@ SEGVARTIN_APART uint32_t segvartin_open(uint32_t width, uint32_t height, uint32_
  *                    last row here for the next call
  *   done             in: the rows done; out: the rows done, this band's among them
  */
-SEGVARTIN_APART uint32_t segvartin_band(uint32_t width, uint32_t height, uint32_t channels, uint32_t sampling, uint32_t range, uint32_t matrix,
-                                        float kr, float kb, uint32_t transfer, uint32_t rows, const uint8_t *source, size_t source_len,
-                                        uint32_t stride, uint8_t *y, size_t y_len, uint32_t y_stride, uint8_t *u, size_t u_len,
-                                        uint32_t u_stride, uint8_t *v, size_t v_len, uint32_t v_stride, uint8_t *carried, size_t carried_len,
-                                        uint32_t *done, size_t *expected, size_t *received) {
+static inline uint32_t segvartin_band(uint32_t width, uint32_t height, uint32_t channels, uint32_t sampling, uint32_t range, uint32_t matrix,
+                                      float kr, float kb, uint32_t transfer, uint32_t rows, const uint8_t *source, size_t source_len,
+                                      uint32_t stride, uint8_t *y, size_t y_len, uint32_t y_stride, uint8_t *u, size_t u_len,
+                                      uint32_t u_stride, uint8_t *v, size_t v_len, uint32_t v_stride, uint8_t *carried, size_t carried_len,
+                                      uint32_t *done, size_t *expected, size_t *received) {
     const uint32_t numbers[13] = {*done, rows,   stride,   width,    height,   channels, sampling,
                                   range, matrix, transfer, y_stride, u_stride, v_stride};
     const float custom[2] = {kr, kb};
     size_t told[3];
-    const uint32_t mode = segvartin_get_mode();
-    uint32_t number;
-    segvartin_set_mode(SEGVARTIN_DEFAULT_MODE);
-    number = segvartin_call_band(numbers, 13, custom, source, source_len, y, y_len, u, u_len, v, v_len, carried, carried_len, told);
-    segvartin_set_mode(mode);
+    const uint32_t number =
+        segvartin_band_in_default_mode(numbers, 13, custom, source, source_len, y, y_len, u, u_len, v, v_len, carried, carried_len, told);
     *expected = told[0];
     *received = told[1];
     *done = told[2] & 0xffffffffu; /* the rows done are 32 bits */
@@ -277,6 +308,124 @@ static inline segvartin_answer segvartin_convert_band(segvartin_state *state, ui
     a.number = segvartin_band(d->width, d->height, d->channels, d->sampling, d->range, d->matrix, d->kr, d->kb, d->transfer, rows, source.at,
                               source.len, stride, y.at, y.len, d->y_stride, u.at, u.len, d->u_stride, v.at, v.len, d->v_stride, carried.at,
                               carried.len, &state->done, &a.expected, &a.received);
+    return a;
+}
+
+/*
+ * The calls with options.
+ */
+
+/*
+ * What a call may choose beyond its description. A later version may have further fields. So it must be made by segvartin_options_of, which
+ * gives every choice the meaning that it has in a call without options, and fields are then set by name.
+ *
+ *   rounding         SEGVARTIN_TRUNCATED or SEGVARTIN_NEAREST
+ */
+typedef struct segvartin_options {
+    uint32_t rounding;
+} segvartin_options;
+
+/* The choices that a call without options makes. d is the description of the call, its size already set. */
+static inline segvartin_options segvartin_options_of(const segvartin_description *d) {
+    segvartin_options o;
+    (void)d;
+    o.rounding = SEGVARTIN_TRUNCATED;
+    return o;
+}
+
+/* A frame in bands: what its opening fixed, and the rows done. It must be made by segvartin_open_frame_with: it may have further fields too. */
+typedef struct segvartin_state_with {
+    segvartin_description frame;
+    segvartin_options options;
+    uint32_t done;
+} segvartin_state_with;
+
+/* The numbers of a description with options. */
+static inline void segvartin_put_numbers(uint32_t numbers[11], const segvartin_description *d, const segvartin_options *o) {
+    numbers[0] = d->width;
+    numbers[1] = d->height;
+    numbers[2] = d->channels;
+    numbers[3] = d->sampling;
+    numbers[4] = d->range;
+    numbers[5] = d->matrix;
+    numbers[6] = d->transfer;
+    numbers[7] = d->y_stride;
+    numbers[8] = d->u_stride;
+    numbers[9] = d->v_stride;
+    numbers[10] = o->rounding;
+}
+
+/*
+ * Converts a whole frame (RULES 7.8). Answers 0, or a refusal: 1 to 4, 6 to 12. With o as segvartin_options_of makes it, it is
+ * segvartin_convert_frame.
+ *
+ *   d                size, settings and plane strides by the rules of segvartin_frame
+ *   o                the choices of the call; a code without a meaning is refusal 1
+ *   source, stride, y, u, v    as in segvartin_frame
+ */
+static inline segvartin_answer segvartin_convert_frame_with(const segvartin_description *d, const segvartin_options *o, segvartin_bytes source,
+                                                            uint32_t stride, segvartin_bytes_mut y, segvartin_bytes_mut u,
+                                                            segvartin_bytes_mut v) {
+    const float custom[2] = {d->kr, d->kb};
+    uint32_t numbers[12];
+    size_t told[2];
+    segvartin_answer a;
+    numbers[0] = stride;
+    segvartin_put_numbers(numbers + 1, d, o);
+    a.number = segvartin_frame_in_default_mode(numbers, 12, custom, source.at, source.len, y.at, y.len, u.at, u.len, v.at, v.len, told);
+    a.expected = told[0];
+    a.received = told[1];
+    return a;
+}
+
+/*
+ * Opens a frame that comes in bands of rows (RULES 8.1). Answers 0, or a refusal: 1 to 4. Of plane strides it says nothing; the first band
+ * call does.
+ *
+ *   state            gets the description, the options and 0 rows done, also after a refusal. The options hold for all bands of the frame
+ *   d, o             as in segvartin_convert_frame_with
+ */
+static inline segvartin_answer segvartin_open_frame_with(segvartin_state_with *state, const segvartin_description *d,
+                                                         const segvartin_options *o) {
+    const float custom[2] = {d->kr, d->kb};
+    uint32_t numbers[11];
+    size_t told[3];
+    segvartin_answer a;
+    state->frame = *d;
+    state->options = *o;
+    segvartin_put_numbers(numbers, d, o);
+    a.number = segvartin_open_in_default_mode(numbers, 11, custom, told);
+    a.expected = told[0];
+    a.received = told[1];
+    state->done = told[2] & 0xffffffffu; /* the rows done are 32 bits */
+    return a;
+}
+
+/*
+ * Converts the next rows of a frame (RULES 8.2, 8.9). Answers 0, or a refusal: 1 to 13; a refusal leaves *state as it is.
+ *
+ * State, planes and carried row are those that the last accepted call left: then the rows finished are those of segvartin_convert_frame_with
+ * on the same rows with the opening's options, byte for byte.
+ *
+ *   state            in: as the opening or the band before left it; out: this band's rows are done too
+ *   rows, source, stride, y, u, v, carried    as in segvartin_band
+ */
+static inline segvartin_answer segvartin_convert_band_with(segvartin_state_with *state, uint32_t rows, segvartin_bytes source, uint32_t stride,
+                                                           segvartin_bytes_mut y, segvartin_bytes_mut u, segvartin_bytes_mut v,
+                                                           segvartin_bytes_mut carried) {
+    const float custom[2] = {state->frame.kr, state->frame.kb};
+    uint32_t numbers[14];
+    size_t told[3];
+    segvartin_answer a;
+    numbers[0] = state->done;
+    numbers[1] = rows;
+    numbers[2] = stride;
+    segvartin_put_numbers(numbers + 3, &state->frame, &state->options);
+    a.number = segvartin_band_in_default_mode(numbers, 14, custom, source.at, source.len, y.at, y.len, u.at, u.len, v.at, v.len, carried.at,
+                                              carried.len, told);
+    a.expected = told[0];
+    a.received = told[1];
+    state->done = told[2] & 0xffffffffu; /* the rows done are 32 bits */
     return a;
 }
 

@@ -157,7 +157,7 @@ def named_numbers():
     settings['YuvStandardMatrix::Custom'] = int(custom[1])
     answers = (ROOT / 'crates' / 'error_numbers' / 'src' / 'lib.rt').read_text()
     refusals = {name: int(number) for name, number in re.findall(r'YuvError::(\w+)(?:\(size\))? => AnswerNumbers \{ number: (\d+)', answers)}
-    if len(settings) != 19 or refusals.keys() != REFUSALS.keys():
+    if len(settings) != 21 or refusals.keys() != REFUSALS.keys():
         sys.exit('tools/declarations.py: not every code or refusal of the library could be read')
     return settings, refusals
 

@@ -2,15 +2,16 @@
 //!
 //! Each figure is the least of many turns. The two, or a frame's forms, take turns, so that a busy
 //! moment of the machine falls on both alike.
-use segvartin::{FrameDescription, FrameState, YuvChromaSubsampling, YuvSourceChannels};
+use segvartin::{FrameDescription, FrameOptions, FrameState, TableRounding, YuvChromaSubsampling, YuvSourceChannels};
 use std::time::Instant;
 use yuvutils_unaltered::sharpyuv::*;
 use yuvutils_unaltered::{BufferStoreMut, YuvPlanarImageMut, YuvRange, YuvStandardMatrix};
 
-// What is asked of the figures at 1,920 x 1,080: times the Rust; per cent over one call.
+// What is asked of the figures at 1,920 x 1,080: times the Rust; per cent over one call; per cent of one rounding over the other.
 const LEAST_RATIO: f64 = 2.2;
 const MOST_OVER_16: f64 = 12.;
 const MOST_OVER_120: f64 = 3.;
+const MOST_APART: f64 = 3.;
 
 const TURNS: usize = 100;
 
@@ -93,6 +94,14 @@ impl Frame {
         segvartin::rgbx_to_sharp_yuv(&frame, &self.source, stride, &mut self.y, &mut self.u, &mut self.v).unwrap();
     }
 
+    /// One call with the tables rounded to the nearest.
+    fn nearest(&mut self) {
+        let (frame, stride) = (self.description(), self.stride() as u32);
+        let mut options = FrameOptions::of(&frame);
+        options.rounding = TableRounding::Nearest;
+        segvartin::rgbx_to_sharp_yuv_with(&frame, &options, &self.source, stride, &mut self.y, &mut self.u, &mut self.v).unwrap();
+    }
+
     /// The same frame in bands of so many rows.
     fn bands(&mut self, rows: usize) {
         let stride = self.stride();
@@ -161,6 +170,17 @@ fn both(frame: &mut Frame, turns: usize) -> (f64, f64, usize) {
     (rust, ours, differ)
 }
 
+/// The times of a call with truncated and with nearest tables. They leave the same luma; of noise, but in the smallest frames, other chroma.
+fn roundings(frame: &mut Frame, turns: usize) -> [f64; 2] {
+    frame.ours();
+    let truncated = frame.planes();
+    frame.nearest();
+    let nearest = frame.planes();
+    assert!(truncated[0] == nearest[0], "the Y planes differ");
+    assert!(frame.width * frame.height < 1000 || truncated != nearest, "the roundings leave the same planes");
+    least(frame, turns, [&Frame::ours, &Frame::nearest])
+}
+
 /// Whether every figure is within its bar.
 struct Bars(bool);
 
@@ -207,6 +227,14 @@ fn main() {
         println!("{name:<13}{:>8.2}{:>7.1} %{:>8.2}{:>7.1} %{said}", figures[0][i], over[0], figures[1][i], over[1]);
     }
 
+    println!("\n1,920 x 1,080 by the rounding of the tables, Rgb, noise, ms; bar: {MOST_APART} % apart");
+    println!("{:<8}{:>11}{:>9}{:>8}", "chroma", "truncated", "nearest", "times");
+    for sampling in 0..2 {
+        let [truncated, nearest] = roundings(&mut Frame::new(Content::Noise, 1920, 1080, 0, sampling), TURNS);
+        let said = bars.hold(truncated.max(nearest) <= truncated.min(nearest) * (1. + MOST_APART / 100.));
+        println!("{:<8}{truncated:>11.2}{nearest:>9.2}{:>8.3}{said}", SAMPLINGS[sampling], nearest / truncated);
+    }
+
     println!("\nother sizes, Rgb, noise, ns a pixel; least of so many turns");
     println!("{:<14}{:>7}{:>16}{:>8}{:>16}{:>8}", "size", "turns", "4:2:0: Rust", "ours", "4:2:2: Rust", "ours");
     for (width, height, turns) in [(480, 270, 200), (960, 540, 100), (1920, 1080, 50), (3840, 2160, 25), (7680, 4320, 25)] {
@@ -219,6 +247,8 @@ fn main() {
 
     let (rust, ours, _) = both(&mut Frame::new(Content::Noise, 2, 2, 0, 0), 1000);
     println!("\na call on 2 x 2 pixels, which is the making of the tables: Rust {:.1} us, ours {:.1} us", rust * 1e3, ours * 1e3);
+    let [truncated, nearest] = roundings(&mut Frame::new(Content::Noise, 2, 2, 0, 0), 1000);
+    println!("by rounding: truncated {:.1} us, nearest {:.1} us, {:.3} times", truncated * 1e3, nearest * 1e3, nearest / truncated);
     if !bars.0 {
         std::process::exit(1);
     }

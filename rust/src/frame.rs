@@ -1,12 +1,12 @@
-//! Frame calls: the eight functions of the original, and the one under them.
+//! Frame calls: the eight functions of the original, the one under them, and the same with options.
 
 use crate::error::YuvError;
 use crate::ffi;
 use crate::image::YuvPlanarImageMut;
 use crate::mode::in_default_mode;
 use crate::settings::{
-    FrameDescription, SharpYuvGammaTransfer, YuvChromaSubsampling, YuvRange, YuvSourceChannels,
-    YuvStandardMatrix,
+    FrameDescription, FrameOptions, SharpYuvGammaTransfer, YuvChromaSubsampling, YuvRange,
+    YuvSourceChannels, YuvStandardMatrix,
 };
 
 /// Converts a whole frame, or answers one refusal (2, 3, 4, 6 to 12) and writes no byte: RULES 7.8.
@@ -20,15 +20,63 @@ pub fn rgbx_to_sharp_yuv(
     u: &mut [u8],
     v: &mut [u8],
 ) -> Result<(), YuvError> {
-    let numbers = &frame.numbers(0, 0, stride)[2..];
-    let custom = frame.custom();
+    let numbers = frame.numbers(0, 0, stride);
+    convert(&numbers[2..], &frame.custom(), source, y, u, v)
+}
+
+/// As [`rgbx_to_sharp_yuv`], with the choices of `options`; with those of [`FrameOptions::of`] it is the same call.
+///
+/// ```
+/// use segvartin::*;
+///
+/// let frame = FrameDescription {
+///     width: 2,
+///     height: 2,
+///     channels: YuvSourceChannels::Rgb,
+///     sampling: YuvChromaSubsampling::Yuv420,
+///     range: YuvRange::Full,
+///     matrix: YuvStandardMatrix::Bt601,
+///     transfer: SharpYuvGammaTransfer::Srgb,
+///     y_stride: 2,
+///     u_stride: 1,
+///     v_stride: 1,
+/// };
+/// let mut options = FrameOptions::of(&frame);
+/// options.rounding = TableRounding::Nearest;
+/// let (mut y, mut u, mut v) = ([0; 4], [0; 1], [0; 1]);
+/// rgbx_to_sharp_yuv_with(&frame, &options, &[10, 0, 0].repeat(4), 6, &mut y, &mut u, &mut v)?;
+/// assert_eq!((y, u, v), ([3; 4], [126], [133])); // truncated: V is 132
+/// # Ok::<(), YuvError>(())
+/// ```
+pub fn rgbx_to_sharp_yuv_with(
+    frame: &FrameDescription,
+    options: &FrameOptions,
+    source: &[u8],
+    stride: u32,
+    y: &mut [u8],
+    u: &mut [u8],
+    v: &mut [u8],
+) -> Result<(), YuvError> {
+    let numbers = frame.numbers_with(options, 0, 0, stride);
+    convert(&numbers[2..], &frame.custom(), source, y, u, v)
+}
+
+/// The library's frame call on these numbers.
+fn convert(
+    numbers: &[u32],
+    custom: &[f32; 2],
+    source: &[u8],
+    y: &mut [u8],
+    u: &mut [u8],
+    v: &mut [u8],
+) -> Result<(), YuvError> {
     let mut told = [0; 2];
-    // SAFETY: each pointer is that of a slice beside its own length, or of a local; no two overlap, as the borrows say.
+    // SAFETY: each pointer is that of a slice beside its own length, or of a value by itself; no two overlap, as the borrows say.
     let number = in_default_mode(|| unsafe {
         ffi::segvartin_call_frame(
             numbers.as_ptr(),
             numbers.len(),
-            &custom,
+            custom,
             source.as_ptr(),
             source.len(),
             y.as_mut_ptr(),

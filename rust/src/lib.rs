@@ -25,11 +25,11 @@ mod image;
 mod mode;
 mod settings;
 
-pub use bands::FrameState;
+pub use bands::{FrameState, FrameStateWith};
 pub use error::{MismatchedSize, YuvError};
 pub use frame::*;
 pub use image::{BufferStoreMut, YuvPlanarImageMut};
 pub use settings::{
-    FrameDescription, SharpYuvGammaTransfer, YuvChromaSubsampling, YuvRange, YuvSourceChannels,
-    YuvStandardMatrix,
+    FrameDescription, FrameOptions, SharpYuvGammaTransfer, TableRounding, YuvChromaSubsampling,
+    YuvRange, YuvSourceChannels, YuvStandardMatrix,
 };

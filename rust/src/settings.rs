@@ -50,6 +50,15 @@ pub enum SharpYuvGammaTransfer {
     Gamma2p8,
 }
 
+/// How the entries of both curve tables are rounded (RULES 3.4, 3.5).
+#[derive(Debug, Copy, Clone, PartialEq, Eq)]
+pub enum TableRounding {
+    /// Down: sRGB's 10 becomes 9 on its way to linear light and back.
+    Truncated,
+    /// To the nearest, halves upward: sRGB's 10 comes back as 10.
+    Nearest,
+}
+
 /// A frame's size, settings and plane strides. Strides are in bytes.
 #[derive(Debug, Copy, Clone, PartialEq)]
 pub struct FrameDescription {
@@ -63,6 +72,25 @@ pub struct FrameDescription {
     pub y_stride: u32,
     pub u_stride: u32,
     pub v_stride: u32,
+}
+
+/// What a call may choose beyond its description. [`FrameOptions::of`] makes it, and a field is then set by name; it may gain fields.
+///
+/// [`rgbx_to_sharp_yuv_with`](crate::rgbx_to_sharp_yuv_with) has an example.
+#[derive(Debug, Copy, Clone, PartialEq, Eq)]
+#[non_exhaustive]
+pub struct FrameOptions {
+    pub rounding: TableRounding,
+}
+
+impl FrameOptions {
+    /// The choices that a call without options makes for this frame: `Truncated`.
+    #[must_use]
+    pub fn of(_frame: &FrameDescription) -> FrameOptions {
+        FrameOptions {
+            rounding: TableRounding::Truncated,
+        }
+    }
 }
 
 impl FrameDescription {
@@ -112,6 +140,24 @@ impl FrameDescription {
             self.u_stride,
             self.v_stride,
         ]
+    }
+
+    /// The numbers of a band call with options: its numbers without, then those of the options. The last 12 are those of a frame call, the last 11
+    /// those of an opening.
+    pub(crate) fn numbers_with(
+        &self,
+        options: &FrameOptions,
+        done: u32,
+        rows: u32,
+        stride: u32,
+    ) -> [u32; 14] {
+        let rounding = match options.rounding {
+            TableRounding::Truncated => 0,
+            TableRounding::Nearest => 1,
+        };
+        let mut numbers = [rounding; 14];
+        numbers[..13].copy_from_slice(&self.numbers(done, rows, stride));
+        numbers
     }
 
     /// kr and kb, which the library looks at for Custom alone.

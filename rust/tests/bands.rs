@@ -1,4 +1,4 @@
-//! Bands of every cut of a small frame leave what one frame call leaves; refused bands change nothing.
+//! Bands of every cut of a small frame leave what one frame call leaves, under both roundings of the tables; refused bands change nothing.
 
 use segvartin::*;
 
@@ -89,6 +89,69 @@ fn every_cut_is_the_frame() {
             assert_eq!(carried[15], 0);
         }
     }
+}
+
+fn with(frame: &FrameDescription, rounding: TableRounding) -> FrameOptions {
+    let mut options = FrameOptions::of(frame);
+    assert_eq!(options.rounding, TableRounding::Truncated);
+    options.rounding = rounding;
+    options
+}
+
+#[test]
+fn every_cut_is_the_frame_with_options() {
+    for (sampling, rounding) in [YuvChromaSubsampling::Yuv420, YuvChromaSubsampling::Yuv422]
+        .into_iter()
+        .flat_map(|s| [TableRounding::Truncated, TableRounding::Nearest].map(|r| (s, r)))
+    {
+        let frame = description(sampling, 6);
+        let options = with(&frame, rounding);
+        let source = source(&frame);
+        let [mut without, mut whole] = [empty_planes(&frame), empty_planes(&frame)];
+        let [y, u, v] = &mut without;
+        rgbx_to_sharp_yuv(&frame, &source, 20, y, u, v).unwrap();
+        let [y, u, v] = &mut whole;
+        rgbx_to_sharp_yuv_with(&frame, &options, &source, 20, y, u, v).unwrap();
+        // Truncated is the call without options; luma goes through no table
+        assert_eq!(whole == without, rounding == TableRounding::Truncated);
+        assert_eq!(whole[0], without[0]);
+        for cuts in 0u32..32 {
+            let [y, u, v] = &mut empty_planes(&frame);
+            let mut carried = [0; 15];
+            let mut state = FrameStateWith::open(frame, options).unwrap();
+            for end in (1..=6).filter(|end| *end == 6 || cuts >> (end - 1) & 1 == 1) {
+                let band = &source[20 * state.done as usize..20 * end as usize];
+                let rows = end - state.done;
+                let (after, answer) = state.band(rows, band, 20, y, u, v, &mut carried);
+                assert_eq!(answer, Ok(()));
+                assert_eq!(
+                    (after.frame, after.options, after.done),
+                    (frame, options, end)
+                );
+                state = after;
+            }
+            assert_eq!([&*y, &*u, &*v], [&whole[0], &whole[1], &whole[2]]);
+            let (after, answer) = state.band(1, &source[..20], 20, y, u, v, &mut carried);
+            assert_eq!((after, answer), (state, Err(YuvError::BandRowsMismatch)));
+        }
+    }
+}
+
+#[test]
+fn refused_openings_with_options() {
+    let frame = description(YuvChromaSubsampling::Yuv420, 5);
+    let options = with(&frame, TableRounding::Nearest);
+    let opened = |frame| FrameStateWith::open(frame, options).map(|state| state.done);
+    assert_eq!(opened(frame), Ok(0));
+    assert_eq!(
+        opened(FrameDescription { width: 0, ..frame }),
+        Err(YuvError::ZeroBaseSize)
+    );
+    let matrix = YuvStandardMatrix::Custom(f32::NAN, 0.1);
+    assert_eq!(
+        opened(FrameDescription { matrix, ..frame }),
+        Err(YuvError::MatrixNotAccepted)
+    );
 }
 
 #[test]

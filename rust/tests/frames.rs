@@ -76,6 +76,67 @@ fn worked_lines() {
     }
 }
 
+/// 2 × 2 pixels, Rgb, Full, Bt601, sRGB: what the call without options leaves, then what one with this rounding leaves.
+fn four_pixels(
+    sampling: YuvChromaSubsampling,
+    rounding: TableRounding,
+    source: &[u8; 12],
+) -> [[Vec<u8>; 3]; 2] {
+    let frame = FrameDescription {
+        width: 2,
+        height: 2,
+        channels: YuvSourceChannels::Rgb,
+        sampling,
+        range: YuvRange::Full,
+        matrix: YuvStandardMatrix::Bt601,
+        transfer: SharpYuvGammaTransfer::Srgb,
+        y_stride: 2,
+        u_stride: 1,
+        v_stride: 1,
+    };
+    let mut options = FrameOptions::of(&frame);
+    options.rounding = rounding;
+    let rows = if sampling == YuvChromaSubsampling::Yuv420 {
+        1
+    } else {
+        2
+    };
+    let mut left = [
+        [vec![0; 4], vec![0; rows], vec![0; rows]],
+        Default::default(),
+    ];
+    left[1] = left[0].clone();
+    let [[y, u, v], [y_with, u_with, v_with]] = &mut left;
+    rgbx_to_sharp_yuv(&frame, source, 6, y, u, v).unwrap();
+    rgbx_to_sharp_yuv_with(&frame, &options, source, 6, y_with, u_with, v_with).unwrap();
+    left
+}
+
+/// Flat red 10 comes back from the tables as 9 truncated and as 10 nearest; four colours whose chroma bytes all differ. tests/c/frames.c says how
+/// the bytes were worked out.
+#[test]
+fn roundings() {
+    use TableRounding::{Nearest, Truncated};
+    use YuvChromaSubsampling::{Yuv420, Yuv422};
+    let red = [10, 0, 0, 10, 0, 0, 10, 0, 0, 10, 0, 0];
+    let colours = [190, 50, 50, 30, 210, 60, 100, 80, 170, 0, 240, 170];
+    let luma = [92, 139, 96, 160];
+    for (sampling, rounding, flat, cb, cr) in [
+        (Yuv420, Truncated, 132, &[110][..], &[144][..]),
+        (Yuv420, Nearest, 133, &[111], &[143]),
+        (Yuv422, Truncated, 132, &[86, 150], &[157, 98]),
+        (Yuv422, Nearest, 133, &[87, 151], &[158, 97]),
+    ] {
+        let [without, with] = four_pixels(sampling, rounding, &red);
+        let rows = cb.len();
+        assert_eq!(with, [vec![3; 4], vec![126; rows], vec![flat; rows]]);
+        assert_eq!(without, [vec![3; 4], vec![126; rows], vec![132; rows]]);
+        let [without, with] = four_pixels(sampling, rounding, &colours);
+        assert_eq!(with, [&luma[..], cb, cr]);
+        assert_eq!(with == without, rounding == Truncated);
+    }
+}
+
 /// 5 × 3 pixels of 4 bytes, strides 22, 7, 5, 5: its fields may be spoilt before the call.
 struct Request {
     width: u32,
@@ -100,7 +161,7 @@ impl Request {
         }
     }
 
-    /// The answer of rgba_to_sharp_yuv420. A refusal writes no byte.
+    /// The answer of rgba_to_sharp_yuv420, which is that of the call with options too. A refusal writes no byte.
     fn call(&self) -> Result<(), YuvError> {
         let mut after = self.planes.clone();
         let [y, u, v] = &mut after;
@@ -123,6 +184,31 @@ impl Request {
             self.matrix,
             transfer,
         );
+        if answer.is_err() {
+            assert_eq!(after, self.planes);
+        }
+        assert_eq!(self.call_with(TableRounding::Nearest), answer);
+        answer
+    }
+
+    fn call_with(&self, rounding: TableRounding) -> Result<(), YuvError> {
+        let frame = FrameDescription {
+            width: self.width,
+            height: self.height,
+            channels: YuvSourceChannels::Rgba,
+            sampling: YuvChromaSubsampling::Yuv420,
+            range: YuvRange::Full,
+            matrix: self.matrix,
+            transfer: SharpYuvGammaTransfer::Rec709,
+            y_stride: self.plane_strides[0],
+            u_stride: self.plane_strides[1],
+            v_stride: self.plane_strides[2],
+        };
+        let mut options = FrameOptions::of(&frame);
+        options.rounding = rounding;
+        let mut after = self.planes.clone();
+        let [y, u, v] = &mut after;
+        let answer = rgbx_to_sharp_yuv_with(&frame, &options, &self.source, self.stride, y, u, v);
         if answer.is_err() {
             assert_eq!(after, self.planes);
         }

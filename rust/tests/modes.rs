@@ -111,6 +111,43 @@ fn by_bands(frame: &FrameDescription, source: &[u8]) -> (Result<(), YuvError>, [
     (Ok(()), planes)
 }
 
+fn nearest(frame: &FrameDescription) -> FrameOptions {
+    let mut options = FrameOptions::of(frame);
+    options.rounding = TableRounding::Nearest;
+    options
+}
+
+/// What a frame call with nearest tables answers and leaves.
+fn by_frame_with(frame: &FrameDescription, source: &[u8]) -> (Result<(), YuvError>, [Vec<u8>; 3]) {
+    let mut planes = planes(frame);
+    let [y, u, v] = &mut planes;
+    let stride = 3 * frame.width;
+    let answer = rgbx_to_sharp_yuv_with(frame, &nearest(frame), source, stride, y, u, v);
+    (answer, planes)
+}
+
+/// The same of bands of one row, until one is refused. The matrix is given to the state alone: a band call judges it itself.
+fn by_bands_with(frame: &FrameDescription, source: &[u8]) -> (Result<(), YuvError>, [Vec<u8>; 3]) {
+    let mut planes = planes(frame);
+    let [y, u, v] = &mut planes;
+    let mut carried = vec![0; 3 * frame.width as usize];
+    let stride = 3 * frame.width;
+    let named = FrameDescription {
+        matrix: YuvStandardMatrix::Bt601,
+        ..*frame
+    };
+    let mut state = FrameStateWith::open(named, nearest(frame)).unwrap();
+    state.frame = *frame;
+    let mut answer = Ok(());
+    for row in source.chunks(stride as usize) {
+        (state, answer) = state.band(1, row, stride, y, u, v, &mut carried);
+        if answer.is_err() {
+            break;
+        }
+    }
+    (answer, planes)
+}
+
 /// The number that the exported frame call answers, and the planes that it leaves, for Limited, 4:2:2 and a Custom matrix.
 fn by_export(width: u32, height: u32, custom: [f32; 2], source: &[u8]) -> (u32, [Vec<u8>; 3]) {
     let (sampling, range) = (YuvChromaSubsampling::Yuv422, YuvRange::Limited);
@@ -179,13 +216,24 @@ fn the_same_in_every_mode() {
             let frame = description(5, 3, sampling, range, matrix);
             let source = source(&frame);
             let usual = by_frame(&frame, &source);
-            assert_eq!(usual.0, answer);
+            let usual_with = by_frame_with(&frame, &source);
+            assert_eq!((usual.0, usual_with.0), (answer, answer));
             for mode in modes() {
                 let (before, after, got) = in_mode(mode, || by_frame(&frame, &source));
                 assert_eq!((before, after, &got), (mode, mode, &usual));
                 let (before, after, got) = in_mode(mode, || by_bands(&frame, &source));
                 assert_eq!((before, after, &got), (mode, mode, &usual));
+                let (before, after, got) = in_mode(mode, || by_frame_with(&frame, &source));
+                assert_eq!((before, after, &got), (mode, mode, &usual_with));
+                let (before, after, got) = in_mode(mode, || by_bands_with(&frame, &source));
+                assert_eq!((before, after, &got), (mode, mode, &usual_with));
                 let (before, after, opened) = in_mode(mode, || FrameState::open(frame));
+                assert_eq!(
+                    (before, after, opened.map(|state| state.done)),
+                    (mode, mode, answer.map(|()| 0))
+                );
+                let open_with = || FrameStateWith::open(frame, nearest(&frame));
+                let (before, after, opened) = in_mode(mode, open_with);
                 assert_eq!(
                     (before, after, opened.map(|state| state.done)),
                     (mode, mode, answer.map(|()| 0))

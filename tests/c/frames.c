@@ -1,4 +1,7 @@
-/* Frame calls: worked lines of docs/RULES.md, each refusal with its numbers, padding and refused buffers left as they were. */
+/*
+ * Frame calls: worked lines of docs/RULES.md, both roundings of the tables, each refusal with its numbers, padding and refused buffers left as
+ * they were.
+ */
 #include "lent.h"
 
 #include "segvartin.h"
@@ -48,10 +51,17 @@ static void discard(request *r) {
     give_back(&r->v);
 }
 
+/* How a call is made: without options, or with this code of the rounding. */
+#define WITHOUT_OPTIONS (-1)
+static int64_t rounding = WITHOUT_OPTIONS;
+
 static segvartin_answer call(const request *r) {
     segvartin_bytes source = {r->source.at, r->source.len};
     segvartin_bytes_mut y = {r->y.at, r->y.len}, u = {r->u.at, r->u.len}, v = {r->v.at, r->v.len};
-    return segvartin_convert_frame(&r->d, source, r->stride, y, u, v);
+    segvartin_options o = segvartin_options_of(&r->d);
+    if (rounding == WITHOUT_OPTIONS) return segvartin_convert_frame(&r->d, source, r->stride, y, u, v);
+    o.rounding = (uint32_t)rounding;
+    return segvartin_convert_frame_with(&r->d, &o, source, r->stride, y, u, v);
 }
 
 /* Every pixel of the source is r, g, b; alpha and padding keep their pattern. */
@@ -105,6 +115,59 @@ static void worked_lines(void) {
                     r.d.transfer = transfer;
                     one_colour(r, 0, 255, 0, 145, 54, 34);
                 }
+}
+
+/*
+ * sRGB's 10 is linear 198 and comes back as 9; with nearest entries it is linear 199 and comes back as 10, and so with the other transfers. In
+ * an even width every chroma place has its sum, 16 times the same entry. Bt601 Full by RULES 5.2: 9 * 4096 and 10 * 4096, with 128 * 8192 and
+ * 4095 added and divided by 8192, are 132 and 133.
+ */
+static void flat_tens(void) {
+    uint8_t tens = rounding == SEGVARTIN_NEAREST ? 133 : 132;
+    for (uint32_t channels = 0; channels < 4; channels++)
+        for (uint32_t sampling = 0; sampling < 2; sampling++)
+            for (uint32_t transfer = 0; transfer < 4; transfer++)
+                for (uint32_t height = 1; height < 4; height++) {
+                    request r = accepted(2, height, channels, sampling, SEGVARTIN_FULL, 1);
+                    r.d.transfer = transfer;
+                    one_colour(r, 10, 0, 0, 3, 126, tens);
+                    r = accepted(4, height, channels, sampling, SEGVARTIN_FULL, 0);
+                    r.d.transfer = transfer;
+                    one_colour(r, 0, 0, 10, 1, tens, 127);
+                }
+}
+
+/*
+ * 2 x 2 colours, Bt601 Full, sRGB, whose chroma bytes all differ between the roundings. They were worked out by RULES 6.2 to 6.4 and 5.2 with the
+ * entries of both tables as exact fractions; G of 4:2:0 is linear 13650 in both, and from there 125 truncated and 126 nearest.
+ */
+static void four_colours(void) {
+    static const uint8_t source[12] = {190, 50, 50, 30, 210, 60, 100, 80, 170, 0, 240, 170}, luma[4] = {92, 139, 96, 160};
+    /* by rounding; of 4:2:0 one place, then of 4:2:2 two */
+    static const uint8_t cb[2][3] = {{110, 86, 150}, {111, 87, 151}}, cr[2][3] = {{144, 157, 98}, {143, 158, 97}};
+    int nearest = rounding == SEGVARTIN_NEAREST;
+    for (uint32_t sampling = 0; sampling < 2; sampling++) {
+        request r = accepted(2, 2, SEGVARTIN_RGB, sampling, SEGVARTIN_FULL, 0);
+        memcpy(r.source.at, source, sizeof source);
+        EXPECT(call(&r).number == SEGVARTIN_FINISHED && memcmp(r.y.at, luma, r.y.len) == 0);
+        EXPECT(memcmp(r.u.at, cb[nearest] + sampling, r.u.len) == 0 && memcmp(r.v.at, cr[nearest] + sampling, r.v.len) == 0);
+        discard(&r);
+    }
+}
+
+/* With nearest entries every byte of sRGB and of Rec709 comes back as it is: a flat colour has the chroma of its pixel, which 4:2:2 gives alone. */
+static void flat_colours_stay(void) {
+    for (uint32_t transfer = SEGVARTIN_SRGB; transfer <= SEGVARTIN_REC709; transfer++)
+        for (uint32_t value = 0; value < 256; value++) {
+            uint8_t red = (uint8_t)value, green = (uint8_t)(value * 7), blue = (uint8_t)(value * 29 + 50);
+            request pixel = accepted(1, 1, SEGVARTIN_RGB, SEGVARTIN_YUV422, SEGVARTIN_FULL, 0);
+            request flat = accepted(4, 3, SEGVARTIN_RGB, SEGVARTIN_YUV420, SEGVARTIN_FULL, 0);
+            pixel.d.transfer = flat.d.transfer = transfer;
+            paint(&pixel, red, green, blue);
+            EXPECT(call(&pixel).number == SEGVARTIN_FINISHED);
+            one_colour(flat, red, green, blue, pixel.y.at[0], pixel.u.at[0], pixel.v.at[0]);
+            discard(&pixel);
+        }
 }
 
 /* A refusal with its numbers; no byte is written. Gives the buffers back. */
@@ -194,26 +257,56 @@ static void limits(void) {
     one_colour(r, 255, 0, 0, 76, 85, 255);
 }
 
-/* The exported function answers 1 to every count of numbers but its own, whatever the numbers are; no byte is written. */
+/* A code of the rounding that has no meaning, before everything else that is wrong. */
+static void refused_roundings(uint32_t sampling) {
+    static const uint32_t codes[4] = {2, 256, 0x80000001, UINT32_MAX};
+    for (int i = 0; i < 4; i++) {
+        rounding = codes[i];
+        REFUSED(, 1, 0, 0);
+        REFUSED(r.d.width = 0; r.d.y_stride = 0; shorter(&r.source, 0), 1, 0, 0);
+    }
+    rounding = WITHOUT_OPTIONS;
+}
+
+/*
+ * The exported function answers 1 to every count of numbers but its own two, 11 and 12, whatever the numbers are; no byte is written. The numbers
+ * have a closed page behind them too: of 11 no twelfth is read.
+ */
 static void counts(void) {
-    uint32_t numbers[16] = {15, 5, 3, 0, 0, 0, 0, 0, 5, 3, 3, 3, 3, 3, 3, 3};
+    static const uint32_t numbers[16] = {6, 2, 1, 0, 0, 1, 0, 0, 2, 1, 1, SEGVARTIN_NEAREST, 1, 1, 1, 1};
     const float custom[2] = {0, 0};
     for (size_t count = 0; count <= 16; count++) {
-        request r = accepted(5, 3, SEGVARTIN_RGB, SEGVARTIN_YUV420, SEGVARTIN_LIMITED, 0);
+        request r = accepted(2, 1, SEGVARTIN_RGB, SEGVARTIN_YUV420, SEGVARTIN_FULL, 0);
+        lent given = lend(count * sizeof *numbers);
         size_t told[2] = {99, 99};
-        uint32_t number = segvartin_call_frame(numbers, count, custom, r.source.at, r.source.len, r.y.at, r.y.len, r.u.at, r.u.len, r.v.at, r.v.len, told);
-        EXPECT(number == (count == 11 ? SEGVARTIN_FINISHED : SEGVARTIN_MALFORMED_REQUEST) && told[0] == 0 && told[1] == 0);
-        EXPECT((count != 11) == (untouched(&r.y) && untouched(&r.u) && untouched(&r.v)));
+        int finished = count == 11 || count == 12;
+        memcpy(given.at, numbers, given.len);
+        paint(&r, 10, 0, 0);
+        uint32_t number = segvartin_call_frame((const uint32_t *)(const void *)given.at, count, custom, r.source.at, r.source.len, r.y.at, r.y.len,
+                                               r.u.at, r.u.len, r.v.at, r.v.len, told);
+        EXPECT(number == (finished ? SEGVARTIN_FINISHED : SEGVARTIN_MALFORMED_REQUEST) && told[0] == 0 && told[1] == 0);
+        if (finished)
+            EXPECT(r.v.at[0] == (count == 12 ? 133 : 132));
+        else
+            EXPECT(untouched(&r.y) && untouched(&r.u) && untouched(&r.v));
+        give_back(&given);
         discard(&r);
     }
 }
 
 int main(void) {
     for (closed_before = 0; closed_before < 2; closed_before++) {
-        worked_lines();
-        refusals(SEGVARTIN_YUV420);
-        refusals(SEGVARTIN_YUV422);
-        limits();
+        for (rounding = WITHOUT_OPTIONS; rounding <= SEGVARTIN_NEAREST; rounding++) {
+            worked_lines();
+            flat_tens();
+            four_colours();
+            if (rounding == SEGVARTIN_NEAREST) flat_colours_stay();
+            refusals(SEGVARTIN_YUV420);
+            refusals(SEGVARTIN_YUV422);
+            limits();
+        }
+        refused_roundings(SEGVARTIN_YUV420);
+        refused_roundings(SEGVARTIN_YUV422);
         counts();
     }
     return finish("frames");

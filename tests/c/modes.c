@@ -101,6 +101,38 @@ static void bands(const segvartin_description *d, outcome *o) {
     o->done = state.done;
 }
 
+static segvartin_options nearest(const segvartin_description *d) {
+    segvartin_options o = segvartin_options_of(d);
+    o.rounding = SEGVARTIN_NEAREST;
+    return o;
+}
+
+/* The three with nearest tables. */
+static void frame_with(const segvartin_description *d, outcome *o) {
+    segvartin_options options = nearest(d);
+    segvartin_bytes_mut y = {o->y, (size_t)d->y_stride * d->height};
+    told(o, segvartin_convert_frame_with(d, &options, rows(d, 0, d->height), 3 * d->width, y, plane(o->u, d), plane(o->v, d)));
+}
+
+static void opening_with(const segvartin_description *d, outcome *o) {
+    segvartin_options options = nearest(d);
+    segvartin_state_with state;
+    told(o, segvartin_open_frame_with(&state, d, &options));
+    o->done = state.done;
+}
+
+static void bands_with(const segvartin_description *d, outcome *o) {
+    segvartin_options options = nearest(d);
+    segvartin_state_with state;
+    segvartin_bytes_mut y = {o->y, (size_t)d->y_stride * d->height}, carried = {o->carried, 3 * (size_t)d->width};
+    segvartin_open_frame_with(&state, d, &options);
+    do {
+        segvartin_bytes row = rows(d, state.done, 1);
+        told(o, segvartin_convert_band_with(&state, 1, row, 3 * d->width, y, plane(o->u, d), plane(o->v, d), carried));
+    } while (o->number == SEGVARTIN_FINISHED && state.done < d->height);
+    o->done = state.done;
+}
+
 /* As frame, by the exported function alone. */
 static void bare(const segvartin_description *d, outcome *o) {
     const uint32_t numbers[11] = {3 * d->width, d->width,    d->height,   d->channels, d->sampling, d->range,
@@ -138,15 +170,15 @@ static segvartin_description description(uint32_t width, uint32_t height, uint32
     return d;
 }
 
-/* The three calls, in each mode: answered with this number, and the same bytes as in the default mode. */
+/* The calls, in each mode: answered with this number, and the same bytes as in the default mode. */
 static void in_every_mode(const segvartin_description *d, uint32_t number) {
-    static call *const calls[3] = {frame, opening, bands};
-    for (int i = 0; i < 3; i++) {
+    static call *const calls[6] = {frame, opening, bands, frame_with, opening_with, bands_with};
+    for (int i = 0; i < 6; i++) {
         outcome usual, o;
         unsigned mxcsr[2];
         in_mode(0, calls[i], d, &usual, mxcsr);
         EXPECT(usual.number == number && usual.expected == 0 && usual.received == 0);
-        EXPECT(usual.done == (calls[i] == bands && number == SEGVARTIN_FINISHED ? d->height : 0));
+        EXPECT(usual.done == (i % 3 == 2 && number == SEGVARTIN_FINISHED ? d->height : 0));
         for (int mode = 0; mode < MODES; mode++) {
             in_mode(mode, calls[i], d, &o, mxcsr);
             EXPECT(!differ(&o, &usual));
@@ -199,6 +231,10 @@ static void another_rounding(void) {
         EXPECT(o.number == SEGVARTIN_FINISHED && o.v[0] == 46);
         in_mode(mode, bands, &d, &o, mxcsr);
         EXPECT(o.number == SEGVARTIN_FINISHED && o.v[0] == 46);
+        in_mode(mode, frame_with, &d, &o, mxcsr);
+        EXPECT(o.number == SEGVARTIN_FINISHED && o.v[0] == 46);
+        in_mode(mode, bands_with, &d, &o, mxcsr);
+        EXPECT(o.number == SEGVARTIN_FINISHED && o.v[0] == 46);
         in_mode(mode, bare, &d, &o, mxcsr);
         EXPECT(o.number == SEGVARTIN_FINISHED && o.v[0] == (mode == 0 ? 46 : 47));
     }
@@ -212,6 +248,8 @@ static void another_answer(void) {
         outcome o;
         unsigned mxcsr[2];
         in_mode(mode, frame, &d, &o, mxcsr);
+        EXPECT(o.number == SEGVARTIN_MATRIX_NOT_ACCEPTED);
+        in_mode(mode, frame_with, &d, &o, mxcsr);
         EXPECT(o.number == SEGVARTIN_MATRIX_NOT_ACCEPTED);
         in_mode(mode, bare, &d, &o, mxcsr);
         EXPECT(o.number == (mode == 0 ? SEGVARTIN_MATRIX_NOT_ACCEPTED : SEGVARTIN_FINISHED));
@@ -238,7 +276,7 @@ static int ends(call *made, const segvartin_description *d) {
 
 static void another_end(void) {
     segvartin_description d = description(W, H, SEGVARTIN_YUV420, SEGVARTIN_FULL, SEGVARTIN_FCC);
-    EXPECT(!ends(frame, &d) && !ends(bands, &d) && ends(bare, &d));
+    EXPECT(!ends(frame, &d) && !ends(bands, &d) && !ends(frame_with, &d) && !ends(bands_with, &d) && ends(bare, &d));
     d.matrix = SEGVARTIN_BT709;
     EXPECT(!ends(bare, &d));
 }

@@ -1,6 +1,7 @@
 /*
- * The stack that a call takes, for every setting. Each call runs on a thread whose stack is filled with one byte first; from where the call is
- * made down to the lowest byte that changed is what it took. Bytes that a call reserves and never writes are not seen.
+ * The stack that a call takes, for every setting, without options and with nearest tables. Each call runs on a thread whose stack is filled with
+ * one byte first; from where the call is made down to the lowest byte that changed is what it took. Bytes that a call reserves and never writes
+ * are not seen.
  */
 #include <pthread.h>
 #include <stdint.h>
@@ -15,6 +16,7 @@ enum { STACK = 1 << 20, FILL = 0xA5, PROMISED = 96 << 10, W = 17, H = 5, CW = 9 
 
 static uint8_t source_bytes[4 * W * H], y_bytes[W * H], u_bytes[CW * H], v_bytes[CW * H], carried_bytes[3 * W];
 static segvartin_description description;
+static int nearest;
 static segvartin_bytes_mut y = {y_bytes, sizeof y_bytes}, carried = {carried_bytes, sizeof carried_bytes};
 static const uint8_t *called_from;
 
@@ -32,20 +34,32 @@ static segvartin_bytes rows(uint32_t from, uint32_t count) {
     return part;
 }
 
+static segvartin_options options(void) {
+    segvartin_options o = segvartin_options_of(&description);
+    o.rounding = SEGVARTIN_NEAREST;
+    return o;
+}
+
 static void *frame(void *unused) {
+    segvartin_options o = options();
     segvartin_answer a;
     called_from = __builtin_frame_address(0);
-    a = segvartin_convert_frame(&description, rows(0, H), stride(), y, chroma(u_bytes), chroma(v_bytes));
+    a = nearest ? segvartin_convert_frame_with(&description, &o, rows(0, H), stride(), y, chroma(u_bytes), chroma(v_bytes))
+                : segvartin_convert_frame(&description, rows(0, H), stride(), y, chroma(u_bytes), chroma(v_bytes));
     return a.number == SEGVARTIN_FINISHED ? unused : &description;
 }
 
 static void *bands(void *unused) {
-    segvartin_state state;
-    segvartin_answer a = segvartin_open_frame(&state, &description);
+    segvartin_options o = options();
+    segvartin_state old;
+    segvartin_state_with state;
+    segvartin_answer a = segvartin_open_frame(&old, &description);
     uint32_t row;
+    if (a.number == SEGVARTIN_FINISHED) a = segvartin_open_frame_with(&state, &description, &o);
     called_from = __builtin_frame_address(0);
     for (row = 0; row < H && a.number == SEGVARTIN_FINISHED; row++)
-        a = segvartin_convert_band(&state, 1, rows(row, 1), stride(), y, chroma(u_bytes), chroma(v_bytes), carried);
+        a = nearest ? segvartin_convert_band_with(&state, 1, rows(row, 1), stride(), y, chroma(u_bytes), chroma(v_bytes), carried)
+                    : segvartin_convert_band(&old, 1, rows(row, 1), stride(), y, chroma(u_bytes), chroma(v_bytes), carried);
     return a.number == SEGVARTIN_FINISHED ? unused : &description;
 }
 
@@ -74,13 +88,14 @@ int main(void) {
     uint32_t code;
     description.width = W, description.height = H, description.kr = 0.25f, description.kb = 0.125f;
     description.y_stride = W, description.u_stride = description.v_stride = CW;
-    for (code = 0; code < 4 * 2 * 2 * 7 * 4; code++) {
+    for (code = 0; code < 4 * 2 * 2 * 7 * 4 * 2; code++) {
         size_t f, b;
         description.channels = code % 4;
         description.sampling = code / 4 % 2;
         description.range = code / 8 % 2;
         description.matrix = code / 16 % 7;
-        description.transfer = code / 112;
+        description.transfer = code / 112 % 4;
+        nearest = code / 448;
         f = taken(frame);
         b = taken(bands);
         if (f > most[0]) most[0] = f;
