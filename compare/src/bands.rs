@@ -3,10 +3,11 @@
 
 use crate::check::{Converters, band_of, checked, frame_of};
 use crate::conditions;
-use crate::request::{answer_text, band_text, state_text};
+use crate::converter::Converter;
+use crate::request::{BandRequest, answer_text, band_text, state_text};
 use crate::sequences::{Held, MOST_CALLS, Sequence, sequences};
 use crate::stored::{Stored, digest};
-use model::{Answer, FrameState};
+use model::{Answer, FrameState, TableRounding};
 use std::collections::{BTreeMap, BTreeSet};
 use std::fmt::Write;
 use std::path::Path;
@@ -29,6 +30,14 @@ struct Answered {
 
 fn number(answer: &Answer) -> u8 {
     answer.map_or_else(|refusal| refusal.number, |()| 0)
+}
+
+/// Puts what a call left back into the buffers that it was lent the first bytes of.
+fn hold(held: &mut Held, left: BandRequest) {
+    let [_, y, u, v] = left.lent;
+    for (whole, part) in held.iter_mut().zip([y, u, v, left.carried]) {
+        whole[..part.len()].copy_from_slice(&part);
+    }
 }
 
 /// Every call is compared as `compare` compares one: the model's answer is that of the list of
@@ -58,10 +67,7 @@ fn answered(sequence: Sequence, converters: &Converters) -> Result<Answered, Str
             )
         })?;
         let (state, answer, left) = band_of(model, &request).expect("the model has bands");
-        let [_, y, u, v] = left.lent;
-        for (whole, part) in held.iter_mut().zip([y, u, v, left.carried]) {
-            whole[..part.len()].copy_from_slice(&part);
-        }
+        hold(&mut held, left);
         after.push(After {
             answer,
             state,
@@ -123,6 +129,69 @@ fn list(converters: &Converters) -> Result<Vec<Answered>, String> {
     Ok(list)
 }
 
+// The choice of tables, lost between calls.
+
+/// By the opening, the number of calls accepted before, and the state's rounding: the rounding that
+/// a converter with this mistake takes.
+type Lost = fn(&FrameState, usize, TableRounding) -> TableRounding;
+
+const LOST: [(&str, Lost); 3] = [
+    (
+        "the choice of nearest tables lost by the opening",
+        |_, _, _| TableRounding::Truncated,
+    ),
+    (
+        "the choice of nearest tables lost by the first band",
+        |_, accepted, rounding| match accepted {
+            0 => rounding,
+            _ => TableRounding::Truncated,
+        },
+    ),
+    (
+        "the opening's choice taken where the state has the other",
+        |opening, _, _| opening.settings.rounding,
+    ),
+];
+
+/// The fewest sequences that must tell each of them.
+const TELLING: usize = 4;
+
+impl Answered {
+    /// Whether a converter with this mistake leaves other bytes after some call.
+    fn tells(&self, model: &dyn Converter, lost: Lost) -> bool {
+        let mut held = self.sequence.held.clone();
+        let mut accepted = 0;
+        for (call, after) in self.sequence.calls.iter().zip(&self.after) {
+            let mut request = call.request(&held);
+            let rounding = &mut request.state.settings.rounding;
+            *rounding = lost(&self.sequence.opening, accepted, *rounding);
+            let (_, _, left) = band_of(model, &request).expect("the model has bands");
+            hold(&mut held, left);
+            if held != after.held {
+                return true;
+            }
+            accepted += usize::from(after.answer.is_ok());
+        }
+        false
+    }
+}
+
+/// A line for each mistake: the first sequence that tells it, and how many do.
+fn lost_lines(list: &[Answered], converters: &Converters) -> Result<Vec<String>, String> {
+    let mut lines = Vec::new();
+    for (name, lost) in LOST {
+        let places: Vec<usize> = (list.iter().zip(1..))
+            .filter(|(answered, _)| answered.tells(&*converters[0], lost))
+            .map(|(_, place)| place)
+            .collect();
+        if places.len() < TELLING {
+            return Err(format!("{} sequences tell: {name}", places.len()));
+        }
+        lines.push(format!("| {name} | {} | {} |", places[0], places.len()));
+    }
+    Ok(lines)
+}
+
 /// What the list must have.
 fn complete(list: &[Answered]) -> Result<(), String> {
     let whole: Vec<&Answered> = (list.iter())
@@ -155,6 +224,11 @@ fn complete(list: &[Answered]) -> Result<(), String> {
         name.split('(').next().unwrap_or("").to_string()
     };
     let orders = |s: &FrameState| format!("{:?} {:?}", s.settings.channels, s.settings.sampling);
+    let roundings = |s: &FrameState| {
+        let settings = &s.settings;
+        let way = (settings.sampling, settings.transfer, settings.rounding);
+        format!("{way:?}")
+    };
     let counts = |a: &Answered| (1..=MOST_CALLS).contains(&a.sequence.calls.len());
     let short = |a: &Answered| {
         let mut calls = a.sequence.calls.iter();
@@ -174,6 +248,10 @@ fn complete(list: &[Answered]) -> Result<(), String> {
         (
             kinds(&|s| format!("{:?}", s.settings.transfer)) == 4,
             "every transfer",
+        ),
+        (
+            kinds(&roundings) == 16,
+            "each rounding with every sampling and transfer",
         ),
         (sides(&|s| s.w), "every width from 1 to 12"),
         (sides(&|s| s.h), "every height from 1 to 12"),
@@ -295,13 +373,14 @@ fn index(list: &[Answered], bytes: usize) -> String {
         let s = &sequence.opening;
         let _ = writeln!(
             text,
-            "{place} | {} | {w} x {h} {:?} {:?} {:?} {:?} {:?} | {} {} {} | {}",
+            "{place} | {} | {w} x {h} {:?} {:?} {:?} {:?} {:?} {:?} | {} {} {} | {}",
             sequence.group,
             settings.channels,
             settings.sampling,
             settings.range,
             settings.matrix,
             settings.transfer,
+            settings.rounding,
             s.y_stride,
             s.u_stride,
             s.v_stride,
@@ -371,9 +450,18 @@ pub fn check(root: &Path, converters: &Converters) -> Result<String, String> {
         }
     }
     let readme = "vectors/README.md";
-    let line = readme_line(&list);
-    if !String::from_utf8_lossy(&read(readme)?).contains(&line) {
-        return Err(format!("{readme} lacks the line: {line}"));
+    let text = String::from_utf8_lossy(&read(readme)?).into_owned();
+    let mut lines = lost_lines(&list, converters)?;
+    lines.push(readme_line(&list));
+    for line in lines {
+        if !text.lines().any(|other| other == line) {
+            return Err(format!("{readme} lacks the line: {line}"));
+        }
     }
     Ok(format!("{} band sequences, as they are made", list.len()))
+}
+
+/// Which sequence is the first to tell each way to lose the choice of tables, and how many do.
+pub fn report(converters: &Converters) -> Result<String, String> {
+    Ok(lost_lines(&list(converters)?, converters)?.join("\n"))
 }

@@ -1,14 +1,14 @@
 //! The frame calls of the stored list, from fixed seeds.
 
-use crate::mistakes::{MISTAKES, Mistake, convert};
+use crate::mistakes::{EXACT_HALVES, MISTAKES, Mistake, TABLE_MISTAKES, convert};
 use crate::random::{self, Random};
 use crate::request::{FrameRequest, frame_text, shapes};
 use crate::stored::repeated;
 use crate::worked::{bt601, painted};
 use model::settings::{channels_of, matrix_of, range_of, sampling_of, transfer_of};
 use model::{
-    Frame, Settings, SharpYuvGammaTransfer, YuvChromaSubsampling, YuvRange, YuvSourceChannels,
-    YuvStandardMatrix,
+    Frame, Settings, SharpYuvGammaTransfer, TableRounding, YuvChromaSubsampling, YuvRange,
+    YuvSourceChannels, YuvStandardMatrix,
 };
 use std::collections::BTreeSet;
 
@@ -31,9 +31,10 @@ fn call(why: impl Into<String>, request: FrameRequest) -> Call {
 
 /// All calls, none twice.
 pub fn calls() -> Vec<Call> {
+    use TableRounding::{Nearest, Truncated};
     let groups = [
-        ("worked line", worked_lines()),
-        ("mistake", mistakes()),
+        ("worked line", worked_lines(Truncated)),
+        ("mistake", mistakes(&MISTAKES, 100)),
         ("sides", sides()),
         ("Custom limit", custom_limits()),
         ("boundary", boundaries()),
@@ -42,7 +43,14 @@ pub fn calls() -> Vec<Call> {
         ("settings", all_settings()),
         ("Custom pair", custom_pairs()),
         ("large", large()),
-        ("ramp", ramps()),
+        ("ramp", ramps(Truncated)),
+        ("Nearest worked line", worked_lines(Nearest)),
+        ("Nearest flat colour", tens()),
+        ("mistake", mistakes(&TABLE_MISTAKES, 150)),
+        ("exact half", exact_halves()),
+        ("Nearest condition", one_condition()),
+        ("Nearest settings", nearest_settings()),
+        ("Nearest ramp", ramps(Nearest)),
     ];
     let mut seen = BTreeSet::new();
     let mut calls = Vec::new();
@@ -91,7 +99,7 @@ fn some_settings(random: &mut Random) -> Settings {
     settings_of(codes).expect("codes with a meaning")
 }
 
-/// By the program's codes. None: one has no meaning.
+/// By the program's codes, and Truncated as there. None: one has no meaning.
 fn settings_of([channels, sampling, range, matrix, transfer]: [u8; 5]) -> Option<Settings> {
     Some(Settings {
         channels: channels_of(channels)?,
@@ -99,6 +107,7 @@ fn settings_of([channels, sampling, range, matrix, transfer]: [u8; 5]) -> Option
         range: range_of(range)?,
         matrix: matrix_of(matrix)?,
         transfer: transfer_of(transfer)?,
+        rounding: TableRounding::Truncated,
     })
 }
 
@@ -112,11 +121,12 @@ fn some_padding(random: &mut Random) -> [u32; 4] {
     })
 }
 
-/// The worked lines of the request that are frames.
-fn worked_lines() -> Vec<Call> {
+/// The worked lines of the request that are frames, by the tables of a rounding.
+fn worked_lines(rounding: TableRounding) -> Vec<Call> {
     use YuvChromaSubsampling::{Yuv420, Yuv422};
     let with = |sampling, range| Settings {
         sampling,
+        rounding,
         ..bt601(range)
     };
     let red = |_, _| [255, 0, 0];
@@ -156,12 +166,87 @@ fn worked_lines() -> Vec<Call> {
     calls
 }
 
-/// For each mistake a frame that it converts otherwise, of one pixel where that is enough. "Rounding
-/// curve entries, so 10 survives": the first is a red of 10.
-fn mistakes() -> Vec<Call> {
-    let ten = painted(1, 1, bt601(YuvRange::Full), |_, _| [10, 0, 0]);
+/// A flat red of 10, which nearest tables bring back.
+fn tens() -> Vec<Call> {
+    use YuvChromaSubsampling::{Yuv420, Yuv422};
+    let mut calls = Vec::new();
+    for (sampling, w, h) in [(Yuv420, 2, 2), (Yuv422, 2, 1)] {
+        let settings = Settings {
+            sampling,
+            rounding: TableRounding::Nearest,
+            ..bt601(YuvRange::Full)
+        };
+        calls.push(call(
+            "red of 10",
+            painted(w, h, settings, |_, _| [10, 0, 0]),
+        ));
+    }
+    calls
+}
+
+/// Two neighbours whose red comes to a gamma entry at an exact half by weights 12 and 4, and a blue
+/// with which V tells that entry from the one below.
+fn half_pair(entry: usize) -> [[u8; 3]; 2] {
+    match entry {
+        257 => [[4, 0, 10], [6, 0, 10]],
+        771 => [[13, 0, 0], [15, 0, 0]],
+        _ => panic!("{entry} is no exact half"),
+    }
+}
+
+fn nearest_rec709(sampling: YuvChromaSubsampling) -> Settings {
+    Settings {
+        sampling,
+        transfer: SharpYuvGammaTransfer::Rec709,
+        rounding: TableRounding::Nearest,
+        ..bt601(YuvRange::Full)
+    }
+}
+
+/// Each entry at an exact half by itself, in both samplings.
+fn exact_halves() -> Vec<Call> {
+    use YuvChromaSubsampling::{Yuv420, Yuv422};
+    let mut calls = Vec::new();
+    for (entry, (sampling, w, h)) in EXACT_HALVES
+        .iter()
+        .flat_map(|entry| [(Yuv420, 1, 2), (Yuv422, 2, 1)].map(|way| (*entry, way)))
+    {
+        let colour = |row, column| half_pair(entry)[(row + column) as usize];
+        let request = painted(w, h, nearest_rec709(sampling), colour);
+        calls.push(call(format!("Rec709 gamma {entry}"), request));
+    }
+    calls
+}
+
+/// The frame that was thought of for a mistake, where a random one would not do.
+fn thought_of(mistake: Mistake) -> Option<FrameRequest> {
+    let srgb = bt601(YuvRange::Full);
+    let ten = |rounding| painted(1, 1, Settings { rounding, ..srgb }, |_, _| [10, 0, 0]);
+    match mistake {
+        // "Rounding curve entries, so 10 survives"; truncating them, so that it does not.
+        Mistake::BothRounded => Some(ten(TableRounding::Truncated)),
+        Mistake::NearestLost => Some(ten(TableRounding::Nearest)),
+        Mistake::HalvesDown => {
+            let settings = nearest_rec709(YuvChromaSubsampling::Yuv422);
+            let colour = |row, column| half_pair(EXACT_HALVES[row as usize])[column as usize];
+            Some(painted(2, 2, settings, colour))
+        }
+        Mistake::ScaleDigit => {
+            let settings = Settings {
+                sampling: YuvChromaSubsampling::Yuv422,
+                ..srgb
+            };
+            // 25,662 of the gamma table by weights 12 and 4.
+            let colour = |_, column| [[178, 0, 0], [132, 0, 0]][column as usize];
+            Some(painted(2, 1, settings, colour))
+        }
+        _ => None,
+    }
+}
+
+/// For each mistake a frame that it converts otherwise, of one pixel where that is enough.
+fn mistakes(list: &[(Mistake, &str)], first_kind: u64) -> Vec<Call> {
     let one = |(mistake, name): (Mistake, &str), kind: u64| {
-        let ten = (mistake == Mistake::BothRounded).then(|| ten.clone());
         let found = (0..).map(|case| {
             let mut random = Random::new(SEED, kind, case);
             let mut settings = some_settings(&mut random);
@@ -189,19 +274,21 @@ fn mistakes() -> Vec<Call> {
                     settings.range = YuvRange::Limited;
                     settings.matrix = YuvStandardMatrix::Custom(kr, kb);
                 }
+                Mistake::NearestLinearOnly | Mistake::NearestGammaOnly => {
+                    settings.sampling = YuvChromaSubsampling::Yuv420;
+                    settings.rounding = TableRounding::Nearest;
+                }
                 _ => settings.sampling = YuvChromaSubsampling::Yuv420,
             }
             frame(&mut random, side, side, settings, [0; 4])
         });
         let caught =
             |request: &FrameRequest| convert(mistake, request) != convert(Mistake::None, request);
-        let request = ten.into_iter().chain(found).find(caught);
+        let request = thought_of(mistake).into_iter().chain(found).find(caught);
         call(name, request.expect("a frame that catches it"))
     };
-    MISTAKES
-        .into_iter()
-        .zip(100..)
-        .map(|(mistake, kind)| one(mistake, kind))
+    (list.iter().zip(first_kind..))
+        .map(|(mistake, kind)| one(*mistake, kind))
         .collect()
 }
 
@@ -456,6 +543,50 @@ fn two_conditions() -> Vec<Call> {
     calls
 }
 
+/// Each condition alone, on a frame of nearest tables.
+fn one_condition() -> Vec<Call> {
+    let mut calls = Vec::new();
+    for (condition, case) in CONDITIONS.into_iter().zip(0..) {
+        let mut random = Random::new(SEED, 1_000, case);
+        let settings = Settings {
+            rounding: TableRounding::Nearest,
+            ..some_settings(&mut random)
+        };
+        let base = frame(&mut random, 3, 3, settings, [1, 2, 3, 4]);
+        calls.push(call(condition, with_condition(&base, condition)));
+    }
+    calls
+}
+
+/// Every combination of order, sampling and transfer with nearest tables; ranges and matrices are
+/// any, Custom among them.
+fn nearest_settings() -> Vec<Call> {
+    let mut calls = Vec::new();
+    for case in 0..4 * 2 * 4 {
+        let mut random = Random::new(SEED, 1_100, case);
+        let codes = [case % 4, case / 4 % 2, case / 8].map(|code| code as u8);
+        let any = some_settings(&mut random);
+        let meaning = "a code with a meaning";
+        let settings = Settings {
+            channels: channels_of(codes[0]).expect(meaning),
+            sampling: sampling_of(codes[1]).expect(meaning),
+            transfer: transfer_of(codes[2]).expect(meaning),
+            matrix: if case % 7 == 6 {
+                let (kr, kb) = random::accepted_pair(&mut random);
+                YuvStandardMatrix::Custom(kr, kb)
+            } else {
+                any.matrix
+            },
+            rounding: TableRounding::Nearest,
+            ..any
+        };
+        let (w, h) = (random.from(1, 9), random.from(1, 9));
+        let padding = some_padding(&mut random);
+        calls.push(call("", frame(&mut random, w, h, settings, padding)));
+    }
+    calls
+}
+
 /// Every combination of the settings, Custom as one matrix, with sides from 1 to 40.
 fn all_settings() -> Vec<Call> {
     let mut calls = Vec::new();
@@ -564,12 +695,13 @@ fn large() -> Vec<Call> {
 
 /// Every byte through both tables of a transfer: rows of two equal pixels, red from 0 to 255, once
 /// with blue 0 and once with a blue that moves V by a half, so that V tells red from the next red.
-fn ramps() -> Vec<Call> {
+fn ramps(rounding: TableRounding) -> Vec<Call> {
     let mut calls = Vec::new();
     for transfer in [0, 1, 2, 3].map(transfer_of) {
         let settings = Settings {
             sampling: YuvChromaSubsampling::Yuv422,
             transfer: transfer.expect("a code with a meaning"),
+            rounding,
             ..bt601(YuvRange::Full)
         };
         let colour = |row: u32, _| [row as u8, 0, 10 * (row / 256) as u8];

@@ -20,7 +20,7 @@ pub trait Case: Clone {
     fn smaller(&self) -> Vec<Self>;
     fn text(&self) -> String;
 
-    /// The settings, any Custom as one, and whether w and h are odd: 1,792 in all.
+    /// The settings, any Custom as one, and whether w and h are odd: 3,584 in all.
     fn combination(&self) -> Option<String> {
         None
     }
@@ -498,6 +498,7 @@ impl Input {
             range: range_of(header[6])?,
             matrix: matrix_of(header[7])?,
             transfer: transfer_of(header[8])?,
+            rounding: model::TableRounding::Truncated,
         };
         let w = u32::from(header[0]) + 256 * u32::from(header[1]);
         let h = u32::from(header[2]) + 256 * u32::from(header[3]);

@@ -2,10 +2,16 @@
 
 use crate::converter::Converter;
 use crate::request::BandRequest;
-use model::{Answer, Frame, FrameState, Refusal, Settings};
-use segvartin::{FrameDescription, YuvError};
+use model::{Answer, Frame, FrameState, Refusal, Settings, TableRounding};
+use segvartin::{FrameDescription, FrameOptions, FrameStateWith, YuvError};
 
 pub struct Library;
+
+/// The crate has calls with options and calls without, which truncate. A call that truncates goes
+/// without where the strides of U and V are both even or both odd: about half of the time.
+fn without_options(settings: &Settings, [_, u_stride, v_stride]: [u32; 3]) -> bool {
+    settings.rounding == TableRounding::Truncated && (u_stride ^ v_stride) & 1 == 0
+}
 
 impl Converter for Library {
     fn name(&self) -> &'static str {
@@ -27,8 +33,14 @@ impl Converter for Library {
     ) -> Answer {
         let strides = [frame.y_stride, frame.u_stride, frame.v_stride];
         let description = description(frame.w, frame.h, &frame.settings, strides);
-        segvartin::rgbx_to_sharp_yuv(&description, source, frame.source_stride, y, u, v)
-            .map_err(refusal)
+        let stride = frame.source_stride;
+        let answer = if without_options(&frame.settings, strides) {
+            segvartin::rgbx_to_sharp_yuv(&description, source, stride, y, u, v)
+        } else {
+            let options = options(&description, &frame.settings);
+            segvartin::rgbx_to_sharp_yuv_with(&description, &options, source, stride, y, u, v)
+        };
+        answer.map_err(refusal)
     }
 
     fn open(
@@ -38,34 +50,82 @@ impl Converter for Library {
         settings: Settings,
         strides: [u32; 3],
     ) -> Option<Result<FrameState, Refusal>> {
-        let opened = segvartin::FrameState::open(description(w, h, &settings, strides));
-        Some(opened.map_err(refusal).map(|state| {
+        let frame = description(w, h, &settings, strides);
+        let opened = if without_options(&settings, strides) {
+            segvartin::FrameState::open(frame).map(|state| (TableRounding::Truncated, state.done))
+        } else {
+            FrameStateWith::open(frame, options(&frame, &settings))
+                .map(|state| (rounding(&state.options), state.done))
+        };
+        Some(opened.map_err(refusal).map(|(rounding, done)| {
             let [y_stride, u_stride, v_stride] = strides;
             FrameState {
                 w,
                 h,
-                settings,
+                settings: Settings {
+                    rounding,
+                    ..settings
+                },
                 y_stride,
                 u_stride,
                 v_stride,
-                done: state.done,
+                done,
             }
         }))
     }
 
     fn band(&self, request: &mut BandRequest) -> Option<(FrameState, Answer)> {
-        let s = request.state;
+        let mut s = request.state;
         let strides = [s.y_stride, s.u_stride, s.v_stride];
-        let state = segvartin::FrameState {
-            frame: description(s.w, s.h, &s.settings, strides),
-            done: s.done,
-        };
+        let frame = description(s.w, s.h, &s.settings, strides);
         let [source, y, u, v] = &mut request.lent;
         let (rows, stride) = (request.rows, request.source_stride);
         let carried = &mut request.carried;
-        let (after, answer) = state.band(rows, source, stride, y, u, v, carried);
-        let done = after.done;
-        Some((FrameState { done, ..s }, answer.map_err(refusal)))
+        let answer = if without_options(&s.settings, strides) {
+            let state = segvartin::FrameState {
+                frame,
+                done: s.done,
+            };
+            let (after, answer) = state.band(rows, source, stride, y, u, v, carried);
+            s.done = after.done;
+            answer
+        } else {
+            let state = any_state(frame, options(&frame, &s.settings), s.done);
+            let (after, answer) = state.band(rows, source, stride, y, u, v, carried);
+            (s.settings.rounding, s.done) = (rounding(&after.options), after.done);
+            answer
+        };
+        Some((s, answer.map_err(refusal)))
+    }
+}
+
+/// A state of any numbers: the crate opens one only for a frame that is not refused, and its fields
+/// can be set.
+fn any_state(frame: FrameDescription, options: FrameOptions, done: u32) -> FrameStateWith {
+    let accepted = FrameDescription {
+        width: 1,
+        height: 1,
+        matrix: segvartin::YuvStandardMatrix::Bt601,
+        ..frame
+    };
+    let mut state = FrameStateWith::open(accepted, options).expect("an accepted opening");
+    (state.frame, state.done) = (frame, done);
+    state
+}
+
+fn options(frame: &FrameDescription, settings: &Settings) -> FrameOptions {
+    let mut options = FrameOptions::of(frame);
+    options.rounding = match settings.rounding {
+        TableRounding::Truncated => segvartin::TableRounding::Truncated,
+        TableRounding::Nearest => segvartin::TableRounding::Nearest,
+    };
+    options
+}
+
+fn rounding(options: &FrameOptions) -> TableRounding {
+    match options.rounding {
+        segvartin::TableRounding::Truncated => TableRounding::Truncated,
+        segvartin::TableRounding::Nearest => TableRounding::Nearest,
     }
 }
 

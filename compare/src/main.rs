@@ -29,7 +29,7 @@ use std::sync::atomic::Ordering;
 use std::time::Instant;
 
 const USAGE: &str = "compare [--quick] [OPTION NUMBER]..
-compare --vectors ROOT | --check ROOT | --mistakes
+compare --vectors ROOT | --check ROOT | --mistakes | --flat
 
   --quick        a tenth of each number below, for a first look
   --frames N     random frame calls (200000)
@@ -45,7 +45,10 @@ A mismatch is printed as the smallest request found that shows it, in the form o
 
   --vectors ROOT   write the stored lists of frame calls and band sequences into the repository ROOT
   --check ROOT     say whether the lists in ROOT are what --vectors writes
-  --mistakes       for each mistake near at hand the call made for it, and how many calls catch it";
+  --mistakes       for each mistake near at hand the call made for it, and how many calls catch it;
+                   for each way to lose the choice of tables between calls, the same of sequences
+  --flat           for each transfer and rounding, how many of the 256 values of a flat channel
+                   come back through both tables, and how far off the others are at most";
 
 /// One in so many inputs is run by the built program too: a process takes a millisecond.
 const RUN: u64 = 5;
@@ -109,7 +112,7 @@ fn main() {
         }
     }));
     let converters = converter::converters();
-    if let Some(result) = stored_list(&converters) {
+    if let Some(result) = told(&converters) {
         println!("{}", result.as_ref().unwrap_or_else(|wrong| wrong));
         exit(i32::from(result.is_err()));
     }
@@ -177,8 +180,8 @@ fn both(
     }
 }
 
-/// What the options on the stored lists ask for, where one is given.
-fn stored_list(converters: &Converters) -> Option<Result<String, String>> {
+/// What an option that compares no random request asks for, where one is given.
+fn told(converters: &Converters) -> Option<Result<String, String>> {
     let words: Vec<String> = std::env::args().skip(1).collect();
     let words: Vec<&str> = words.iter().map(String::as_str).collect();
     match words[..] {
@@ -194,7 +197,11 @@ fn stored_list(converters: &Converters) -> Option<Result<String, String>> {
             vectors::check,
             bands::check,
         )),
-        ["--mistakes"] => Some(vectors::report(converters)),
+        ["--mistakes"] => Some(vectors::report(converters).and_then(|frames| {
+            let sequences = bands::report(converters)?;
+            Ok([frames, sequences].join("\n\n"))
+        })),
+        ["--flat"] => Some(Ok(worked::flat_colours())),
         _ => None,
     }
 }
@@ -227,7 +234,7 @@ fn compare<C: Case>(kind: &str, cases: u64, converters: &Converters, make: impl 
     if !combinations.is_empty() {
         let combinations = combinations.len();
         text += &format!(
-            " ({combinations} of 1792 combinations, {large} of 1920 by 1080, {long} with a side of 16384)"
+            " ({combinations} of 3584 combinations, {large} of 1920 by 1080, {long} with a side of 16384)"
         );
     }
     if !answers.is_empty() {

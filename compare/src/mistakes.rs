@@ -5,7 +5,9 @@ use crate::request::{FrameRequest, Lent};
 use model::curves::tables;
 use model::matrix::{Weights, weights};
 use model::settings::{chroma_width, plane_rows};
-use model::{SharpYuvGammaTransfer, YuvChromaSubsampling, YuvRange, YuvStandardMatrix};
+use model::{
+    SharpYuvGammaTransfer, TableRounding, YuvChromaSubsampling, YuvRange, YuvStandardMatrix,
+};
 
 #[derive(Clone, Copy, PartialEq)]
 pub enum Mistake {
@@ -22,6 +24,11 @@ pub enum Mistake {
     HalvesToEven,
     TiesUp,
     BlueBeforeRed,
+    NearestLost,
+    NearestLinearOnly,
+    NearestGammaOnly,
+    HalvesDown,
+    ScaleDigit,
 }
 
 use Mistake::*;
@@ -52,6 +59,22 @@ pub const MISTAKES: [(Mistake, &str); 13] = [
     (TiesUp, "a binary32 tie of Custom rounded up, not to even"),
     (BlueBeforeRed, "Custom's kg as (1 − kb) − kr"),
 ];
+
+/// Mistakes in the tables that a call chooses, and in a digit that both are made from.
+pub const TABLE_MISTAKES: [(Mistake, &str); 5] = [
+    (NearestLost, "nearest entries truncated, both tables"),
+    (
+        NearestLinearOnly,
+        "nearest entries in the linear table only",
+    ),
+    (NearestGammaOnly, "nearest entries in the gamma table only"),
+    (HalvesDown, "exact halves of nearest entries downward"),
+    (ScaleDigit, "the seventh digit of Srgb's scale one lower"),
+];
+
+/// The gamma entries of Rec709 whose exact values end in a half: slope × 255 × i / 65,535 is 4.5 and
+/// 13.5. No other entry of any table is at one.
+pub const EXACT_HALVES: [usize; 2] = [257, 771];
 
 struct Rules {
     mistake: Mistake,
@@ -114,8 +137,6 @@ pub fn convert(mistake: Mistake, request: &FrameRequest) -> Lent {
 impl Rules {
     fn new(mistake: Mistake, request: &FrameRequest) -> Rules {
         let settings = &request.frame.settings;
-        let transfer = settings.transfer;
-        let exact = tables(transfer);
         let mut weights = weights(settings.matrix, settings.range);
         if let (SumOf8192(channel), true) = (mistake, full_and_stored(settings)) {
             weights.y[channel] -= weights.y.iter().sum::<i64>() - 8_192;
@@ -124,14 +145,7 @@ impl Rules {
         if let (true, YuvStandardMatrix::Custom(kr, kb)) = (of_weights, settings.matrix) {
             weights = custom_weights(mistake, kr, kb, settings.range);
         }
-        let linear = match mistake {
-            LinearRounded | BothRounded => rounded_linear(transfer),
-            _ => exact.linear.iter().copied().map(u64::from).collect(),
-        };
-        let gamma = match mistake {
-            GammaRounded | BothRounded => rounded_gamma(transfer),
-            _ => exact.gamma.iter().copied().map(i64::from).collect(),
-        };
+        let (linear, gamma) = mistaken_tables(mistake, settings);
         Rules {
             mistake,
             weights,
@@ -178,6 +192,39 @@ impl Rules {
         let value = weighted(triple, corrected, 128, half);
         value.clamp(by, by + i64::from(self.range.range_uv())) as u8
     }
+}
+
+/// Both tables, the linear one first.
+fn mistaken_tables(mistake: Mistake, settings: &model::Settings) -> (Vec<u64>, Vec<i64>) {
+    use TableRounding::{Nearest, Truncated};
+    let linear = match mistake {
+        LinearRounded | BothRounded => Nearest,
+        NearestLost | NearestGammaOnly => Truncated,
+        _ => settings.rounding,
+    };
+    let gamma = match mistake {
+        GammaRounded | BothRounded => Nearest,
+        NearestLost | NearestLinearOnly => Truncated,
+        _ => settings.rounding,
+    };
+    let linear = &tables(settings.transfer, linear).linear;
+    let gamma = &tables(settings.transfer, gamma).gamma;
+    let mut linear: Vec<u64> = linear.iter().copied().map(u64::from).collect();
+    let mut gamma: Vec<i64> = gamma.iter().copied().map(i64::from).collect();
+    match (mistake, settings.transfer, settings.rounding) {
+        (HalvesDown, SharpYuvGammaTransfer::Rec709, Nearest) => {
+            for i in EXACT_HALVES {
+                gamma[i] -= 1;
+            }
+        }
+        // The two entries that 1.055010618947587 moves, as `tools/tables.py --moved` has them.
+        (ScaleDigit, SharpYuvGammaTransfer::Srgb, Truncated) => {
+            linear[168] -= 1;
+            gamma[25_662] += 1;
+        }
+        _ => {}
+    }
+    (linear, gamma)
 }
 
 fn weighted(triple: [i64; 3], rgb: [i64; 3], bias: i64, half: i64) -> i64 {
@@ -235,42 +282,4 @@ fn kept(mistake: Mistake, exact: f64) -> f32 {
     };
     let tie = f64::from(next) - exact == exact - f64::from(near);
     if mistake == TiesUp && tie { next } else { near }
-}
-
-/// RULES 3.1: slope, break, offset, scale and power of a transfer.
-fn curve(transfer: SharpYuvGammaTransfer) -> [f64; 5] {
-    let [slope, break_at, scale, power] = match transfer {
-        SharpYuvGammaTransfer::Srgb => [12.92, 0.003041282560128, 1.055010718947587, 2.4],
-        SharpYuvGammaTransfer::Rec709 => [4.5, 0.018053968510807, 1.099296826809442, 20.0 / 9.0],
-        SharpYuvGammaTransfer::Gamma2p2 => [1.0, 0.0, 1.0, 2.2],
-        SharpYuvGammaTransfer::Gamma2p8 => [1.0, 0.0, 1.0, 2.8],
-    };
-    [slope, break_at, scale - 1.0, scale, power]
-}
-
-/// The nearest whole number, where the rule takes the largest that is not above.
-fn rounded_linear(transfer: SharpYuvGammaTransfer) -> Vec<u64> {
-    let [slope, break_at, offset, scale, power] = curve(transfer);
-    let linearize = |x: f64| {
-        if x < slope * break_at {
-            x / slope
-        } else {
-            ((x + offset) / scale).powf(power)
-        }
-    };
-    let entry = |v: u32| (linearize(f64::from(v) / 255.0) * 65_535.0).round();
-    (0..=255).map(|v| entry(v).min(65_535.0) as u64).collect()
-}
-
-fn rounded_gamma(transfer: SharpYuvGammaTransfer) -> Vec<i64> {
-    let [slope, break_at, offset, scale, power] = curve(transfer);
-    let gamma = |x: f64| {
-        if x < break_at {
-            x * slope
-        } else {
-            scale * x.powf(1.0 / power) - offset
-        }
-    };
-    let entry = |i: u32| (gamma(f64::from(i) / 65_535.0) * 255.0).round();
-    (0..=65_535).map(|i| entry(i).min(255.0) as i64).collect()
 }

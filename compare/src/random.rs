@@ -1,8 +1,8 @@
 //! Random requests, the same for the same seed on every machine.
 
 use crate::request::{BandRequest, FrameRequest, Input, Run, Shape, shapes};
-use model::settings::{channels_of, matrix_of, range_of, sampling_of, transfer_of};
-use model::{Frame, FrameState, Settings, YuvStandardMatrix};
+use model::settings::{channels_of, matrix_of, range_of, rounding_of, sampling_of, transfer_of};
+use model::{Frame, FrameState, Settings, TableRounding, YuvStandardMatrix};
 
 /// splitmix64.
 pub struct Random(u64);
@@ -54,6 +54,7 @@ fn coded<T>(random: &mut Random, count: u64, of: fn(u8) -> Option<T>) -> T {
     of(random.below(count) as u8).expect("a code with a meaning")
 }
 
+/// All but the rounding, which is Truncated.
 fn settings(random: &mut Random) -> Settings {
     Settings {
         channels: coded(random, 4, channels_of),
@@ -66,6 +67,7 @@ fn settings(random: &mut Random) -> Settings {
             coded(random, 6, matrix_of)
         },
         transfer: coded(random, 4, transfer_of),
+        rounding: TableRounding::Truncated,
     }
 }
 
@@ -168,7 +170,8 @@ pub fn source_bytes(random: &mut Random, length: usize) -> Vec<u8> {
     bytes
 }
 
-/// A frame that is accepted: strides wide enough, buffers exactly as long as they must be.
+/// A frame that is accepted: strides wide enough, buffers exactly as long as they must be. Truncated:
+/// the stored sequences take as many numbers of their seeds as this does.
 pub fn accepted_frame(random: &mut Random, side: u32) -> FrameRequest {
     let settings = settings(random);
     let (w, h) = size(random, side);
@@ -194,9 +197,16 @@ pub fn accepted_frame(random: &mut Random, side: u32) -> FrameRequest {
     }
 }
 
+/// The same with either rounding.
+fn rounded_frame(random: &mut Random, side: u32) -> FrameRequest {
+    let mut request = accepted_frame(random, side);
+    request.frame.settings.rounding = coded(random, 2, rounding_of);
+    request
+}
+
 /// Two of three are accepted, the others have one to three faults.
 pub fn frame(random: &mut Random, side: u32) -> FrameRequest {
-    let mut request = accepted_frame(random, side);
+    let mut request = rounded_frame(random, side);
     if random.one_in(3) {
         for _ in 0..random.from(1, 3) {
             frame_fault(random, &mut request);
@@ -273,7 +283,7 @@ fn set_length(random: &mut Random, bytes: &mut Vec<u8>, length: u64) {
 
 /// A band call on any state, also one that no list of calls leads to. Two of three are accepted.
 pub fn band(random: &mut Random, side: u32) -> BandRequest {
-    let FrameRequest { frame, mut lent } = accepted_frame(random, side);
+    let FrameRequest { frame, mut lent } = rounded_frame(random, side);
     let done = random.from(0, frame.h - 1);
     let rows = random.from(1, frame.h - done);
     lent[0].truncate(frame.source_stride as usize * rows as usize);
@@ -328,7 +338,7 @@ pub fn band_fault(random: &mut Random, request: &mut BandRequest) {
 
 /// A frame cut into bands at random, half of the time with refused calls between them.
 pub fn run(random: &mut Random, side: u32) -> Run {
-    let request = accepted_frame(random, side);
+    let request = rounded_frame(random, side);
     let most = if random.one_in(2) { 3 } else { request.frame.h };
     let mut bands = Vec::new();
     let mut remain = request.frame.h;

@@ -2,8 +2,8 @@
 
 use model::settings::{chroma_width, plane_rows};
 use model::{
-    Answer, Frame, FrameState, Settings, SharpYuvGammaTransfer, YuvChromaSubsampling, YuvRange,
-    YuvSourceChannels, YuvStandardMatrix,
+    Answer, Frame, FrameState, Settings, SharpYuvGammaTransfer, TableRounding,
+    YuvChromaSubsampling, YuvRange, YuvSourceChannels, YuvStandardMatrix,
 };
 use std::fmt::Write;
 
@@ -119,7 +119,7 @@ pub fn hex(bytes: &[u8]) -> String {
     })
 }
 
-/// channels sampling range matrix transfer, in the codes of RULES 1.2; Custom is
+/// channels sampling range matrix transfer rounding, in the codes of RULES 1.2; Custom is
 /// 6 with the bits of kr and kb.
 fn settings_text(settings: &Settings) -> String {
     let channels = match settings.channels {
@@ -153,7 +153,11 @@ fn settings_text(settings: &Settings) -> String {
         SharpYuvGammaTransfer::Gamma2p2 => 2,
         SharpYuvGammaTransfer::Gamma2p8 => 3,
     };
-    format!("{channels} {sampling} {range} {matrix} {transfer}")
+    let rounding = match settings.rounding {
+        TableRounding::Truncated => 0,
+        TableRounding::Nearest => 1,
+    };
+    format!("{channels} {sampling} {range} {matrix} {transfer} {rounding}")
 }
 
 /// The settings, any Custom as one, and whether w and h are odd.

@@ -6,7 +6,7 @@ use crate::random::{self, Random};
 use crate::request::{BandRequest, FrameRequest, Lent};
 use crate::stored::repeated;
 use model::settings::{channels_of, matrix_of, range_of, sampling_of, transfer_of};
-use model::{FrameState, Settings, YuvChromaSubsampling, YuvStandardMatrix};
+use model::{FrameState, Settings, TableRounding, YuvChromaSubsampling, YuvStandardMatrix};
 
 const SEED: u64 = 2;
 
@@ -60,13 +60,15 @@ impl BandCall {
 pub fn sequences() -> Vec<Sequence> {
     let mut list = Vec::new();
     for case in 0..48 {
-        list.push(cuts(case));
+        list.push(cuts("cuts", case, settings));
     }
     for case in 0..64 {
-        list.push(refused_between("refused between", case, 1, &FAULTS));
+        let group = "refused between";
+        list.push(refused_between(group, case, 1, settings, &FAULTS));
     }
     for case in 0..24 {
-        list.push(refused_between("forged between", case, 2, &FORGED));
+        let group = "forged between";
+        list.push(refused_between(group, case, 2, settings, &FORGED));
     }
     for case in 0..12 {
         list.push(unfinished(case));
@@ -77,6 +79,19 @@ pub fn sequences() -> Vec<Sequence> {
     for case in 0..12 {
         list.push(opening_refused(case));
     }
+    // Steps of 5 bring every order and every transfer with every sampling.
+    for case in (68..108).step_by(5) {
+        list.push(cuts("Nearest cuts", case, nearest));
+    }
+    for (kind, faults) in [(4, &FAULTS[..]), (5, &FORGED[..]), (6, &OTHER_ROUNDING[..])] {
+        for case in (0..20).step_by(5) {
+            let group = "Nearest refused between";
+            list.push(refused_between(group, case, kind, nearest, faults));
+        }
+    }
+    for case in 0..4 {
+        list.push(other_rounding(case));
+    }
     for sequence in &mut list {
         for buffer in &mut sequence.held {
             *buffer = repeated(buffer, HELD);
@@ -85,7 +100,7 @@ pub fn sequences() -> Vec<Sequence> {
     list
 }
 
-/// Orders, samplings and matrices come round, Custom as one; range and transfer are any.
+/// Orders, samplings and matrices come round, Custom as one; range and transfer are any. Truncated.
 fn settings(random: &mut Random, case: u64) -> Settings {
     let (range, transfer) = (random.from(0, 1) as u8, random.from(0, 3) as u8);
     Settings {
@@ -97,6 +112,23 @@ fn settings(random: &mut Random, case: u64) -> Settings {
             YuvStandardMatrix::Custom(kr, kb)
         }),
         transfer: transfer_of(transfer).expect("a code with a meaning"),
+        rounding: TableRounding::Truncated,
+    }
+}
+
+/// The same with nearest tables, and transfers that come round too.
+fn nearest(random: &mut Random, case: u64) -> Settings {
+    Settings {
+        transfer: transfer_of((case % 4) as u8).expect("a code with a meaning"),
+        rounding: TableRounding::Nearest,
+        ..settings(random, case)
+    }
+}
+
+fn other(rounding: TableRounding) -> TableRounding {
+    match rounding {
+        TableRounding::Truncated => TableRounding::Nearest,
+        TableRounding::Nearest => TableRounding::Truncated,
     }
 }
 
@@ -203,8 +235,11 @@ fn bands(random: &mut Random, request: &FrameRequest, held: &Held, rows: &[u32])
     calls
 }
 
+/// The settings of a case.
+type SettingsOf = fn(&mut Random, u64) -> Settings;
+
 /// Whole frames in bands of 1, 2, 3 or any number of rows, with no other call.
-fn cuts(case: u64) -> Sequence {
+fn cuts(group: &'static str, case: u64, settings: SettingsOf) -> Sequence {
     let mut random = Random::new(SEED, 1, case);
     let settings = settings(&mut random, case);
     let each = (case / 8 % 4) as u32;
@@ -213,7 +248,7 @@ fn cuts(case: u64) -> Sequence {
     let (request, held) = frame(&mut random, settings, h);
     let rows = cut(&mut random, h, each, MOST_CALLS);
     Sequence {
-        group: "cuts",
+        group,
         opening: opening(&request),
         calls: bands(&mut random, &request, &held, &rows),
         held,
@@ -340,6 +375,26 @@ const FORGED: [Fault; 14] = [
     }),
 ];
 
+/// States that no call made: the other rounding, and a fault that refuses the call.
+const OTHER_ROUNDING: [Fault; 4] = [
+    ("other rounding, no row", |_, call| {
+        call.state.settings.rounding = other(call.state.settings.rounding);
+        call.rows = 0;
+    }),
+    ("other rounding, source one over", |_, call| {
+        call.state.settings.rounding = other(call.state.settings.rounding);
+        call.source.push(7);
+    }),
+    ("other rounding, carried row one under", |_, call| {
+        call.state.settings.rounding = other(call.state.settings.rounding);
+        call.lengths[3] = 3 * call.state.w as usize - 1;
+    }),
+    ("other rounding, rows done past the height", |_, call| {
+        call.state.settings.rounding = other(call.state.settings.rounding);
+        call.state.done = call.state.h + 1;
+    }),
+];
+
 /// The call with the first of the faults, from one on, with which it is refused.
 fn refused(
     random: &mut Random,
@@ -360,7 +415,13 @@ fn refused(
 }
 
 /// Whole frames with refused calls before, between and after the bands.
-fn refused_between(group: &'static str, case: u64, kind: u64, faults: &[Fault]) -> Sequence {
+fn refused_between(
+    group: &'static str,
+    case: u64,
+    kind: u64,
+    settings: SettingsOf,
+    faults: &[Fault],
+) -> Sequence {
     let mut random = Random::new(SEED, 10 + kind, case);
     let settings = settings(&mut random, case);
     let h = random.from(1, 9);
@@ -401,7 +462,7 @@ fn refused_between(group: &'static str, case: u64, kind: u64, faults: &[Fault]) 
 
 /// Frames that are left after some of their rows, refused calls among them.
 fn unfinished(case: u64) -> Sequence {
-    let mut sequence = refused_between("not finished", case, 3, &FAULTS);
+    let mut sequence = refused_between("not finished", case, 3, settings, &FAULTS);
     let keep = 1 + sequence.calls.len() / 2;
     sequence.calls.truncate(keep);
     if sequence.calls.iter().map(|call| call.state.done).max() >= Some(sequence.opening.h) {
@@ -429,16 +490,57 @@ fn no_call_made(case: u64) -> Sequence {
     let rows = random.from(1, h - done);
     calls.push(band(&mut random, &request, &held, done, rows));
     calls[1].why = "any rows done";
-    let mut other = band(&mut random, &request, &held, odd, 1);
-    other.state.settings = Settings {
+    let mut changed = band(&mut random, &request, &held, odd, 1);
+    changed.state.settings = Settings {
         channels: settings.channels,
         sampling: settings.sampling,
         ..self::settings(&mut random, case + 1 + case / 7)
     };
-    other.why = "other range, matrix and transfer";
-    calls.push(other);
+    changed.why = "other range, matrix and transfer";
+    calls.push(changed);
     Sequence {
         group: "no call made",
+        opening: opening(&request),
+        calls,
+        held,
+        whole: None,
+    }
+}
+
+/// Accepted calls on states with the other rounding, which no call made: over rows that were done,
+/// and over rows that are then done again as the opening has them.
+fn other_rounding(case: u64) -> Sequence {
+    let mut random = Random::new(SEED, 40, case);
+    let settings = Settings {
+        rounding: if case % 2 == 0 {
+            TableRounding::Nearest
+        } else {
+            TableRounding::Truncated
+        },
+        ..nearest(&mut random, 5 * case)
+    };
+    let h = random.from(4, 9);
+    let (mut request, held) = frame(&mut random, settings, h);
+    // Noise, which tells one rounding from the other almost anywhere.
+    request.lent[0] = random.bytes(request.lent[0].len());
+    // Two rows finish a chroma row in either sampling.
+    let first = random.from(2, h - 2);
+    let mut calls = Vec::new();
+    for (done, rows, why, is_other) in [
+        (0, first, "", false),
+        (0, first, "other rounding, rows done", true),
+        (first, h - first, "other rounding", true),
+        (first, h - first, "rows done again", false),
+    ] {
+        let mut call = band(&mut random, &request, &held, done, rows);
+        if is_other {
+            call.state.settings.rounding = other(settings.rounding);
+        }
+        call.why = why;
+        calls.push(call);
+    }
+    Sequence {
+        group: "other rounding",
         opening: opening(&request),
         calls,
         held,

@@ -2,8 +2,8 @@
 
 use crate::request::{BandRequest, FrameRequest, Input, Lent, Run, Shape, shapes};
 use model::{
-    Settings, SharpYuvGammaTransfer, YuvChromaSubsampling, YuvRange, YuvSourceChannels,
-    YuvStandardMatrix,
+    Settings, SharpYuvGammaTransfer, TableRounding, YuvChromaSubsampling, YuvRange,
+    YuvSourceChannels, YuvStandardMatrix,
 };
 
 /// Sizes to try instead of n, the smallest first.
@@ -35,6 +35,10 @@ fn plainer(settings: &Settings) -> Vec<Settings> {
         },
         Settings {
             transfer: SharpYuvGammaTransfer::Srgb,
+            ..s
+        },
+        Settings {
+            rounding: TableRounding::Truncated,
             ..s
         },
     ];

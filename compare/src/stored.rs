@@ -2,7 +2,7 @@
 //! first, and buffers as blocks; and the digest of a buffer that a call left. vectors/README.md has
 //! it field by field.
 
-use model::settings::{channels_of, matrix_of, range_of, sampling_of, transfer_of};
+use model::settings::{channels_of, matrix_of, range_of, rounding_of, sampling_of, transfer_of};
 use model::{Settings, YuvStandardMatrix};
 
 #[derive(Default)]
@@ -29,8 +29,8 @@ impl Stored {
         self.numbers(&lengths.map(|length| length as u32));
     }
 
-    /// The code of each setting, and after that of the matrix the bits of kr and kb, both 0 where it
-    /// is not Custom.
+    /// The code of each setting but the rounding, and after that of the matrix the bits of kr and kb,
+    /// both 0 where it is not Custom.
     fn settings(&mut self, settings: &Settings) {
         let (kr, kb) = match settings.matrix {
             YuvStandardMatrix::Custom(kr, kb) => (kr, kb),
@@ -48,11 +48,13 @@ impl Stored {
         ]);
     }
 
-    /// Width, height, settings, strides of Y, U, V.
+    /// Width, height, settings, strides of Y, U, V, and last the rounding.
     pub fn frame(&mut self, w: u32, h: u32, settings: &Settings, strides: [u32; 3]) {
         self.numbers(&[w, h]);
         self.settings(settings);
         self.numbers(&strides);
+        let rounding = code(settings.rounding, rounding_of);
+        self.numbers(&[rounding.expect("a code for every rounding")]);
     }
 
     /// The number of bytes of the block, then these.

@@ -3,10 +3,10 @@
 
 use crate::calls::{Call, calls};
 use crate::check::{Converters, checked, frame_of};
-use crate::mistakes::{MISTAKES, Mistake, convert};
+use crate::mistakes::{MISTAKES, Mistake, TABLE_MISTAKES, convert};
 use crate::request::{FrameRequest, Lent, answer_text, frame_combination, frame_text};
 use crate::stored::{Stored, digest};
-use model::{Answer, Frame};
+use model::{Answer, Frame, TableRounding};
 use std::collections::{BTreeMap, BTreeSet};
 use std::fmt::Write;
 use std::path::Path;
@@ -82,14 +82,27 @@ fn complete(vectors: &[Vector]) -> Result<(), String> {
         let text = frame_combination(frame);
         text[..text.len() - 4].to_string()
     };
+    let truncated: BTreeSet<String> = (accepted.iter())
+        .filter(|frame| frame.settings.rounding == TableRounding::Truncated)
+        .map(|frame| settings(frame))
+        .collect();
+    let roundings = |frame: &Frame| {
+        let s = &frame.settings;
+        let way = (s.channels, s.sampling, s.transfer, s.rounding);
+        format!("{way:?}")
+    };
     let parities = |frame: &Frame| {
         let (channels, sampling) = (frame.settings.channels, frame.settings.sampling);
         format!("{channels:?} {sampling:?} {} {}", frame.w % 2, frame.h % 2)
     };
     for (has, what) in [
         (
-            combinations(&settings) == 448,
-            "every combination of the settings",
+            truncated.len() == 448,
+            "every combination of the settings with truncated tables",
+        ),
+        (
+            combinations(&roundings) == 64,
+            "each rounding with every order, sampling and transfer",
         ),
         (
             combinations(&parities) == 32,
@@ -130,7 +143,7 @@ fn mistake_lines(vectors: &[Vector]) -> Result<Vec<String>, String> {
         ));
     }
     let mut lines = Vec::new();
-    for (mistake, name) in MISTAKES {
+    for (mistake, name) in MISTAKES.into_iter().chain(TABLE_MISTAKES) {
         let places = caught(mistake);
         let made = (vectors.iter().zip(1..)).find(|(vector, _)| vector.call.why == name);
         let place = made.map_or(0, |(_, place)| place);
@@ -212,13 +225,14 @@ fn index(vectors: &[Vector], bytes: usize) -> String {
         let what = [vector.call.group, &vector.call.why].join(": ");
         let _ = writeln!(
             text,
-            "{place} | {} | {w} x {h} {:?} {:?} {:?} {:?} {:?} | {} | {} | {} {}",
+            "{place} | {} | {w} x {h} {:?} {:?} {:?} {:?} {:?} {:?} | {} | {} | {} {}",
             what.trim_end_matches(": "),
             settings.channels,
             settings.sampling,
             settings.range,
             settings.matrix,
             settings.transfer,
+            settings.rounding,
             words(request.strides().map(|stride| stride as usize)),
             words(request.lent.each_ref().map(Vec::len)),
             answer_text(&vector.answer),

@@ -1,4 +1,4 @@
-//! The worked lines of the request, in the model and, where it can answer, in the
+//! The worked lines of the requests, in the model and, where it can answer, in the
 //! oracle.
 
 use crate::check::{Converters, frame_of};
@@ -7,8 +7,8 @@ use model::curves::{gamma_entry, linear_entry, tables};
 use model::matrix::{Weights, weights};
 use model::row::{chroma, interpolate};
 use model::{
-    Frame, Settings, SharpYuvGammaTransfer, YuvChromaSubsampling, YuvRange, YuvSourceChannels,
-    YuvStandardMatrix,
+    Frame, Settings, SharpYuvGammaTransfer, TableRounding, YuvChromaSubsampling, YuvRange,
+    YuvSourceChannels, YuvStandardMatrix,
 };
 
 const TRANSFERS: [SharpYuvGammaTransfer; 4] = [
@@ -20,6 +20,8 @@ const TRANSFERS: [SharpYuvGammaTransfer; 4] = [
 
 const SAMPLINGS: [YuvChromaSubsampling; 2] =
     [YuvChromaSubsampling::Yuv420, YuvChromaSubsampling::Yuv422];
+
+const ROUNDINGS: [TableRounding; 2] = [TableRounding::Truncated, TableRounding::Nearest];
 
 /// Counts the lines that hold and says which do not.
 struct Lines {
@@ -46,8 +48,10 @@ pub fn check(converters: &Converters) -> Result<u64, Vec<String>> {
     };
     colours(&mut lines, converters);
     entries(&mut lines);
+    nearest_entries(&mut lines);
     matrices(&mut lines);
     neighbours(&mut lines, converters);
+    tens(&mut lines, converters);
     limits(&mut lines, converters);
     let input = [1, 0, 1, 0, 0, 1, 1, 0, 0, 0xff, 0, 0];
     for converter in converters {
@@ -101,18 +105,29 @@ pub fn bt601(range: YuvRange) -> Settings {
         range,
         matrix: YuvStandardMatrix::Bt601,
         transfer: SharpYuvGammaTransfer::Srgb,
+        rounding: TableRounding::Truncated,
     }
+}
+
+/// Every sampling with the tables of every transfer and rounding.
+fn sampled_tables()
+-> impl Iterator<Item = (YuvChromaSubsampling, SharpYuvGammaTransfer, TableRounding)> {
+    let tables = || TRANSFERS.iter().flat_map(|t| ROUNDINGS.map(|r| (*t, r)));
+    SAMPLINGS
+        .into_iter()
+        .flat_map(move |sampling| tables().map(move |(t, r)| (sampling, t, r)))
 }
 
 /// Red, green, black and white; what a line does not name, in every way.
 fn colours(lines: &mut Lines, converters: &Converters) {
     use YuvSourceChannels::*;
     for channels in [Rgb, Rgba, Bgra, Bgr] {
-        for (sampling, transfer) in SAMPLINGS.iter().flat_map(|s| TRANSFERS.map(|t| (*s, t))) {
+        for (sampling, transfer, rounding) in sampled_tables() {
             let with = |range| Settings {
                 channels,
                 sampling,
                 transfer,
+                rounding,
                 ..bt601(range)
             };
             for converter in converters {
@@ -142,10 +157,11 @@ fn colours(lines: &mut Lines, converters: &Converters) {
     }
 }
 
-/// Table entries, in the model and in the unaltered Rust: none of those named here differs. The
-/// oracle has its tables from the model, so all entries are held to the unaltered Rust's as well,
-/// which has them from f32 arithmetic: few may differ, and by 1.
+/// Truncated table entries, in the model and in the unaltered Rust: none of those named here
+/// differs. The oracle has its tables from the model, so all entries are held to the unaltered
+/// Rust's as well, which has them from f32 arithmetic: few may differ, and by 1.
 fn entries(lines: &mut Lines) {
+    let truncated = TableRounding::Truncated;
     let [srgb, rec709, gamma2p2, _] = TRANSFERS;
     for (transfer, v, n) in [
         (srgb, 1, 19),
@@ -155,7 +171,7 @@ fn entries(lines: &mut Lines) {
         (gamma2p2, 254, 64_970),
     ] {
         let line = format!("{transfer:?} linear {v}");
-        lines.equal(&line, linear_entry(transfer, v), n);
+        lines.equal(&line, linear_entry(transfer, truncated, v), n);
         let rust = oracle::unaltered::tables(transfer);
         lines.equal(&line, rust.linear[usize::from(v)], n);
     }
@@ -166,7 +182,7 @@ fn entries(lines: &mut Lines) {
         (rec709, 1_183, 20),
     ] {
         let line = format!("{transfer:?} gamma {i}");
-        lines.equal(&line, gamma_entry(transfer, i), k);
+        lines.equal(&line, gamma_entry(transfer, truncated, i), k);
         let rust = oracle::unaltered::tables(transfer);
         lines.equal(&line, rust.gamma[usize::from(i)], k);
     }
@@ -176,6 +192,72 @@ fn entries(lines: &mut Lines) {
         .all(|entry| entry.rust.abs_diff(entry.exact) == 1);
     let line = format!("{} entries unlike the unaltered Rust's", differing.len());
     lines.equal(&line, near && differing.len() <= 50, true);
+}
+
+/// Nearest table entries, in the model: the worked ones, and the two whose exact halves go upward.
+/// All are held to f64 arithmetic as well.
+fn nearest_entries(lines: &mut Lines) {
+    let nearest = TableRounding::Nearest;
+    let [srgb, rec709, gamma2p2, _] = TRANSFERS;
+    for (transfer, v, n) in [
+        (srgb, 1, 20),
+        (srgb, 10, 199),
+        (srgb, 255, 65_535),
+        (rec709, 20, 1_142),
+        (gamma2p2, 254, 64_971),
+    ] {
+        let line = format!("{transfer:?} Nearest linear {v}");
+        lines.equal(&line, linear_entry(transfer, nearest, v), n);
+    }
+    for (transfer, i, k) in [
+        (srgb, 199, 10),
+        (rec709, 256, 4),
+        (rec709, 257, 5),
+        (rec709, 770, 13),
+        (rec709, 771, 14),
+        (rec709, 1_142, 20),
+    ] {
+        let line = format!("{transfer:?} Nearest gamma {i}");
+        lines.equal(&line, gamma_entry(transfer, nearest, i), k);
+    }
+    for transfer in TRANSFERS {
+        let exact = tables(transfer, nearest);
+        let (linear, gamma) = nearest_by_f64(transfer);
+        let line = format!("{transfer:?} Nearest by f64 arithmetic");
+        lines.equal(&line, exact.linear == linear, true);
+        lines.equal(&line, exact.gamma == gamma, true);
+    }
+}
+
+/// Both tables as f64 arithmetic has them: it is exact at the halves that occur and near enough at
+/// all else.
+fn nearest_by_f64(transfer: SharpYuvGammaTransfer) -> (Vec<u16>, Vec<u8>) {
+    let [slope, break_at, scale, power] = match transfer {
+        SharpYuvGammaTransfer::Srgb => [12.92, 0.003041282560128, 1.055010718947587, 2.4],
+        SharpYuvGammaTransfer::Rec709 => [4.5, 0.018053968510807, 1.099296826809442, 20.0 / 9.0],
+        SharpYuvGammaTransfer::Gamma2p2 => [1.0, 0.0, 1.0, 2.2],
+        SharpYuvGammaTransfer::Gamma2p8 => [1.0, 0.0, 1.0, 2.8],
+    };
+    let linearize = |x: f64| {
+        if x < slope * break_at {
+            x / slope
+        } else {
+            ((x + (scale - 1.0)) / scale).powf(power)
+        }
+    };
+    let gamma = |x: f64| {
+        if x < break_at {
+            x * slope
+        } else {
+            scale * x.powf(1.0 / power) - (scale - 1.0)
+        }
+    };
+    let linear_entry = |v: u32| (linearize(f64::from(v) / 255.0) * 65_535.0).round() as u16;
+    let gamma_entry = |i: u32| (gamma(f64::from(i) / 65_535.0) * 255.0).round() as u8;
+    (
+        (0..=255).map(linear_entry).collect(),
+        (0..=65_535).map(gamma_entry).collect(),
+    )
 }
 
 /// Fcc Full, pairs whose weights are exact halves before rounding, and that the stored sets, Fcc
@@ -225,7 +307,7 @@ fn neighbours(lines: &mut Lines, converters: &Converters) {
     lines.equal("weight 9", nine, 36_863);
     lines.equal("weight 12", twelve, 49_151);
     let [yuv420, yuv422] = SAMPLINGS;
-    for transfer in TRANSFERS {
+    for (transfer, rounding) in TRANSFERS.iter().flat_map(|t| ROUNDINGS.map(|r| (*t, r))) {
         for (sampling, w, h, index) in [
             (yuv420, 2, 2, 36_863),
             (yuv420, 1, 2, 49_151),
@@ -234,9 +316,10 @@ fn neighbours(lines: &mut Lines, converters: &Converters) {
             let settings = Settings {
                 sampling,
                 transfer,
+                rounding,
                 ..bt601(YuvRange::Full)
             };
-            let red = i64::from(tables(transfer).gamma[index]);
+            let red = i64::from(tables(transfer, rounding).gamma[index]);
             let weights = weights(settings.matrix, settings.range);
             let (u, v) = chroma(&weights, settings.range, [red, 0, 0]);
             let first = |row, column| {
@@ -248,11 +331,50 @@ fn neighbours(lines: &mut Lines, converters: &Converters) {
             };
             for converter in converters {
                 let (_, after) = frame_of(&**converter, &painted(w, h, settings, first));
-                let line = format!("red beside black, {transfer:?}, {}", converter.name());
+                let line = format!("red beside black, {settings:?}, {}", converter.name());
                 lines.equal(&line, (after.lent[2][0], after.lent[3][0]), (u, v));
             }
         }
     }
+}
+
+/// A flat red of 10 under Srgb: by truncated tables its chroma is that of 9, by nearest ones its own.
+fn tens(lines: &mut Lines, converters: &Converters) {
+    let [yuv420, yuv422] = SAMPLINGS;
+    for (rounding, v) in ROUNDINGS.into_iter().zip([132, 133]) {
+        for (sampling, w, h) in [(yuv420, 1, 1), (yuv420, 2, 2), (yuv422, 2, 1)] {
+            let settings = Settings {
+                sampling,
+                rounding,
+                ..bt601(YuvRange::Full)
+            };
+            for converter in converters {
+                let request = painted(w, h, settings, |_, _| [10, 0, 0]);
+                let (_, after) = frame_of(&**converter, &request);
+                let line = format!("a red of 10, {settings:?}, {}", converter.name());
+                lines.equal(&line, hex(&after.lent[3]), hex(&[v]));
+            }
+        }
+    }
+}
+
+/// A line for each transfer and rounding: how many values of a channel that is the same in all
+/// pixels both tables bring back, and how far off the others are at most. Equal linear values are
+/// interpolated to themselves.
+pub fn flat_colours() -> String {
+    let mut text =
+        "| transfer | rounding | come back, of 256 | farthest |\n|---|---|---|---|".to_string();
+    for (transfer, rounding) in TRANSFERS.iter().flat_map(|t| ROUNDINGS.map(|r| (*t, r))) {
+        let exact = tables(transfer, rounding);
+        let off = |v: u8| {
+            let linear = exact.linear[usize::from(v)];
+            exact.gamma[usize::from(linear)].abs_diff(v)
+        };
+        let back = (0..=255).filter(|v| off(*v) == 0).count();
+        let farthest = (0..=255).map(off).max().unwrap_or(0);
+        text += &format!("\n| {transfer:?} | {rounding:?} | {back} | {farthest} |");
+    }
+    text
 }
 
 /// The lines that are not starred, on every converter that has the answer.

@@ -23,6 +23,6 @@ pub use frame::{Frame, frame};
 pub use program::program;
 pub use refusals::{Answer, Refusal};
 pub use settings::{
-    Settings, SharpYuvGammaTransfer, YuvChromaSubsampling, YuvRange, YuvSourceChannels,
-    YuvStandardMatrix,
+    Settings, SharpYuvGammaTransfer, TableRounding, YuvChromaSubsampling, YuvRange,
+    YuvSourceChannels, YuvStandardMatrix,
 };

@@ -3,8 +3,8 @@
 use crate::frame::{Frame, frame};
 use crate::refusals::{Refusal, refuse_if};
 use crate::settings::{
-    Settings, channels_of, chroma_height, chroma_width, matrix_of, range_of, sampling_of,
-    transfer_of,
+    Settings, TableRounding, channels_of, chroma_height, chroma_width, matrix_of, range_of,
+    sampling_of, transfer_of,
 };
 
 const HEADER: usize = 9;
@@ -57,6 +57,8 @@ fn read(input: &[u8]) -> Option<(u16, u16, Settings, &[u8])> {
         range: range_of(header[6])?,
         matrix: matrix_of(header[7])?,
         transfer: transfer_of(header[8])?,
+        // The header has no code for it.
+        rounding: TableRounding::Truncated,
     };
     let w = u16::from_le_bytes([header[0], header[1]]);
     let h = u16::from_le_bytes([header[2], header[3]]);

@@ -42,7 +42,7 @@ impl Rules {
         Rules {
             weights: weights(settings.matrix, settings.range),
             range: settings.range,
-            tables: tables(settings.transfer),
+            tables: tables(settings.transfer, settings.rounding),
         }
     }
 

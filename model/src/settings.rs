@@ -41,6 +41,14 @@ pub enum SharpYuvGammaTransfer {
     Gamma2p8,
 }
 
+/// How the entries of both curve tables are taken from the curve.
+#[derive(Clone, Copy, Debug, PartialEq)]
+pub enum TableRounding {
+    Truncated,
+    /// Halves upward.
+    Nearest,
+}
+
 /// RULES 1.2.
 #[derive(Clone, Copy, Debug, PartialEq)]
 pub struct Settings {
@@ -49,6 +57,7 @@ pub struct Settings {
     pub range: YuvRange,
     pub matrix: YuvStandardMatrix,
     pub transfer: SharpYuvGammaTransfer,
+    pub rounding: TableRounding,
 }
 
 impl YuvSourceChannels {
@@ -114,6 +123,16 @@ impl YuvRange {
     }
 }
 
+impl TableRounding {
+    /// RULES 3.4, 3.5: o, what an entry is lessened by before it is compared, in halves.
+    pub fn halves(self) -> u64 {
+        match self {
+            TableRounding::Truncated => 0,
+            TableRounding::Nearest => 1,
+        }
+    }
+}
+
 // RULES 1.2, 9.1: the meaning of the code bytes. None: a code byte without a meaning.
 
 pub fn channels_of(code: u8) -> Option<YuvSourceChannels> {
@@ -160,6 +179,14 @@ pub fn transfer_of(code: u8) -> Option<SharpYuvGammaTransfer> {
         1 => Some(SharpYuvGammaTransfer::Rec709),
         2 => Some(SharpYuvGammaTransfer::Gamma2p2),
         3 => Some(SharpYuvGammaTransfer::Gamma2p8),
+        _ => None,
+    }
+}
+
+pub fn rounding_of(code: u8) -> Option<TableRounding> {
+    match code {
+        0 => Some(TableRounding::Truncated),
+        1 => Some(TableRounding::Nearest),
         _ => None,
     }
 }

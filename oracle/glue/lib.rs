@@ -23,13 +23,19 @@ pub fn built_forward_transform(
     built_coefficients::get_built_forward_transform(13, 8, range, matrix)
 }
 
-/// The tables that one copy takes instead of filling its own.
+/// The tables that two of the copies take instead of filling their own.
 #[cfg(exact_tables)]
 pub(crate) fn exact_tables(transfer: SharpYuvGammaTransfer) -> &'static model::curves::Tables {
-    model::curves::tables(match transfer {
+    let transfer = match transfer {
         SharpYuvGammaTransfer::Srgb => model::SharpYuvGammaTransfer::Srgb,
         SharpYuvGammaTransfer::Rec709 => model::SharpYuvGammaTransfer::Rec709,
         SharpYuvGammaTransfer::Gamma2p2 => model::SharpYuvGammaTransfer::Gamma2p2,
         SharpYuvGammaTransfer::Gamma2p8 => model::SharpYuvGammaTransfer::Gamma2p8,
-    })
+    };
+    let rounding = if cfg!(nearest) {
+        model::TableRounding::Nearest
+    } else {
+        model::TableRounding::Truncated
+    };
+    model::curves::tables(transfer, rounding)
 }

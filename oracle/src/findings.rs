@@ -2,8 +2,8 @@
 //! it, and prints what it does. The lists of docs/DIFFERENCES.md are this program's.
 
 use model::{
-    Frame, Settings, SharpYuvGammaTransfer, YuvChromaSubsampling, YuvRange, YuvSourceChannels,
-    YuvStandardMatrix,
+    Frame, Settings, SharpYuvGammaTransfer, TableRounding, YuvChromaSubsampling, YuvRange,
+    YuvSourceChannels, YuvStandardMatrix,
 };
 use oracle::unaltered;
 use std::panic::{AssertUnwindSafe, catch_unwind};
@@ -30,6 +30,7 @@ fn frame(w: u32, h: u32, sampling: YuvChromaSubsampling, strides: [u32; 4]) -> F
             range: YuvRange::Full,
             matrix: YuvStandardMatrix::Bt601,
             transfer: SharpYuvGammaTransfer::Srgb,
+            rounding: TableRounding::Truncated,
         },
         source_stride: strides[0],
         y_stride: strides[1],
@@ -69,7 +70,7 @@ fn table_entries() {
 
 /// One pixel, or two above each other, that differ in one channel at most.
 fn frame_showing(entry: &oracle::Entry) -> Option<(Frame, Vec<u8>)> {
-    let exact = model::curves::tables(entry.transfer);
+    let exact = model::curves::tables(entry.transfer, TableRounding::Truncated);
     let rust = unaltered::tables(entry.transfer);
     let weights = unaltered::weights(YuvStandardMatrix::Bt601, YuvRange::Full, true);
     let index = |tables: &model::curves::Tables, a: u8, b: u8| {

@@ -1,9 +1,10 @@
-//! Calls the two copies of the Rust with the model's types.
+//! Calls the three copies of the Rust with the model's types.
 #![forbid(unsafe_code)]
 
-use model::{Refusal, SharpYuvGammaTransfer};
+use model::{Refusal, SharpYuvGammaTransfer, TableRounding};
 
-/// A table entry of the unaltered Rust that is not the exact one.
+/// A table entry of the unaltered Rust that is not the exact one. The Rust truncates, and so does
+/// what it is held to.
 #[derive(Clone, Copy, Debug)]
 pub struct Entry {
     pub transfer: SharpYuvGammaTransfer,
@@ -19,7 +20,8 @@ pub fn differing_entries() -> (Vec<Entry>, usize) {
     let mut entries = Vec::new();
     let mut compared = 0;
     for transfer in [Srgb, Rec709, Gamma2p2, Gamma2p8] {
-        let (exact, rust) = (model::curves::tables(transfer), unaltered::tables(transfer));
+        let exact = model::curves::tables(transfer, TableRounding::Truncated);
+        let rust = unaltered::tables(transfer);
         let wide = |bytes: &[u8]| -> Vec<u16> { bytes.iter().map(|b| u16::from(*b)).collect() };
         for (table, rust, exact) in [
             ("linear", rust.linear, exact.linear.clone()),
@@ -162,7 +164,8 @@ macro_rules! calls_of {
                 }
             }
 
-            /// The Rust's function for this channel order and sampling, on the lent buffers.
+            /// The Rust's function for this channel order and sampling, on the lent buffers. It
+            /// knows no rounding: its copy has one.
             pub fn frame(
                 frame: &model::Frame,
                 source: &[u8],
@@ -271,5 +274,29 @@ macro_rules! calls_of {
     };
 }
 
-calls_of!(exact, yuvutils_exact);
 calls_of!(unaltered, yuvutils_unaltered);
+calls_of!(truncated, yuvutils_truncated);
+calls_of!(nearest, yuvutils_nearest);
+
+/// The Rust over the exact tables that the frame chooses.
+pub mod exact {
+    use super::{RustError, nearest, truncated};
+    use model::TableRounding;
+
+    pub fn frame(
+        frame: &model::Frame,
+        source: &[u8],
+        y: &mut [u8],
+        u: &mut [u8],
+        v: &mut [u8],
+    ) -> Result<(), RustError> {
+        let call = match frame.settings.rounding {
+            TableRounding::Truncated => truncated::frame,
+            TableRounding::Nearest => nearest::frame,
+        };
+        call(frame, source, y, u, v)
+    }
+
+    // Neither looks at a table, so one copy will do.
+    pub use truncated::{u_passes, weights};
+}
