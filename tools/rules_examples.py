@@ -2,11 +2,12 @@
 """Work out the examples of docs/RULES.md: every block of it that starts with the word Example.
 
 It is a second reading of the rules, in plain Python and exact numbers, that shares nothing with the proved code. The constants are
-read out of the tables of docs/RULES.md itself (rules 1.4, 3.1, 4.1, 4.3), so that an example follows from the text and from nothing else.
+read out of the tables of docs/RULES.md itself (rules 1.2 to 1.4, 3.1, 4.1, 4.3), so that an example follows from the text and from nothing else.
 
     tools/rules_examples.py           write the blocks
     tools/rules_examples.py --check   say which blocks are not what the rules give, and which rules have none; fail if any
 """
+import functools
 import re
 import struct
 import sys
@@ -46,6 +47,8 @@ class Curve:
 
 
 CURVES = {row[0]: Curve(row) for row in table('3.1')}
+HALVES = {'Truncated': 0, 'Nearest': 1}  # o of rules 3.4 and 3.5
+assert CODES['rounding'] == list(HALVES)
 NAMES = ['yr', 'yg', 'yb', 'cb_r', 'cb_g', 'cb_b', 'cr_r', 'cr_g', 'cr_b']
 
 
@@ -63,48 +66,78 @@ def largest(top, passes):
     return low
 
 
-def linear_straight(c, v):
-    return v * D * D < 255 * c.slope * c.brk
+class EntryRule:
+    """What 3.4 and 3.5 have in common: an entry, from 0 to `top`, for each place of a table, from 0 to `last`. o is that of the rounding."""
+
+    def by_part(self, c, o, at):
+        """An entry by the second or third line of its rule."""
+        if self.straight(c, at):
+            scaled, half, by = self.quotient(c, o, at)
+            return (scaled + half) // by
+        right = self.right(c, at)
+        return largest(self.top, lambda entry: self.left(c, o, entry) <= right)
+
+    def table(self, c, o):
+        return [0, *(self.by_part(c, o, at) for at in range(1, self.last)), self.top]
+
+    def is_exact(self, c, o, at, entry):
+        """Whether an entry, less o halves, is exactly the curve scaled to the table."""
+        if self.straight(c, at):
+            scaled, half, by = self.quotient(c, o, at)
+            return scaled + half == entry * by
+        return self.left(c, o, entry) == self.right(c, at)
+
+    def longest(self):
+        """The lengths in bits of the longest number of a third line and of a second, for any transfer and rounding."""
+        both = [(c, o) for c in CURVES.values() for o in HALVES.values()]
+        powers = [max(self.left(c, o, self.top), self.right(c, self.last - 1)) for c, o in both]
+        quotients = [self.quotient(c, o, at) for c, o in both for at in range(1, self.last) if self.straight(c, at)]
+        return max(powers).bit_length(), max(max(scaled + half, by) for scaled, half, by in quotients).bit_length()
 
 
-def linear_sides(c, v, n):
-    return n ** c.down * (255 * c.scale) ** c.up, (v * D + 255 * c.offset) ** c.up * 65535 ** c.down
+class LinearRule(EntryRule):
+    top, last = 65535, 255
+
+    def straight(self, c, v):
+        return v * D * D < 255 * c.slope * c.brk
+
+    def quotient(self, c, o, v):
+        """What is divided, as two terms, and by what."""
+        return 2 * 65535 * v * D, o * 255 * c.slope, 2 * 255 * c.slope
+
+    def left(self, c, o, n):
+        return (2 * n - o) ** c.down * (255 * c.scale) ** c.up
+
+    def right(self, c, v):
+        return (v * D + 255 * c.offset) ** c.up * (2 * 65535) ** c.down
 
 
-def linear_entry(c, v):
-    if v in (0, 255):
-        return 65535 if v else 0
-    if linear_straight(c, v):
-        return 65535 * v * D // (255 * c.slope)
-    return largest(65535, lambda n: linear_sides(c, v, n)[0] <= linear_sides(c, v, n)[1])
+class GammaRule(EntryRule):
+    top, last = 255, 65535
+
+    def straight(self, c, i):
+        return i * D < 65535 * c.brk
+
+    def quotient(self, c, o, i):
+        return 2 * 255 * i * c.slope, o * 65535 * D, 2 * 65535 * D
+
+    @functools.cache
+    def left(self, c, o, m):
+        return ((2 * m - o) * D + 2 * 255 * c.offset) ** c.up * 65535 ** c.down
+
+    @functools.cache
+    def unit(self, c):
+        return (2 * 255 * c.scale) ** c.up
+
+    def right(self, c, i):
+        return i ** c.down * self.unit(c)
 
 
-def gamma_straight(c, i):
-    return i * D < 65535 * c.brk
+LINEAR_RULE, GAMMA_RULE = LinearRule(), GammaRule()
 
-
-def gamma_sides(c, i, m):
-    return (m * D + 255 * c.offset) ** c.up * 65535 ** c.down, i ** c.down * (255 * c.scale) ** c.up
-
-
-def gamma_table(c):
-    lefts = [gamma_sides(c, 0, m)[0] for m in range(256)]
-    unit = (255 * c.scale) ** c.up
-    entries, m = [0], 0
-    for i in range(1, 65535):
-        if gamma_straight(c, i):
-            entries.append(255 * i * c.slope // (65535 * D))
-            continue
-        right = i ** c.down * unit
-        assert lefts[0] <= right
-        while m < 255 and lefts[m + 1] <= right:
-            m += 1
-        entries.append(m)
-    return entries + [255]
-
-
-LINEAR = {name: [linear_entry(c, v) for v in range(256)] for name, c in CURVES.items()}
-GAMMA = {name: gamma_table(c) for name, c in CURVES.items()}
+# by transfer and rounding
+LINEAR = {(name, rounding): LINEAR_RULE.table(c, o) for name, c in CURVES.items() for rounding, o in HALVES.items()}
+GAMMA = {(name, rounding): GAMMA_RULE.table(c, o) for name, c in CURVES.items() for rounding, o in HALVES.items()}
 
 
 # ---- chapter 4
@@ -164,11 +197,11 @@ def weights(matrix, range_, kr=None, kb=None):
 # ---- chapters 5 and 6
 
 class Settings:
-    def __init__(self, order='Rgb', sampling='4:2:0', range_='Limited', matrix='Bt601', transfer='Srgb', kr=None, kb=None):
-        self.order, self.sampling, self.range_, self.matrix, self.transfer, self.kr, self.kb = order, sampling, range_, matrix, transfer, kr, kb
+    def __init__(self, order='Rgb', sampling='4:2:0', range_='Limited', matrix='Bt601', transfer='Srgb', rounding='Truncated', kr=None, kb=None):
+        self.order, self.sampling, self.range_, self.matrix, self.kr, self.kb = order, sampling, range_, matrix, kr, kb
         self.c, self.places = ORDERS[order]
         self.by, self.ry, self.ruv = RANGES[range_]
-        self.linear, self.gamma = LINEAR[transfer], GAMMA[transfer]
+        self.linear, self.gamma = LINEAR[transfer, rounding], GAMMA[transfer, rounding]
 
     def weigh(self):
         self.w = weights(self.matrix, self.range_, self.kr, self.kb)
@@ -377,7 +410,7 @@ def _():
 
 @example('1.2')
 def _():
-    for codes in ((0, 0, 0, 0, 0), (2, 1, 1, 5, 2)):
+    for codes in ((0, 0, 0, 0, 0, 0), (2, 1, 1, 5, 2, 1)):
         yield f'codes {numbers(codes)}: ' + ', '.join(values[code] for code, values in zip(codes, CODES.values()))
 
 
@@ -477,7 +510,7 @@ def _():
     for name in ('Srgb', 'Rec709'):
         c = CURVES[name]
         bound = 255 * c.slope * c.brk
-        last = max(v for v in range(1, 255) if linear_straight(c, v))
+        last = max(v for v in range(1, 255) if LINEAR_RULE.straight(c, v))
         for v in (last, last + 1):
             left = v * D * D
             yield f'{name}, v {v}: {left} {"<" if left < bound else "≥"} {bound}, so v {v} is in the {"straight" if left < bound else "curved"} part'
@@ -491,7 +524,7 @@ def _():
     for name in ('Srgb', 'Rec709'):
         c = CURVES[name]
         bound = 65535 * c.brk
-        last = max(i for i in range(1, 65535) if gamma_straight(c, i))
+        last = max(i for i in range(1, 65535) if GAMMA_RULE.straight(c, i))
         for i in (last, last + 1):
             left = i * D
             yield f'{name}, i {i}: {left} {"<" if left < bound else "≥"} {bound}, so i {i} is in the {"straight" if left < bound else "curved"} part'
@@ -512,49 +545,80 @@ def sides(left, right):
     return f'{a[:12]}.. ({len(a)} digits) {"≤" if left <= right else ">"} {b[:12]}.. ({len(b)} digits)'
 
 
+def straight_line(rule, entries, name, rounding, letter, at):
+    """An entry of a straight part, by its quotient."""
+    scaled, half, by = rule.quotient(CURVES[name], HALVES[rounding], at)
+    return f'{name}, {rounding}, {letter} {at}, straight: floor(({scaled} + {half}) / {by}) = {entries[name, rounding][at]}'
+
+
+def curved_lines(rule, entries, name, rounding, letters, at):
+    """An entry of a curved part: the last number that passes, and the first that does not."""
+    c, o, entry = CURVES[name], HALVES[rounding], entries[name, rounding][at]
+    for number in (entry, entry + 1):
+        line = f'{name}, {rounding}, {letters[0]} {at}, curved: {letters[1]} {number}: {sides(rule.left(c, o, number), rule.right(c, at))}'
+        yield line + (f', so entry {at} is {entry}' if number > entry else '')
+
+
+def ends_agree(rule):
+    """That the first line of the rule gives what the others would; Truncated exactly."""
+    ends = ((0, 0), (rule.last, rule.top))
+    return (all(rule.by_part(c, o, at) == entry for c in CURVES.values() for o in HALVES.values() for at, entry in ends)
+            and all(rule.is_exact(c, 0, at, entry) for c in CURVES.values() for at, entry in ends))
+
+
+def exact_halves(rule, entries):
+    """Where the curve scaled to the table is a whole number and a half."""
+    return [(name, at) for name, c in CURVES.items() for at, entry in enumerate(entries[name, 'Nearest']) if rule.is_exact(c, 1, at, entry)]
+
+
 @example('3.4')
 def _():
     for name, v in (('Srgb', 1), ('Srgb', 10), ('Rec709', 20)):
-        c = CURVES[name]
-        top, below = 65535 * v * D, 255 * c.slope
-        yield f'{name}, v {v}, straight: floor({top} / {below}) = {LINEAR[name][v]}'
+        for rounding in HALVES:
+            yield straight_line(LINEAR_RULE, LINEAR, name, rounding, 'v', v)
+    for name, v in (('Srgb', 42), ('Rec709', 228)):
+        for rounding in HALVES:
+            yield from curved_lines(LINEAR_RULE, LINEAR, name, rounding, 'vn', v)
     for name, v in (('Srgb', 160), ('Gamma2p2', 254), ('Gamma2p8', 205)):
-        n = LINEAR[name][v]
-        for m in (n, n + 1):
-            yield f'{name}, v {v}, curved: n {m}: {sides(*linear_sides(CURVES[name], v, m))}' + (f', so entry {v} is {n}' if m > n else '')
-    yield f'Srgb, v 255: {LINEAR["Srgb"][255]}'
-    for v in (0, 255):
-        for name, c in CURVES.items():
-            n = LINEAR[name][v]
-            left, right = (n * 255 * c.slope, 65535 * v * D) if linear_straight(c, v) else linear_sides(c, v, n)
-            assert left == right
-    yield 'every transfer, v 0 by the second or third line: n 0 exactly; v 255 by the third: n 65535 exactly, both sides equal'
-    c = CURVES['Srgb']
-    nearest = (2 * 65535 * 10 * D + 255 * c.slope) // (2 * 255 * c.slope)
-    yield f'wrong, rounded to the nearest: Srgb, v 10: {nearest}, whose gamma entry is {GAMMA["Srgb"][nearest]}'
-    most = max(max(x.bit_length() for x in linear_sides(c, 254, 65535)) for c in CURVES.values())
-    short = max(max(65535 * v * D, 255 * c.slope).bit_length() for c in CURVES.values() for v in range(1, 255) if linear_straight(c, v))
-    yield f'the longest of these numbers, for any transfer and v, has {most} bits, in straight parts {short}'
+        yield from curved_lines(LINEAR_RULE, LINEAR, name, 'Truncated', 'vn', v)
+    assert ends_agree(LINEAR_RULE) and not exact_halves(LINEAR_RULE, LINEAR)
+    yield 'every transfer and rounding, v 0 by the second or third line: n 0; v 255 by the third: n 65535; Truncated, both exactly'
+    yield 'every transfer: the curve times 65535 is a whole number and a half at no v'
+    most, short = LINEAR_RULE.longest()
+    yield f'the longest of these numbers, for any transfer, rounding, v and n, has {most} bits, in straight parts {short}'
 
 
 @example('3.5')
 def _():
     for name, i in (('Srgb', 198), ('Srgb', 199), ('Rec709', 514), ('Rec709', 1142), ('Rec709', 1183)):
-        c = CURVES[name]
-        yield f'{name}, i {i}, straight: floor({255 * i * c.slope} / {65535 * D}) = {GAMMA[name][i]}'
+        yield straight_line(GAMMA_RULE, GAMMA, name, 'Truncated', 'i', i)
+    for name, i in (('Srgb', 198), ('Srgb', 199)):
+        yield straight_line(GAMMA_RULE, GAMMA, name, 'Nearest', 'i', i)
+    for name, i in exact_halves(GAMMA_RULE, GAMMA):
+        scaled, half, by = GAMMA_RULE.quotient(CURVES[name], 1, i)
+        yield straight_line(GAMMA_RULE, GAMMA, name, 'Nearest', 'i', i) + f' exactly; wrong, halves downward: {(scaled + half - 1) // by}'
+    yield 'every transfer: the inverse times 255 is a whole number and a half at no other i'
     for name, i in (('Srgb', 200), ('Srgb', 36863), ('Gamma2p2', 22231)):
-        m = GAMMA[name][i]
-        for k in (m, m + 1):
-            yield f'{name}, i {i}, curved: m {k}: {sides(*gamma_sides(CURVES[name], i, k))}' + (f', so entry {i} is {m}' if k > m else '')
-    for i in (0, 65535):
-        for name, c in CURVES.items():
-            m = GAMMA[name][i]
-            left, right = (m * 65535 * D, 255 * i * c.slope) if gamma_straight(c, i) else gamma_sides(c, i, m)
-            assert left == right
-    yield 'every transfer, i 0 by the second or third line: m 0 exactly; i 65535 by the third: m 255 exactly, both sides equal'
-    most = max(max(x.bit_length() for x in gamma_sides(c, 65534, 255)) for c in CURVES.values())
-    short = max(max(255 * i * c.slope, 65535 * D).bit_length() for c in CURVES.values() for i in range(1, 65535) if gamma_straight(c, i))
-    yield f'the longest of these numbers, for any transfer, i and m, has {most} bits, in straight parts {short}'
+        yield from curved_lines(GAMMA_RULE, GAMMA, name, 'Truncated', 'im', i)
+    for name, i in (('Srgb', 16525), ('Gamma2p8', 5248)):
+        for rounding in HALVES:
+            yield from curved_lines(GAMMA_RULE, GAMMA, name, rounding, 'im', i)
+    assert ends_agree(GAMMA_RULE)
+    yield 'every transfer and rounding, i 0 by the second or third line: m 0; i 65535 by the third: m 255; Truncated, both exactly'
+    most, short = GAMMA_RULE.longest()
+    yield f'the longest of these numbers, for any transfer, rounding, i and m, has {most} bits, in straight parts {short}'
+
+
+@example('3.5.1')
+def _():
+    yield 'transfer   ' + '   '.join(HALVES)
+    for name in CURVES:
+        back = [sum(GAMMA[name, rounding][LINEAR[name, rounding][v]] == v for v in range(256)) for rounding in HALVES]
+        yield f'{name:<8}   ' + '   '.join(f'{count:<{len(rounding)}}' for count, rounding in zip(back, HALVES))
+    for name in CURVES:
+        back = [GAMMA[name, 'Nearest'][n] for n in LINEAR[name, 'Nearest']]
+        if back != list(range(256)):
+            yield f'{name}, Nearest, the others: ' + ', '.join(f'{v} gives {back[v]}' for v in range(256) if back[v] != v)
 
 
 @example('4.1')
@@ -698,10 +762,12 @@ def _():
 
 @example('6.2')
 def _():
-    s = Settings()
-    for total, text in ((9 * 65535, '9 × 65535'), (12 * 65535, '12 × 65535'), (16 * LINEAR['Srgb'][10], f'16 × {LINEAR["Srgb"][10]}')):
-        index = (total + 8) // 16
-        yield f'Srgb, sum {text} = {total}: floor({total + 8} / 16) = {index}, gamma entry {s.gamma[index]}'
+    for rounding in HALVES:
+        s = Settings(rounding=rounding)
+        for factor, byte in ((9, 255), (12, 255), (16, 10)):
+            total = factor * s.linear[byte]
+            index = (total + 8) // 16
+            yield f'Srgb, {rounding}, sum {factor} × {s.linear[byte]} = {total}: floor({total + 8} / 16) = {index}, gamma entry {s.gamma[index]}'
 
 
 @example('6.3')
@@ -719,6 +785,11 @@ def _():
     colour = chroma_colour(s, 1, 1, lambda x, r: (10, 10, 10), 0, 0, lines.append)
     yield '1 × 1 pixels, 10 10 10:'
     yield f'  {lines[0]}; chroma colour {numbers(colour)}'
+    yield '1 × 1 pixels, 10 0 0, Bt601, Full, the frame by each rounding:'
+    for rounding in HALVES:
+        lines, rgb = [], (10, 0, 0)
+        colour = chroma_colour(Settings(rounding=rounding), 1, 1, lambda x, r: rgb, 0, 0, lines.append)
+        yield f'  {rounding}: {lines[0]}; chroma colour {numbers(colour)}; Y U V {numbers(one_pixel(rgb, range_="Full", rounding=rounding))}'
 
 
 @example('6.4')
@@ -734,8 +805,6 @@ def _():
     colour = chroma_colour(s, 3, 1, lambda x, r: row[x], 1, 0)
     wrong = tuple(s.gamma[(16 * s.linear[value] + 8) // 16] for value in row[2])
     yield f'j 1, k 0: chroma colour {numbers(colour)}; through the tables it would be {numbers(wrong)}, which is wrong'
-    for name in CURVES:
-        yield f'{name}: of 256 bytes, {sum(GAMMA[name][LINEAR[name][v]] != v for v in range(256))} are changed by the linear table and the gamma table after it'
 
 
 @example('7.1')
@@ -894,6 +963,11 @@ def _():
     planes = [bytearray(6), bytearray(2), bytearray(2)]
     assert frame_call(s, 2, 3, small_source(0, 3), [6, 2, 1, 1], planes)[0] == 0
     yield f'one frame call: Y {hexes(planes[0])}, U {hexes(planes[1])}, V {hexes(planes[2])}'
+    s = Settings('Rgb', '4:2:0', 'Full', rounding='Nearest')
+    *_, (_, _, planes, _) = small_bands(s, (1, 2), small_source)
+    whole = [bytearray(6), bytearray(2), bytearray(2)]
+    assert frame_call(s, 2, 3, small_source(0, 3), [6, 2, 1, 1], whole)[0] == 0 and whole == planes
+    yield f'Nearest, the same two bands or one frame call: Y {hexes(planes[0])}, U {hexes(planes[1])}, V {hexes(planes[2])}'
 
 
 @example('8.8')
@@ -958,31 +1032,50 @@ def _():
 
 
 DESCRIPTION = (4, 5, 0, 0, 1, 0, 0, 4, 2, 2)
+BEFORE = {'frame': 1, 'opening': 0, 'band': 3}  # numbers of a call before its description
+
+
+def codes_of(description):
+    """The six codes, in the order of 1.2."""
+    return (*description[2:7], description[10] if len(description) > 10 else 0)
+
+
+def is_malformed(call, given):
+    if len(given) - BEFORE[call] not in (10, 11):
+        return True
+    counts = [len(values) + (setting == 'matrix') for setting, values in CODES.items()]
+    return any(code >= count for code, count in zip(codes_of(given[BEFORE[call]:]), counts))
 
 
 @example('10.1')
 def _():
-    w, h, *codes = DESCRIPTION[:7]
-    yield f'{numbers(DESCRIPTION)}: w {w}, h {h}, ' + ', '.join(values[code] for code, values in zip(codes, CODES.values())) + ', plane strides 4, 2, 2'
+    for description in (DESCRIPTION, DESCRIPTION + (0,), DESCRIPTION + (1,)):
+        w, h = description[:2]
+        values = ', '.join(values[code] for code, values in zip(codes_of(description), CODES.values()))
+        yield f'{numbers(description)}: w {w}, h {h}, {values}, plane strides 4, 2, 2'
 
 
 @example('10.2')
 def _():
-    custom = [len(values) for values in CODES.values()]
-    custom[3] += 1
-    for text, before, given in (('frame', 1, (12,) + DESCRIPTION), ('frame', 1, DESCRIPTION), ('opening', 0, DESCRIPTION[:5] + (7,) + DESCRIPTION[6:]),
-                                ('opening', 0, DESCRIPTION[:5] + (6,) + DESCRIPTION[6:]), ('opening', 0, (0, 5, 4) + DESCRIPTION[3:])):
-        bad = len(given) != before + 10 or any(code >= most for code, most in zip(given[before + 2:before + 7], custom))
-        yield f'{text}, {len(given)} numbers {numbers(given)}: ' + ('1' if bad else 'not 1')
+    def changed(place, code):
+        return DESCRIPTION[:place] + (code,) + DESCRIPTION[place + 1:]
+    for call, given in (('frame', (12,) + DESCRIPTION), ('frame', (12,) + DESCRIPTION + (1,)), ('frame', DESCRIPTION), ('frame', (12,) + DESCRIPTION + (1, 0)),
+                        ('opening', changed(5, 7)), ('opening', changed(5, 6)), ('opening', (0, 5, 4) + DESCRIPTION[3:]), ('opening', DESCRIPTION + (1,)),
+                        ('opening', DESCRIPTION + (2,)), ('opening', DESCRIPTION + (0, 0)), ('band', (0, 2, 12) + DESCRIPTION + (2,))):
+        yield f'{call}, {len(given)} numbers {numbers(given)}: ' + ('1' if is_malformed(call, given) else 'not 1')
 
 
 @example('10.3')
 def _():
+    def band(given, carried):
+        done, m, stride = given[:3]
+        answer = (1, 0, 0) if is_malformed('band', given) else band_answer(BAND, 4, 5, done, m, (stride, 4, 2, 2), (24, 20, 6, 6), carried)
+        return f'returns {answer[0]}, tells {answer[1]}, {answer[2]}, {done if answer[0] else done + m}'
     given = (2, 2, 12) + DESCRIPTION
-    answer = band_answer(BAND, 4, 5, 2, 2, (12, 4, 2, 2), (24, 20, 6, 6), 12)
-    yield f'band, numbers {numbers(given)}, source of 24 bytes, planes of 20, 6, 6, carried row of 12: returns {answer[0]}, tells {answer[1]}, {answer[2]}, 4'
-    answer = band_answer(BAND, 4, 5, 2, 2, (12, 4, 2, 2), (24, 20, 6, 6), 11)
-    yield f'the same, carried row of 11: returns {answer[0]}, tells {answer[1]}, {answer[2]}, 2'
+    yield f'band, numbers {numbers(given)}, source of 24 bytes, planes of 20, 6, 6, carried row of 12: {band(given, 12)}'
+    yield f'the same, carried row of 11: {band(given, 11)}'
+    yield f'the same with 1 behind, Nearest, carried row of 12: {band(given + (1,), 12)}'
+    yield f'the same with 2 behind: {band(given + (2,), 12)}'
 
 
 # ---- appendix A
@@ -1057,9 +1150,10 @@ def _():
 
 # ---- appendix B
 
-def first_indices(name):
+def first_indices(entries):
+    assert all(a <= b for a, b in zip(entries, entries[1:]))
     found, m = [], 0
-    for i, entry in enumerate(GAMMA[name]):
+    for i, entry in enumerate(entries):
         while m <= entry:
             found.append(i)
             m += 1
@@ -1071,17 +1165,21 @@ def lines_of(values):
         yield ' '.join(f'{value:>5}' for value in values[at:at + 16])
 
 
+TABLES = [(name, rounding) for rounding in HALVES for name in CURVES]  # in the order of the appendix
+
+
 @example('B.0')
 def _():
-    for name in CURVES:
-        linear = zlib.crc32(struct.pack('<256H', *LINEAR[name]))
-        gamma = zlib.crc32(bytes(GAMMA[name]))
-        yield f'{name:<8} linear {linear:08x}, entries add to {sum(LINEAR[name])}; gamma {gamma:08x}, entries add to {sum(GAMMA[name])}'
+    for table_ in TABLES:
+        linear = zlib.crc32(struct.pack('<256H', *LINEAR[table_]))
+        gamma = zlib.crc32(bytes(GAMMA[table_]))
+        yield (f'{table_[0]:<8} {table_[1]:<9} linear {linear:08x}, entries add to {sum(LINEAR[table_])}; '
+               f'gamma {gamma:08x}, entries add to {sum(GAMMA[table_])}')
 
 
-for place, transfer in enumerate(CURVES):
-    EXAMPLES[f'B.{2 * place + 1}'] = lambda transfer=transfer: lines_of(LINEAR[transfer])
-    EXAMPLES[f'B.{2 * place + 2}'] = lambda transfer=transfer: lines_of(first_indices(transfer))
+for place, both in enumerate(TABLES):
+    EXAMPLES[f'B.{2 * place + 1}'] = lambda both=both: lines_of(LINEAR[both])
+    EXAMPLES[f'B.{2 * place + 2}'] = lambda both=both: lines_of(first_indices(GAMMA[both]))
 
 
 def main():

@@ -49,6 +49,12 @@ enum {
     REFERENCE_TRANSFERS = 4
 };
 
+enum {
+    REFERENCE_TRUNCATED = 0,
+    REFERENCE_NEAREST = 1,
+    REFERENCE_ROUNDINGS = 2
+};
+
 /* RULES 7.1: numbers of an answer. */
 enum {
     REFERENCE_ACCEPTED = 0,
@@ -70,10 +76,10 @@ enum {
 /* RULES 7.3: largest width and height. */
 #define REFERENCE_LARGEST_SIDE 16384u
 
-/* RULES 3.4, 3.5: both tables of each transfer, by its code. */
+/* RULES 3.4, 3.5: both tables of each rounding and transfer, by their codes. */
 struct reference_tables {
-    uint16_t linear[REFERENCE_TRANSFERS][256];
-    uint8_t gamma[REFERENCE_TRANSFERS][65536];
+    uint16_t linear[REFERENCE_ROUNDINGS][REFERENCE_TRANSFERS][256];
+    uint8_t gamma[REFERENCE_ROUNDINGS][REFERENCE_TRANSFERS][65536];
 };
 
 /* RULES 2.1, 10.1: all that is known of a frame before its pixels. */
@@ -90,6 +96,7 @@ struct reference_description {
     uint32_t y_stride;
     uint32_t u_stride;
     uint32_t v_stride;
+    uint32_t rounding;
 };
 
 /* RULES 2.1: rows of pixels, which are only read. */

@@ -65,6 +65,7 @@ static void read_description(struct reference_description *frame)
     frame->y_stride = read_number();
     frame->u_stride = read_number();
     frame->v_stride = read_number();
+    frame->rounding = read_number();
 }
 
 /* LISTS: fills a buffer from the next block; byte i is byte i mod n of the block, which is empty for an empty buffer only. */

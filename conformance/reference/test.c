@@ -43,7 +43,7 @@ static void expect_answer(const char *rule, long place, uint32_t number, uint64_
     expect(rule, place, (long long)received, (long long)got.received);
 }
 
-/* A description without Custom and with plane strides. */
+/* A description without Custom and with plane strides; Truncated. */
 static struct reference_description describe(uint32_t width, uint32_t height, uint32_t order, uint32_t sampling, uint32_t range,
                                              uint32_t matrix, uint32_t transfer, const uint32_t *strides)
 {
@@ -61,6 +61,7 @@ static struct reference_description describe(uint32_t width, uint32_t height, ui
     frame.y_stride = strides[0];
     frame.u_stride = strides[1];
     frame.v_stride = strides[2];
+    frame.rounding = REFERENCE_TRUNCATED;
     return frame;
 }
 
@@ -114,34 +115,65 @@ static void test_numbers(void)
     expect("1.5", 4, 8192, reference_chroma_height(16383, REFERENCE_420));
 }
 
+/* RULES 3.4, 3.5: a curved entry, and the leading digits of what is compared for it and for the next number. */
+struct curved {
+    unsigned transfer;
+    unsigned rounding;
+    unsigned index;
+    unsigned entry;
+    size_t digits;
+    const char *left;
+    const char *left_next;
+    const char *right;
+};
+
+/* RULES 3.4, 3.5: a straight entry. */
+struct straight {
+    unsigned transfer;
+    unsigned rounding;
+    unsigned index;
+    unsigned entry;
+};
+
 /* RULES 3.2 to 3.5: tests of the straight parts, sides of comparisons, entries. */
 static void test_curves(void)
 {
-    static const struct {
-        unsigned transfer;
-        unsigned v;
-        unsigned n;
-        size_t digits;
-        const char *left;
-        const char *left_next;
-        const char *right;
-    } curved[] = {
-        {REFERENCE_SRGB, 160, 23037, 231, "932597489445", "932799919983", "932799023064"},
-        {REFERENCE_GAMMA2P2, 254, 64970, 216, "343167632545", "343194043057", "343192194397"},
-        {REFERENCE_GAMMA2P8, 205, 35568, 267, "279807758773", "279847095184", "279846947186"},
+    static const struct curved linear[] = {
+        {REFERENCE_SRGB, REFERENCE_TRUNCATED, 42, 1517, 227, "369523882854", "370743432562", "370129015667"},
+        {REFERENCE_SRGB, REFERENCE_NEAREST, 42, 1517, 227, "368915312692", "370133255880", "370129015667"},
+        {REFERENCE_REC709, REFERENCE_TRUNCATED, 228, 52327, 395, "135177865932", "135201117672", "135189502389"},
+        {REFERENCE_REC709, REFERENCE_NEAREST, 228, 52328, 395, "135189491358", "135212744875", "135189502389"},
+        {REFERENCE_SRGB, REFERENCE_TRUNCATED, 160, 23037, 233, "298431196622", "298495974394", "298495687380"},
+        {REFERENCE_GAMMA2P2, REFERENCE_TRUNCATED, 254, 64970, 218, "109813642414", "109822093778", "109821502207"},
+        {REFERENCE_GAMMA2P8, REFERENCE_TRUNCATED, 205, 35568, 268, "895384828075", "895510704590", "895510230995"},
     };
-    static const struct {
-        unsigned transfer;
-        unsigned i;
-        unsigned m;
-        size_t digits;
-        const char *left;
-        const char *left_next;
-        const char *right;
-    } inverse[] = {
-        {REFERENCE_SRGB, 200, 10, 221, "447631003803", "730171279323", "459954221044"},
-        {REFERENCE_SRGB, 36863, 197, 232, "942846360174", "997880568369", "978403531808"},
-        {REFERENCE_GAMMA2P2, 22231, 155, 214, "149973731983", "160967092919", "160967047484"},
+    static const struct curved gamma[] = {
+        {REFERENCE_SRGB, REFERENCE_TRUNCATED, 200, 10, 225, "183349659157", "299078156011", "188397248940"},
+        {REFERENCE_SRGB, REFERENCE_TRUNCATED, 36863, 197, 236, "386189869127", "408731880804", "400754086628"},
+        {REFERENCE_GAMMA2P2, REFERENCE_TRUNCATED, 22231, 155, 217, "307146203103", "329660606298", "329660513248"},
+        {REFERENCE_SRGB, REFERENCE_TRUNCATED, 16525, 137, 234, "697279536530", "754745116551", "725490816240"},
+        {REFERENCE_SRGB, REFERENCE_NEAREST, 16525, 137, 234, "670077030308", "725490931203", "725490816240"},
+        {REFERENCE_GAMMA2P8, REFERENCE_TRUNCATED, 5248, 103, 267, "299576404433", "342967689975", "320591200074"},
+        {REFERENCE_GAMMA2P8, REFERENCE_NEAREST, 5248, 104, 267, "320591021443", "366787498097", "320591200074"},
+    };
+    static const struct straight straight_linear[] = {
+        {REFERENCE_SRGB, REFERENCE_TRUNCATED, 1, 19},
+        {REFERENCE_SRGB, REFERENCE_NEAREST, 1, 20},
+        {REFERENCE_SRGB, REFERENCE_TRUNCATED, 10, 198},
+        {REFERENCE_SRGB, REFERENCE_NEAREST, 10, 199},
+        {REFERENCE_REC709, REFERENCE_TRUNCATED, 20, 1142},
+        {REFERENCE_REC709, REFERENCE_NEAREST, 20, 1142},
+    };
+    static const struct straight straight_gamma[] = {
+        {REFERENCE_SRGB, REFERENCE_TRUNCATED, 198, 9},
+        {REFERENCE_SRGB, REFERENCE_TRUNCATED, 199, 10},
+        {REFERENCE_REC709, REFERENCE_TRUNCATED, 514, 9},
+        {REFERENCE_REC709, REFERENCE_TRUNCATED, 1142, 19},
+        {REFERENCE_REC709, REFERENCE_TRUNCATED, 1183, 20},
+        {REFERENCE_SRGB, REFERENCE_NEAREST, 198, 10},
+        {REFERENCE_SRGB, REFERENCE_NEAREST, 199, 10},
+        {REFERENCE_REC709, REFERENCE_NEAREST, 257, 5},
+        {REFERENCE_REC709, REFERENCE_NEAREST, 771, 14},
     };
     unsigned place;
     unsigned v;
@@ -159,101 +191,145 @@ static void test_curves(void)
     expect("3.3", 1183, 1, linear_is_straight(&transfers[REFERENCE_REC709], 1183));
     expect("3.3", 1184, 0, linear_is_straight(&transfers[REFERENCE_REC709], 1184));
 
-    expect("3.4", 1, 19, tables.linear[REFERENCE_SRGB][1]);
-    expect("3.4", 10, 198, tables.linear[REFERENCE_SRGB][10]);
-    expect("3.4", 20, 1142, tables.linear[REFERENCE_REC709][20]);
-    expect("3.4", 255, 65535, tables.linear[REFERENCE_SRGB][255]);
-    expect("3.4", 11, 9, tables.gamma[REFERENCE_SRGB][tables.linear[REFERENCE_SRGB][10]]);
-    for (place = 0; place < sizeof curved / sizeof curved[0]; place++) {
-        const struct transfer *transfer = &transfers[curved[place].transfer];
-        struct big scale = big_times_power(big_one(), 255u * transfer->scale, transfer->up);
-        size_t digits = curved[place].digits;
+    for (place = 0; place < sizeof straight_linear / sizeof straight_linear[0]; place++) {
+        const struct straight *wanted = &straight_linear[place];
 
-        expect_digits("3.4", (long)place, curved[place].left, digits, linear_power(transfer, &scale, curved[place].n));
-        expect_digits("3.4", (long)place, curved[place].left_next, digits, linear_power(transfer, &scale, curved[place].n + 1));
-        expect_digits("3.4", (long)place, curved[place].right, digits, byte_power(transfer, curved[place].v));
-        expect("3.4", (long)place, curved[place].n, tables.linear[curved[place].transfer][curved[place].v]);
+        expect("3.4", (long)place, wanted->entry, tables.linear[wanted->rounding][wanted->transfer][wanted->index]);
     }
-    expect("3.5", 198, 9, tables.gamma[REFERENCE_SRGB][198]);
-    expect("3.5", 199, 10, tables.gamma[REFERENCE_SRGB][199]);
-    expect("3.5", 514, 9, tables.gamma[REFERENCE_REC709][514]);
-    expect("3.5", 1142, 19, tables.gamma[REFERENCE_REC709][1142]);
-    expect("3.5", 1183, 20, tables.gamma[REFERENCE_REC709][1183]);
-    for (place = 0; place < sizeof inverse / sizeof inverse[0]; place++) {
-        const struct transfer *transfer = &transfers[inverse[place].transfer];
-        struct big scale = big_times_power(big_one(), 255u * transfer->scale, transfer->up);
-        size_t digits = inverse[place].digits;
+    for (place = 0; place < sizeof linear / sizeof linear[0]; place++) {
+        const struct curved *wanted = &linear[place];
+        const struct transfer *transfer = &transfers[wanted->transfer];
+        struct big scale = scale_power(transfer, &of_linear_table);
+        uint64_t numerator = doubled(wanted->entry, halves[wanted->rounding]);
 
-        expect_digits("3.5", (long)place, inverse[place].left, digits, byte_power(transfer, inverse[place].m));
-        expect_digits("3.5", (long)place, inverse[place].left_next, digits, byte_power(transfer, inverse[place].m + 1));
-        expect_digits("3.5", (long)place, inverse[place].right, digits, linear_power(transfer, &scale, inverse[place].i));
-        expect("3.5", (long)place, inverse[place].m, tables.gamma[inverse[place].transfer][inverse[place].i]);
+        expect_digits("3.4", (long)place, wanted->left, wanted->digits, linear_power(transfer, &scale, numerator));
+        expect_digits("3.4", (long)place, wanted->left_next, wanted->digits, linear_power(transfer, &scale, numerator + 2));
+        expect_digits("3.4", (long)place, wanted->right, wanted->digits,
+                      stored_power(transfer, &of_linear_table, wanted->index));
+        expect("3.4", (long)place, wanted->entry, tables.linear[wanted->rounding][wanted->transfer][wanted->index]);
+    }
+    for (place = 0; place < sizeof straight_gamma / sizeof straight_gamma[0]; place++) {
+        const struct straight *wanted = &straight_gamma[place];
+
+        expect("3.5", (long)place, wanted->entry, tables.gamma[wanted->rounding][wanted->transfer][wanted->index]);
+    }
+    for (place = 0; place < sizeof gamma / sizeof gamma[0]; place++) {
+        const struct curved *wanted = &gamma[place];
+        const struct transfer *transfer = &transfers[wanted->transfer];
+        struct big scale = scale_power(transfer, &of_gamma_table);
+        uint64_t numerator = doubled(wanted->entry, halves[wanted->rounding]);
+
+        expect_digits("3.5", (long)place, wanted->left, wanted->digits, stored_power(transfer, &of_gamma_table, numerator));
+        expect_digits("3.5", (long)place, wanted->left_next, wanted->digits,
+                      stored_power(transfer, &of_gamma_table, numerator + 2));
+        expect_digits("3.5", (long)place, wanted->right, wanted->digits, linear_power(transfer, &scale, wanted->index));
+        expect("3.5", (long)place, wanted->entry, tables.gamma[wanted->rounding][wanted->transfer][wanted->index]);
     }
 }
 
-/* RULES 3.4, 3.5: the longest number of any comparison has 1,304 bits, so the carry out of the highest limb is always 0. */
+/* RULES 3.4, 3.5: the longest numbers have 1,313 and 1,324 bits, so the carry out of the highest limb is always 0. */
 static void test_longest(void)
 {
     const struct transfer *transfer = &transfers[REFERENCE_REC709];
-    struct big scale = big_times_power(big_one(), 255u * transfer->scale, transfer->up);
+    struct big scale = scale_power(transfer, &of_linear_table);
     struct big sides[2];
     unsigned place;
 
-    sides[0] = linear_power(transfer, &scale, 65535);
-    sides[1] = byte_power(transfer, 255);
+    sides[0] = linear_power(transfer, &scale, 2 * 65535);
+    sides[1] = stored_power(transfer, &of_linear_table, 255);
     for (place = 0; place < 2; place++) {
-        expect("3.4", 81, 1, sides[place].limbs[81] >= 0x80u && sides[place].limbs[81] < 0x100u);
+        expect("3.4", 82, 1, sides[place].limbs[82] == 1);
+    }
+    scale = scale_power(transfer, &of_gamma_table);
+    sides[0] = linear_power(transfer, &scale, 65535);
+    sides[1] = stored_power(transfer, &of_gamma_table, 2 * 255);
+    for (place = 0; place < 2; place++) {
+        expect("3.5", 82, 1, sides[place].limbs[82] >= 0x800u && sides[place].limbs[82] < 0x1000u);
     }
 }
 
-/* RULES 3.4, 3.5: at 1 the comparison of the curved part has equal sides, so 65,535 and 255 are what it gives too. */
+/* RULES 3.4, 3.5: at 1 the sides of the curved part are equal where o is 0, so 65,535 and 255 are what it gives too. */
 static void test_equal_at_1(void)
 {
     unsigned code;
 
     for (code = 0; code < REFERENCE_TRANSFERS; code++) {
         const struct transfer *transfer = &transfers[code];
-        struct big scale = big_times_power(big_one(), 255u * transfer->scale, transfer->up);
-        struct big linear_side = linear_power(transfer, &scale, 65535);
-        struct big byte_side = byte_power(transfer, 255);
+        struct big scale = scale_power(transfer, &of_linear_table);
+        struct big linear = linear_power(transfer, &scale, 2 * 65535);
+        struct big stored = stored_power(transfer, &of_linear_table, 255);
 
-        expect("3.4", (long)code, 1, big_not_above(&linear_side, &byte_side));
-        expect("3.5", (long)code, 1, big_not_above(&byte_side, &linear_side));
+        expect("3.4", (long)code, 0, memcmp(&linear, &stored, sizeof linear));
+        scale = scale_power(transfer, &of_gamma_table);
+        linear = linear_power(transfer, &scale, 65535);
+        stored = stored_power(transfer, &of_gamma_table, 2 * 255);
+        expect("3.5", (long)code, 0, memcmp(&linear, &stored, sizeof linear));
     }
 }
 
-/* RULES 3.5 by the letter: each entry is the largest m that passes and m + 1 does not. */
-static void test_every_gamma_entry(void)
+/* RULES 3.5 by the letter, of one rounding and transfer: each entry is the largest m that is 0 or passes. How many are not. */
+static unsigned long wrong_gamma_entries(unsigned rounding, unsigned code)
 {
-    unsigned code;
+    const struct transfer *transfer = &transfers[code];
+    struct big scale = scale_power(transfer, &of_gamma_table);
+    unsigned last = 256;
+    struct big passes = big_one();
+    struct big fails = big_one();
+    unsigned long wrong = 0;
     uint32_t i;
 
-    for (code = 0; code < REFERENCE_TRANSFERS; code++) {
-        const struct transfer *transfer = &transfers[code];
-        struct big scale = big_times_power(big_one(), 255u * transfer->scale, transfer->up);
-        unsigned last = 256;
-        struct big passes = big_one();
-        struct big fails = big_one();
-        unsigned long wrong = 0;
+    for (i = 1; i < 65535; i++) {
+        unsigned m = tables.gamma[rounding][code][i];
+        struct big limit;
 
-        for (i = 1; i < 65535; i++) {
-            unsigned m = tables.gamma[code][i];
-            struct big limit;
-
-            if (linear_is_straight(transfer, i)) {
-                continue;
-            }
-            if (m != last) {
-                passes = byte_power(transfer, m);
-                fails = byte_power(transfer, m + 1);
-                last = m;
-            }
-            limit = linear_power(transfer, &scale, i);
-            if (!big_not_above(&passes, &limit) || (m < 255 && big_not_above(&fails, &limit))) {
-                wrong++;
-            }
+        if (linear_is_straight(transfer, i)) {
+            continue;
         }
-        expect("3.5", (long)code, 0, (long long)wrong);
+        if (m != last) {
+            if (m > 0) {
+                passes = stored_power(transfer, &of_gamma_table, doubled(m, halves[rounding]));
+            }
+            fails = stored_power(transfer, &of_gamma_table, doubled(m + 1, halves[rounding]));
+            last = m;
+        }
+        limit = linear_power(transfer, &scale, i);
+        if ((m > 0 && !big_not_above(&passes, &limit)) || (m < 255 && big_not_above(&fails, &limit))) {
+            wrong++;
+        }
+    }
+    return wrong;
+}
+
+/* RULES 3.5: every entry of every gamma table. */
+static void test_every_gamma_entry(void)
+{
+    unsigned rounding;
+    unsigned code;
+
+    for (rounding = 0; rounding < REFERENCE_ROUNDINGS; rounding++) {
+        for (code = 0; code < REFERENCE_TRANSFERS; code++) {
+            expect("3.5", (long)code, 0, (long long)wrong_gamma_entries(rounding, code));
+        }
+    }
+}
+
+/* RULES 3.5, after the example: how many bytes come back through both tables. */
+static void test_bytes_that_come_back(void)
+{
+    static const unsigned long wanted[REFERENCE_ROUNDINGS][REFERENCE_TRANSFERS] = {{2, 4, 2, 2}, {256, 256, 255, 252}};
+    unsigned rounding;
+    unsigned code;
+    unsigned v;
+
+    for (rounding = 0; rounding < REFERENCE_ROUNDINGS; rounding++) {
+        for (code = 0; code < REFERENCE_TRANSFERS; code++) {
+            unsigned long count = 0;
+
+            for (v = 0; v < 256; v++) {
+                count += tables.gamma[rounding][code][tables.linear[rounding][code][v]] == v;
+            }
+            expect("3.5.1", (long)code, (long long)wanted[rounding][code], (long long)count);
+        }
     }
 }
 
@@ -265,34 +341,44 @@ static void test_checksums(void)
         uint32_t linear_sum;
         uint32_t gamma;
         uint32_t gamma_sum;
-    } wanted[REFERENCE_TRANSFERS] = {
-        {0xb51f1991u, 5217780, 0xdc6b2382u, 11493646},
-        {0xcc349c26u, 5729320, 0xefcb4552u, 10982108},
-        {0x83015d1du, 5254997, 0x64eb4ae6u, 11456429},
-        {0x9b0396aeu, 4430439, 0xa3929a3fu, 12280987},
+    } wanted[REFERENCE_ROUNDINGS][REFERENCE_TRANSFERS] = {
+        {
+            {0xb51f1991u, 5217780, 0xdc6b2382u, 11493646},
+            {0xcc349c26u, 5729320, 0xefcb4552u, 10982108},
+            {0x83015d1du, 5254997, 0x64eb4ae6u, 11456429},
+            {0x9b0396aeu, 4430439, 0xa3929a3fu, 12280987},
+        },
+        {
+            {0xd9e77279u, 5217922, 0xe93bf7b3u, 11526471},
+            {0x66a9a019u, 5729450, 0xb5b7b637u, 11014932},
+            {0x63bfd72eu, 5255141, 0x842fd231u, 11489255},
+            {0x3c8d6213u, 4430570, 0x570321cau, 12313835},
+        },
     };
-    unsigned code;
+    unsigned table;
     uint32_t entry;
 
-    for (code = 0; code < REFERENCE_TRANSFERS; code++) {
+    for (table = 0; table < REFERENCE_ROUNDINGS * REFERENCE_TRANSFERS; table++) {
+        unsigned rounding = table / REFERENCE_TRANSFERS;
+        unsigned code = table % REFERENCE_TRANSFERS;
         uint8_t bytes[512];
         uint32_t linear_sum = 0;
         uint32_t gamma_sum = 0;
 
         for (entry = 0; entry < 256; entry++) {
-            uint16_t value = tables.linear[code][entry];
+            uint16_t value = tables.linear[rounding][code][entry];
 
             bytes[2 * entry] = (uint8_t)(value & 0xFFu);
             bytes[2 * entry + 1] = (uint8_t)(value >> 8);
             linear_sum += value;
         }
         for (entry = 0; entry < 65536; entry++) {
-            gamma_sum += tables.gamma[code][entry];
+            gamma_sum += tables.gamma[rounding][code][entry];
         }
-        expect("B.0 linear", (long)code, wanted[code].linear, digest(bytes, sizeof bytes));
-        expect("B.0 linear sum", (long)code, wanted[code].linear_sum, linear_sum);
-        expect("B.0 gamma", (long)code, wanted[code].gamma, digest(tables.gamma[code], 65536));
-        expect("B.0 gamma sum", (long)code, wanted[code].gamma_sum, gamma_sum);
+        expect("B.0 linear", (long)table, wanted[rounding][code].linear, digest(bytes, sizeof bytes));
+        expect("B.0 linear sum", (long)table, wanted[rounding][code].linear_sum, linear_sum);
+        expect("B.0 gamma", (long)table, wanted[rounding][code].gamma, digest(tables.gamma[rounding][code], 65536));
+        expect("B.0 gamma sum", (long)table, wanted[rounding][code].gamma_sum, gamma_sum);
     }
 }
 
@@ -529,7 +615,8 @@ static void test_chroma_colours(void)
     static const uint8_t one[3] = {10, 10, 10};
     static const uint8_t wanted_420[2][3] = {{19, 70, 197}, {224, 224, 136}};
     static const uint8_t wanted_422[2][3] = {{12, 0, 224}, {10, 99, 1}};
-    static const unsigned long changed[REFERENCE_TRANSFERS] = {254, 252, 254, 254};
+    static const uint32_t sums[2] = {9 * 65535, 12 * 65535};
+    static const uint8_t wanted_of_sums[REFERENCE_ROUNDINGS][3] = {{197, 224, 9}, {198, 225, 10}};
     static const uint32_t strides[3] = {3, 2, 2};
     struct reference_description frame =
         describe(3, 2, REFERENCE_RGB, REFERENCE_420, REFERENCE_FULL, REFERENCE_BT601, REFERENCE_SRGB, strides);
@@ -537,13 +624,13 @@ static void test_chroma_colours(void)
     struct row rows[2];
     unsigned channel;
     unsigned j;
-    unsigned code;
+    unsigned rounding;
 
     memset(&job, 0, sizeof job);
     job.frame = &frame;
     job.order = &channel_orders[REFERENCE_RGB];
-    job.linear = tables.linear[REFERENCE_SRGB];
-    job.gamma = tables.gamma[REFERENCE_SRGB];
+    job.linear = tables.linear[REFERENCE_TRUNCATED][REFERENCE_SRGB];
+    job.gamma = tables.gamma[REFERENCE_TRUNCATED][REFERENCE_SRGB];
     rows[0].bytes = six;
     rows[0].pixel_bytes = 3;
     rows[1].bytes = six + 9;
@@ -565,18 +652,13 @@ static void test_chroma_colours(void)
             expect("6.4", (long)j, wanted_422[j][channel], chroma_channel(&job, rows[0], rows[0], j, channel));
         }
     }
-    for (code = 0; code < REFERENCE_TRANSFERS; code++) {
-        unsigned long count = 0;
-        unsigned v;
+    for (rounding = 0; rounding < REFERENCE_ROUNDINGS; rounding++) {
+        for (j = 0; j < 3; j++) {
+            uint32_t sum = j < 2 ? sums[j] : 16u * tables.linear[rounding][REFERENCE_SRGB][10];
 
-        for (v = 0; v < 256; v++) {
-            count += tables.gamma[code][tables.linear[code][v]] != v;
+            expect("6.2", (long)j, wanted_of_sums[rounding][j], tables.gamma[rounding][REFERENCE_SRGB][(sum + 8) / 16]);
         }
-        expect("6.4", (long)code, (long long)changed[code], (long long)count);
     }
-    expect("6.2", 1, 197, tables.gamma[REFERENCE_SRGB][36863]);
-    expect("6.2", 2, 224, tables.gamma[REFERENCE_SRGB][49151]);
-    expect("6.2", 3, 9, tables.gamma[REFERENCE_SRGB][198]);
 }
 
 static uint8_t source_bytes[128];
@@ -602,13 +684,13 @@ static struct reference_answer call_frame(const struct reference_description *fr
     return reference_frame(&tables, frame, &source, &planes);
 }
 
-/* RULES 2.3 to 2.5, 7.2, 7.8, A: frames and the bytes of their planes. */
+/* RULES 2.3 to 2.5, 6.3, 7.2, 7.8, 8.7, A: frames and the bytes of their planes. */
 static void test_frames(void)
 {
     static const struct {
         uint32_t width;
         uint32_t height;
-        uint32_t settings[5]; /* order, sampling, range, matrix, transfer */
+        uint32_t settings[6]; /* order, sampling, range, matrix, transfer, rounding */
         uint32_t source_stride;
         uint32_t strides[3];
         size_t source_length;
@@ -617,25 +699,29 @@ static void test_frames(void)
         uint8_t u[9];
         uint8_t v[9];
     } wanted[] = {
-        {1, 1, {1, 0, 0, 0, 0}, 5, {1, 1, 1}, 5, {200, 100, 50, 0, 0}, {123}, {91}, {175}},
-        {1, 1, {1, 0, 0, 0, 0}, 5, {1, 1, 1}, 5, {200, 100, 50, 255, 9}, {123}, {91}, {175}},
-        {3, 1, {0, 0, 0, 0, 0}, 9, {5, 3, 4}, 9, {255, 0, 0, 255, 0, 0, 255, 0, 0}, {0x51, 0x51, 0x51, 0xEE, 0xEE},
+        {1, 1, {1, 0, 0, 0, 0, 0}, 5, {1, 1, 1}, 5, {200, 100, 50, 0, 0}, {123}, {91}, {175}},
+        {1, 1, {1, 0, 0, 0, 0, 0}, 5, {1, 1, 1}, 5, {200, 100, 50, 255, 9}, {123}, {91}, {175}},
+        {3, 1, {0, 0, 0, 0, 0, 0}, 9, {5, 3, 4}, 9, {255, 0, 0, 255, 0, 0, 255, 0, 0}, {0x51, 0x51, 0x51, 0xEE, 0xEE},
          {0x5A, 0x5A, 0xEE}, {0xF0, 0xF0, 0xEE, 0xEE}},
-        {3, 1, {0, 1, 1, 0, 0}, 9, {3, 2, 2}, 9, {255, 0, 0, 0, 255, 0, 0, 0, 255}, {76, 150, 29}, {45, 255}, {183, 107}},
-        {1, 1, {0, 0, 1, 0, 0}, 3, {1, 1, 1}, 3, {255, 0, 0}, {76}, {85}, {255}},
-        {1, 1, {0, 1, 1, 0, 0}, 3, {1, 1, 1}, 3, {255, 0, 0}, {76}, {85}, {255}},
-        {1, 1, {0, 1, 0, 0, 0}, 3, {1, 1, 1}, 3, {0, 255, 0}, {145}, {54}, {34}},
-        {1, 1, {0, 0, 0, 0, 0}, 3, {1, 1, 1}, 3, {0, 0, 0}, {16}, {128}, {128}},
-        {1, 1, {0, 0, 0, 0, 0}, 3, {1, 1, 1}, 3, {255, 255, 255}, {235}, {128}, {128}},
-        {2, 3, {0, 0, 1, 0, 0}, 6, {2, 1, 1}, 18, {255, 0, 0, 0, 255, 0, 0, 0, 255, 255, 255, 255, 9, 120, 60, 200, 10, 77},
+        {3, 1, {0, 1, 1, 0, 0, 0}, 9, {3, 2, 2}, 9, {255, 0, 0, 0, 255, 0, 0, 0, 255}, {76, 150, 29}, {45, 255}, {183, 107}},
+        {1, 1, {0, 0, 1, 0, 0, 0}, 3, {1, 1, 1}, 3, {255, 0, 0}, {76}, {85}, {255}},
+        {1, 1, {0, 1, 1, 0, 0, 0}, 3, {1, 1, 1}, 3, {255, 0, 0}, {76}, {85}, {255}},
+        {1, 1, {0, 1, 0, 0, 0, 0}, 3, {1, 1, 1}, 3, {0, 255, 0}, {145}, {54}, {34}},
+        {1, 1, {0, 0, 0, 0, 0, 0}, 3, {1, 1, 1}, 3, {0, 0, 0}, {16}, {128}, {128}},
+        {1, 1, {0, 0, 0, 0, 0, 0}, 3, {1, 1, 1}, 3, {255, 255, 255}, {235}, {128}, {128}},
+        {1, 1, {0, 0, 1, 0, 0, 0}, 3, {1, 1, 1}, 3, {10, 0, 0}, {3}, {126}, {132}},
+        {1, 1, {0, 0, 1, 0, 0, 1}, 3, {1, 1, 1}, 3, {10, 0, 0}, {3}, {126}, {133}},
+        {2, 3, {0, 0, 1, 0, 0, 0}, 6, {2, 1, 1}, 18, {255, 0, 0, 0, 255, 0, 0, 0, 255, 255, 255, 255, 9, 120, 60, 200, 10, 77},
          {0x4C, 0x96, 0x1D, 0xFF, 0x50, 0x4A}, {0x74, 0x6B}, {0xA3, 0x84}},
-        {3, 3, {2, 0, 0, 1, 0}, 13, {4, 3, 3}, 39,
+        {2, 3, {0, 0, 1, 0, 0, 1}, 6, {2, 1, 1}, 18, {255, 0, 0, 0, 255, 0, 0, 0, 255, 255, 255, 255, 9, 120, 60, 200, 10, 77},
+         {0x4C, 0x96, 0x1D, 0xFF, 0x50, 0x4A}, {0x74, 0x6C}, {0xA3, 0x84}},
+        {3, 3, {2, 0, 0, 1, 0, 0}, 13, {4, 3, 3}, 39,
          {0x07, 0x80, 0xFA, 0x00, 0xFF, 0xC8, 0x0C, 0x01, 0x40, 0x40, 0x40, 0x02, 0xAA, 0x1B, 0x09, 0x03, 0x10, 0xFF, 0xFF, 0xFF,
           0x11, 0x5A, 0x1E, 0xB4, 0x12, 0xAA, 0x00, 0x00, 0x00, 0x20, 0x01, 0xFA, 0x63, 0x21, 0x84, 0x42, 0x21, 0x22, 0xAA},
          {0x8D, 0x9D, 0x47, 0xEE, 0x18, 0xEB, 0x49, 0xEE, 0x10, 0xBC, 0x47, 0xEE},
          {0x76, 0x81, 0xEE, 0x4E, 0xA0, 0xEE},
          {0x99, 0x96, 0xEE, 0x60, 0x6F, 0xEE}},
-        {3, 3, {2, 1, 0, 1, 0}, 13, {4, 3, 3}, 39,
+        {3, 3, {2, 1, 0, 1, 0, 0}, 13, {4, 3, 3}, 39,
          {0x07, 0x80, 0xFA, 0x00, 0xFF, 0xC8, 0x0C, 0x01, 0x40, 0x40, 0x40, 0x02, 0xAA, 0x1B, 0x09, 0x03, 0x10, 0xFF, 0xFF, 0xFF,
           0x11, 0x5A, 0x1E, 0xB4, 0x12, 0xAA, 0x00, 0x00, 0x00, 0x20, 0x01, 0xFA, 0x63, 0x21, 0x84, 0x42, 0x21, 0x22, 0xAA},
          {0x8D, 0x9D, 0x47, 0xEE, 0x18, 0xEB, 0x49, 0xEE, 0x10, 0xBC, 0x47, 0xEE},
@@ -651,6 +737,7 @@ static void test_frames(void)
         uint32_t chroma_rows = reference_chroma_height(frame.height, frame.sampling);
         uint64_t lengths[4];
 
+        frame.rounding = settings[5];
         lengths[0] = wanted[place].source_length;
         lengths[1] = (uint64_t)frame.y_stride * frame.height;
         lengths[2] = (uint64_t)frame.u_stride * chroma_rows;
@@ -735,6 +822,9 @@ static void test_refusals(void)
         frame.kb_bits = matrices[place].kr;
         expect_answer("7.4", (long)place, matrices[place].number, 0, 0, call_frame(&frame, 3, lengths));
     }
+    frame = describe(1, 1, REFERENCE_RGB, REFERENCE_420, REFERENCE_LIMITED, REFERENCE_BT601, REFERENCE_SRGB, strides);
+    frame.rounding = REFERENCE_ROUNDINGS;
+    expect_answer("10.2", 2, 1, 0, 0, call_frame(&frame, 3, lengths));
     frame = describe(1, 16384, REFERENCE_RGB, REFERENCE_420, REFERENCE_LIMITED, REFERENCE_BT601, REFERENCE_SRGB, strides);
     frame.y_stride = 4294967295u;
     expect("7.6", 0, 70368744161280, (long long)((uint64_t)frame.y_stride * frame.height));
@@ -921,7 +1011,7 @@ static void test_bands(void)
 }
 
 /* RULES 8.9: every split of a small frame into bands gives the bytes of the frame call, in all orders and samplings. */
-static void test_every_split(void)
+static void test_every_split(uint32_t rounding)
 {
     enum { WIDTH = 5, HEIGHT = 5, ROW = WIDTH * 4 };
     static const uint32_t strides[3] = {6, 4, 5};
@@ -944,6 +1034,7 @@ static void test_every_split(void)
                 describe(WIDTH, HEIGHT, order, sampling, REFERENCE_LIMITED, REFERENCE_FCC, REFERENCE_REC709, strides);
             uint32_t chroma_rows = reference_chroma_height(HEIGHT, sampling);
 
+            frame.rounding = rounding;
             lengths[0] = ROW * HEIGHT;
             lengths[1] = (uint64_t)strides[0] * HEIGHT;
             lengths[2] = (uint64_t)strides[1] * chroma_rows;
@@ -998,6 +1089,7 @@ int main(void)
     test_longest();
     test_equal_at_1();
     test_every_gamma_entry();
+    test_bytes_that_come_back();
     test_checksums();
     test_steps();
     test_weights();
@@ -1009,7 +1101,8 @@ int main(void)
     test_band_refusals();
     test_finished();
     test_bands();
-    test_every_split();
+    test_every_split(REFERENCE_TRUNCATED);
+    test_every_split(REFERENCE_NEAREST);
     printf("%lu comparisons, %lu differ\n", asked, differing);
     return differing == 0 ? EXIT_SUCCESS : EXIT_FAILURE;
 }
