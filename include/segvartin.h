@@ -220,9 +220,10 @@ static inline uint32_t segvartin_open(uint32_t width, uint32_t height, uint32_t 
 /*
  * Converts the next rows of a frame (RULES 8.2, 8.9). Answers 0, or a refusal: 1 to 13; a refusal leaves *done as it is.
  *
- * The frame's numbers are those of its opening. *done, the planes and the carried row are those that the last accepted call left: then the
- * rows finished are those of segvartin_frame on the same rows, byte for byte. After n rows these are n rows of Y; n rows of U and V in 4:2:2,
- * n / 2 rounded down in 4:2:0, and all once n is h. No other byte of a plane is written.
+ * The frame's numbers are those of its opening by segvartin_open; its tables are truncated, as in every call without options. *done, the planes
+ * and the carried row are those that the last accepted call left: then the rows finished are those of segvartin_frame on the same rows, byte
+ * for byte. After n rows these are n rows of Y; n rows of U and V in 4:2:2, n / 2 rounded down in 4:2:0, and all once n is h. No other byte of a
+ * plane is written.
  *
  *   rows             1 to the rows that remain, h - *done; none remain where *done is h or more
  *   source           the band's rows of w * c bytes: stride at least w * c, source_len exactly stride * rows; stride may change between bands

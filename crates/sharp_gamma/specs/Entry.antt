@@ -25,11 +25,11 @@ takenOff Nearest = 1 over 2
 abbrev pub place : TableRounding → (last n : ℕ) → Fraction
 place r last n = (whole n less takenOff r) dividedBy whole last
 
--- RULES 3.4: the largest n that is not above the curve at v / 255
+-- RULES 3.4: the largest n whose place is not above the curve at v / 255
 unfoldable pub linearEntry : SharpYuvGammaTransfer → TableRounding → ℕ → ℕ
 linearEntry t r v = largest (λ n. underCurve (curveOf t) (place r 65535 n) (v over 255)) 65535
 
--- RULES 3.5: the largest k that is not above the inverse at i / 65,535
+-- RULES 3.5: the largest k whose place is not above the inverse at i / 65,535
 unfoldable pub gammaEntry : SharpYuvGammaTransfer → TableRounding → ℕ → ℕ
 gammaEntry t r i = largest (λ k. underInverse (curveOf t) (place r 255 k) (i over 65535)) 255
 
