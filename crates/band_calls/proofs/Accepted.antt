@@ -32,6 +32,7 @@ rows-given h done rows e =
 pub record AcceptedBand (s : FrameState) (rows stride : ℕ) (n : Lengths) (carried : ℕ) : Type 0 where
   pub sized : Sized (s .frame)
   pub given : Given (bandOf s rows stride) (n .source)
+  pub whole : n .source ≡ stride * rows
   pub planes : PlanesLent (s .frame) (n .y) (n .u) (n .v)
   pub carried-size : 3 * s .frame .width ≤ carried
 
@@ -49,7 +50,8 @@ module _ (s : FrameState) (rows stride : ℕ) (n : Lengths) (carried : ℕ) wher
       let l = buffers (s .frame) rows stride n (b .1) in
       record {
         sized = opened (s .frame) (c .0);
-        given = record { rows-least = r .0; rows-most = r .1; source-row = l .source-row; source-size = l .source-size };
+        given = record { rows-least = r .0; rows-most = r .1; source-row = l .source-row; source-size = omega (arith, l .source-size) };
+        whole = l .source-size;
         planes = l .planes;
         carried-size = ltb-false _ _ (neither _ _ (none-holds last refl (a .1) 13) .0);
       }
@@ -62,7 +64,7 @@ module _ (s : FrameState) (rows stride : ℕ) (n : Lengths) (carried : ℕ) wher
       let few : firstOf row ≡ numbers 0 0 0 =
       rw (ne-eqb rows 0 (λ e. omega (arith, a .given)), le-ltb (s .frame .height - s .done) rows (omega (arith, a .given))) in
       let passes = lent-passes {n = n} (a .sized) (a .given .rows-least)
-      (record { source-row = a .given .source-row; source-size = a .given .source-size; planes = a .planes }) in
+      (record { source-row = a .given .source-row; source-size = a .whole; planes = a .planes }) in
       both-pass (opening ++ row ++ lent) (carriedRules (s .frame .width) carried) refl
       (both-pass (opening ++ row) lent refl (both-pass opening row refl (opening-passes (a .sized)) few) passes)
       (rw (le-ltb carried (3 * s .frame .width) (a .carried-size)))

@@ -63,12 +63,14 @@ fn check_carried(width: u32, carried: usize) -> YuvAnswer
     }
 }
 
-// Refusals 2, 3, 4, 5, then 6 to 12, then 13.
+// Refusals 2, 3, 4, 14, 5, then 6 to 12, then 13.
 fn check_band(state: FrameState, rows: u32, stride: u32, lent: Lengths, carried: usize) -> YuvAnswer
     ensures { λ a. ⌜ numbersOf a ≡ firstOf (bandRules state rows stride lent carried) ⌝ }
 {
     let frame = state.frame;
-    let given = yuv_error::check_opening(frame).and(check_rows(frame.height, state.done, rows));
+    let opening = yuv_error::check_opening(frame);
+    let counted = check_rows(frame.height, state.done, rows);
+    let given = opening.and(counted);
     match given {
         YuvAnswer::Refused(_) => {
             return given;
@@ -128,14 +130,14 @@ fn carry_band(band: Band, source: &[u8], carried: &mut [u8])
         let channels = settings.channels;
         let count = channels.get_channels_count();
         let width = frame.width as usize;
-        let at = (rows as usize - 1) * stride;
+        let at = definitions::row_start(frame, rows as usize - 1, stride);
         let size = width * count;
         carry_row(&source[at..at + size], count, width, carried);
     }
 }
 
 impl FrameState {
-    // Opens a frame: a state with no row done. Refuses a size (2, 3) or a matrix (4).
+    // Opens a frame: a state with no row done. Refuses a size (2, 3), a matrix (4) or a window (14).
     pub fn open(frame: FrameDescription) -> FrameAnswer
         ensures { λ r. ⌜ OpenPost frame r ⌝ }
     {
@@ -146,7 +148,7 @@ impl FrameState {
         }
     }
 
-    // Converts the next `rows` rows of the frame, or answers one numbered refusal (2 to 13), writes no byte and hands the state back as
+    // Converts the next `rows` rows of the frame, or answers one numbered refusal (2 to 14), writes no byte and hands the state back as
     // it is. The planes and the carried row are those that the band before left.
     pub fn band(
         self,

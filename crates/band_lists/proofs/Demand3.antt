@@ -18,7 +18,7 @@ use Rattle.band_calls.specs.declared.FrameAnswer.{FrameAnswer}
 use Rattle.band_calls.specs.BandCall.{BandCall}
 use Rattle.band_lists.specs.BandLists.{Fresh, Tally, Left, After, Demand3}
 use Rattle.band_lists.proofs.Untouched.{refused-untouched}
-use Rattle.band_lists.proofs.SameImage.{frameImage, frame-planes, frame-lent, frame-begins, others-equal}
+use Rattle.band_lists.proofs.SameImage.{imageIn, frame-planes, frame-lent, frame-begins, others-equal}
 use Rattle.band_lists.proofs.Run.{Run, of-calls}
 
 pub opening-sized : (d : FrameDescription) (opening : FrameAnswer) → Fresh d opening → Sized d
@@ -32,16 +32,17 @@ left d sized t i j run =
     record {
       state = run .state;
       planes = λ f same.
-          let p = run .kept (frameImage d f) (frame-begins same) .planes in
+          let p = run .kept (imageIn d f) (frame-begins same) .planes in
           let q = frame-planes same in
-          let image = frameImage d f in
+          let image = imageIn d f in
+          let o = f .frame .window in
           let ys = f .frame .«y_stride» in
           let us = f .frame .«u_stride» in
           let vs = f .frame .«v_stride» in
           record {
-            y-rows = rows-equal refl (run .fits .most) (run .lent .y-row) (frame-lent same .y-row) (p .luma) (luma-strides d ys us vs image (q .luma));
-            u-rows = rows-equal start fewer (run .lent .u-row) (frame-lent same .u-row) (p .cb) (cb-strides d ys us vs image (q .cb));
-            v-rows = rows-equal start fewer (run .lent .v-row) (frame-lent same .v-row) (p .cr) (cr-strides d ys us vs image (q .cr));
+            y-rows = rows-equal refl (run .fits .most) (run .lent .y-row) (frame-lent same .y-row) (p .luma) (luma-strides d o ys us vs image (q .luma));
+            u-rows = rows-equal start fewer (run .lent .u-row) (frame-lent same .u-row) (p .cb) (cb-strides d o ys us vs image (q .cb));
+            v-rows = rows-equal start fewer (run .lent .v-row) (frame-lent same .v-row) (p .cr) (cr-strides d o ys us vs image (q .cr));
           };
       y-others = others-equal refl (own .luma);
       u-others = others-equal start (own .cb);

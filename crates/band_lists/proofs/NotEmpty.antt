@@ -2,7 +2,7 @@
 -- call accepts can be handed over in two bands, cut anywhere, with refused calls before and between them.
 -- Assumes nothing.
 use Prim.Native.Nat.{ℕ, _+_, _*_, _-_, _/_, _%_, _≤_, _<_}
-use mathlib.Core.Path.{_≡_, refl, sym, _∙_}
+use mathlib.Core.Path.{_≡_, refl, sym, ap, _∙_}
 use mathlib.Core.Bool.{true, false}
 use mathlib.Core.List.{List, [], _∷_, map}
 use native.Mathlib.Nat.{le-refl, le-trans, mul-comm, mul-sub, mul-le-mul-left}
@@ -12,7 +12,7 @@ use lib.Seq.{ext-getD, getD-take, getD-drop}
 use Rattle.yuv_error.specs.declared.YuvAnswer.the-variants.{Finished, Refused}
 use Rattle.yuv_error.specs.declared.YuvError.the-variants.{ZeroBaseSize}
 use Rattle.definitions.specs.declared.FrameDescription.{FrameDescription}
-use Rattle.definitions.specs.Image.{rowBytes, rowSize, chromaSize, chromaRows, sourceImage}
+use Rattle.definitions.specs.Image.{wholeSource, rowBytes, rowSize, rowStart, chromaSize, chromaRows, frameImage}
 use Rattle.definitions.specs.Bands.{ownRows, bandImage}
 use Rattle.yuv_error.specs.Known.{Sized, Given, PlanesLent}
 use Rattle.definitions.proofs.Numbers.{row-end}
@@ -39,8 +39,7 @@ use Rattle.band_lists.proofs.Repainted.{can-paint, can-sharpen}
 abbrev laid : (size h : ℕ) → (ℕ → List ℕ) → List ℕ
 laid size h row = tabulate (size * h) (λ p. getD (row (p / size)) (p % size) 0)
 
-laid-row : (size h : ℕ) (row : ℕ → List ℕ) (r : ℕ) → r < h → length (row r) ≡ size → rowBytes size size (laid size h row) r ≡ row r
-unfolding rowBytes
+laid-row : (size h : ℕ) (row : ℕ → List ℕ) (r : ℕ) → r < h → length (row r) ≡ size → take size (drop (r * size) (laid size h row)) ≡ row r
 laid-row size h row r l e = ext-getD 0 _ _ (long ∙ sym e) (λ i m. byte i (omega (arith, long)))
   where
     inside : r * size + size ≤ size * h
@@ -62,6 +61,7 @@ abbrev unpadded : FrameDescription → FrameDescription
 unpadded d = record {
   width = d .width;
   height = d .height;
+  window = wholeSource (d .width) (d .height);
   settings = d .settings;
   «y_stride» = d .width;
   «u_stride» = chromaSize d;
@@ -90,15 +90,20 @@ module _ (d : FrameDescription) (sized : Sized d) (t : Tally) (fits : Fits d t) 
   }
 
   pub some-frame : (f : FrameCall) × SameRows d t f
+  unfolding rowBytes
   some-frame =
       let same : Sized (unpadded d) = record {
         width-least = sized .width-least;
         width-most = sized .width-most;
         height-least = sized .height-least;
         height-most = sized .height-most;
+        source-width-most = sized .width-most;
+        source-height-most = sized .height-most;
         matrix = sized .matrix;
+        right = omega arith;
+        bottom = omega arith;
       } in
-      let p = can-sharpen 0 (sourceImage (unpadded d) (rowSize d) (sourceWith d t)) (lent .planes) (le-refl (d .height)) in (
+      let p = can-sharpen 0 (frameImage (unpadded d) (rowSize d) (sourceWith d t)) (lent .planes) (le-refl (d .height)) in (
         frameCall (unpadded d) (rowSize d) (sourceWith d t) (lumaZeros d) (chromaZeros d) (chromaZeros d) Finished (p .0) (p .1) (p .2),
         record {
           met = record { answered = sym (frame-passes same lent); planes = p .3 };
@@ -106,7 +111,8 @@ module _ (d : FrameDescription) (sized : Sized d) (t : Tally) (fits : Fits d t) 
           width = refl;
           height = refl;
           settings = refl;
-          rows = λ r l. laid-row (rowSize d) (d .height) (λ r. getD (t .rows) r []) r (omega (arith, fits .most)) (fits .long r l);
+          rows = λ r l. ap (λ (p : ℕ). take (rowSize d) (drop p (sourceWith d t))) (let e : rowStart (unpadded d) (rowSize d) (0 + r) ≡ r * rowSize d
+              = omega arith in e) ∙ laid-row (rowSize d) (d .height) (λ r. getD (t .rows) r []) r (omega (arith, fits .most)) (fits .long r l);
         },
       )
 
@@ -124,7 +130,7 @@ frame-of-calls d opening calls fresh met chain =
 abbrev turnedAway : FrameDescription → BandCall
 turnedAway d =
     let s : FrameState = record {
-      frame = record { width = 0; height = 0; settings = d .settings; «y_stride» = 0; «u_stride» = 0; «v_stride» = 0 };
+      frame = record { width = 0; height = 0; window = d .window; settings = d .settings; «y_stride» = 0; «u_stride» = 0; «v_stride» = 0 };
       done = 7;
     } in
     bandCall s 0 0 [] [] [] [] [] (record { state = s; answer = Refused ZeroBaseSize }) [] [] [] []
@@ -179,30 +185,43 @@ pub record Handed (d : FrameDescription) (calls : List BandCall) : Type 0 where
 -- m rows of the frame in one band, and the others in the next
 module _ (d : FrameDescription) (stride : ℕ) (source y u v : List ℕ) (a : Accepted d stride (lengthsOf source y u v)) (m : ℕ) (some : 1 ≤ m)
     (fewer : m < d .height) (carried : List ℕ) (long : 3 * d .width ≤ length carried) where
-  first-given : Given (bandOf (stateOf d 0) m stride) (length (take (stride * m) source))
+  -- the source's rows with the frame in them
+  abbrev its-rows : List ℕ
+  its-rows = take (stride * d .height) (drop (d .window .top * stride) source)
+
+  its-size : length its-rows ≡ stride * d .height
+  its-size = simp (length-take, length-drop) (omega (arith, a .lent .given .source-size))
+
+  first-size : length (take (stride * m) its-rows) ≡ stride * m
+  first-size = length-take (stride * m) its-rows ∙ omega (arith, its-size, mul-le-mul-left {m = m} {n = d .height} stride (omega arith))
+
+  second-size : length (drop (stride * m) its-rows) ≡ stride * (d .height - m)
+  second-size = length-drop (stride * m) its-rows ∙ omega (arith, its-size, mul-sub stride (d .height) m)
+
+  first-given : Given (bandOf (stateOf d 0) m stride) (length (take (stride * m) its-rows))
   first-given = record {
     rows-least = some;
     rows-most = omega arith;
     source-row = a .lent .given .source-row;
-    source-size = simp length-take (omega (arith, a .lent .given .source-size, mul-le-mul-left {m = m} {n = d .height} stride (omega arith)));
+    source-size = omega (arith, first-size);
   }
 
-  second-given : Given (bandOf (stateOf d (0 + m)) (d .height - m) stride) (length (drop (stride * m) source))
+  second-given : Given (bandOf (stateOf d (0 + m)) (d .height - m) stride) (length (drop (stride * m) its-rows))
   second-given = record {
     rows-least = omega arith;
     rows-most = omega arith;
     source-row = a .lent .given .source-row;
-    source-size = simp length-drop (omega (arith, a .lent .given .source-size, mul-sub stride (d .height) m));
+    source-size = omega (arith, second-size);
   }
 
   pub in-two-bands : (calls : List BandCall) × Handed d calls × (map isAccepted calls ≡ false ∷ true ∷ false ∷ true ∷ [])
       × (tallyOf d noRows calls .n ≡ d .height)
   in-two-bands =
       let lent = a .lent .planes in
-      let source₁ = take (stride * m) source in
-      let source₂ = drop (stride * m) source in
+      let source₁ = take (stride * m) its-rows in
+      let source₂ = drop (stride * m) its-rows in
       let a₁ : AcceptedBand (stateOf d 0) m stride (lengthsOf source₁ y u v) (length carried) =
-      record { sized = a .lent .sized; given = first-given; planes = lent; carried-size = long } in
+      record { sized = a .lent .sized; given = first-given; whole = first-size; planes = lent; carried-size = long } in
       let k₁ = taken (stateOf d 0) m stride source₁ y u v carried a₁ in
       let p = k₁ .met .planes in
       let after : PlanesLent d (length (k₁ .y′)) (length (k₁ .u′)) (length (k₁ .v′)) = record {
@@ -214,7 +233,7 @@ module _ (d : FrameDescription) (stride : ℕ) (source y u v : List ℕ) (a : Ac
         v-size = p .cr .size ∙ lent .v-size;
       } in
       let a₂ : AcceptedBand (stateOf d (0 + m)) (d .height - m) stride (lengthsOf source₂ (k₁ .y′) (k₁ .u′) (k₁ .v′)) (length (k₁ .carried′)) =
-      record { sized = a .lent .sized; given = second-given; planes = after; carried-size = omega (arith, long, k₁ .met .carry .size) } in
+      record { sized = a .lent .sized; given = second-given; whole = second-size; planes = after; carried-size = omega (arith, long, k₁ .met .carry .size) } in
       let k₂ = taken (stateOf d (0 + m)) (d .height - m) stride source₂ (k₁ .y′) (k₁ .u′) (k₁ .v′) (k₁ .carried′) a₂ in
       let no₁ = is-refused d in
       let yes₁ = is-accepted k₁ a₁ in

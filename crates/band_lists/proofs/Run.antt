@@ -38,7 +38,7 @@ run-more d t i k e met handed fits kept =
     record {
       state = rw all at (post .state);
       lent = a .planes;
-      fits = fits-counted d t k fits (a .given);
+      fits = fits-counted d t k fits (a .sized) (a .given);
       kept = λ image begins. kept-band (k .source) (k .carried) (a .given)
           (λ r l m x b _ _. ap (λ (row : Pixels). row x b) (begins-own d t k fits begins r l m))
           (kept image (begins-before d t k fits begins)) (rw all at (post .planes)) (rw all at (post .carry));

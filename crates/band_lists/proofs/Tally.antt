@@ -11,8 +11,8 @@ use Rattle.definitions.specs.Row.{pixelsOf}
 use Rattle.definitions.specs.declared.FrameDescription.{FrameDescription}
 use Rattle.definitions.specs.Image.{Image, rowBytes, pixelSize, rowSize, sourceImage}
 use Rattle.definitions.specs.Bands.{ownRows}
-use Rattle.yuv_error.specs.Known.{Given}
-use Rattle.definitions.proofs.Numbers.{row-end}
+use Rattle.yuv_error.specs.Known.{Sized, Given}
+use Rattle.definitions.proofs.Numbers.{row-end, columns-inside}
 use Rattle.definitions.proofs.Planes.{below?}
 use Rattle.band_calls.specs.BandCall.{stateOf, bandOf, BandCall}
 use Rattle.band_lists.specs.BandLists.{Tally, noRows, tabulate, counted}
@@ -43,7 +43,7 @@ Begins d t image = (r : ℕ) → r < t .n → image r ≡ pixelsOf (pixelSize d)
 
 -- row r of a call's own
 abbrev rowOf : FrameDescription → BandCall → ℕ → List ℕ
-rowOf d k = rowBytes (rowSize d) (k .stride) (k .source)
+rowOf d k = rowBytes d (k .stride) (k .source)
 
 -- an accepted call's rows behind the tally's
 module _ (d : FrameDescription) (t : Tally) (k : BandCall) (fits : Fits d t) where
@@ -55,16 +55,22 @@ module _ (d : FrameDescription) (t : Tally) (k : BandCall) (fits : Fits d t) whe
       ap (λ (p : ℕ). getD (counted d k t .rows) p []) (omega (arith, fits .count)) ∙ getD-append-add (t .rows) (tabulate (k .rows) (rowOf d k))
       (r - t .n) [] ∙ getD-tabulate (k .rows) (rowOf d k) (r - t .n) [] (omega arith)
 
-  pub fits-counted : Given (bandOf (stateOf d (t .n)) (k .rows) (k .stride)) (length (k .source)) → Fits d (counted d k t)
+  pub fits-counted : Sized d → Given (bandOf (stateOf d (t .n)) (k .rows) (k .stride)) (length (k .source)) → Fits d (counted d k t)
   unfolding rowBytes
-  fits-counted given = record {
+  fits-counted sized given = record {
     most = given .rows-most;
     count = simp (length-append, length-tabulate) (omega (arith, fits .count));
     long = λ r l. below? r (t .n) (λ m. ap length (row-before r m) ∙ fits .long r m) (λ m. ap length (row-own r m l) ∙ long (r - t .n) (omega arith));
   }
     where
       long : (r : ℕ) → r < k .rows → length (rowOf d k r) ≡ rowSize d
-      long r l = simp (length-take, length-drop) (omega (arith, given, row-end r (k .rows) (k .stride) l, mul-comm (k .stride) (k .rows)))
+      long r l = simp (length-take, length-drop) (omega (
+        arith,
+        given,
+        row-end r (k .rows) (k .stride) l,
+        mul-comm (k .stride) (k .rows),
+        columns-inside (d .window .left) (d .width) (d .window .«source_width») (pixelSize d) (sized .right),
+      ))
 
   pub begins-before : {image : Image} → Begins d (counted d k t) image → Begins d t image
   begins-before begins r l = begins r (omega arith) ∙ ap (pixelsOf _) (row-before r l)

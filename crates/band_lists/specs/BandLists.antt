@@ -9,7 +9,7 @@ use lib.ListN.{length, getD}
 use Rattle.yuv_error.specs.declared.YuvAnswer.the-variants.{Finished}
 use Rattle.yuv_error.specs.Rules.{firstOf}
 use Rattle.definitions.specs.declared.FrameDescription.{FrameDescription}
-use Rattle.definitions.specs.Image.{rowBytes, rowSize, chromaSize, finishedOf}
+use Rattle.definitions.specs.Image.{rowBytes, chromaSize, finishedOf}
 use Rattle.definitions.specs.Plane.{written, RowsEqual}
 use Rattle.sharp_rgba_to_yuv.specs.FrameCall.{FrameCall, FramePost}
 use Rattle.band_calls.specs.declared.FrameState.{FrameState}
@@ -46,9 +46,9 @@ abbrev pub tabulate : {A : Type 0} → (m : ℕ) → (ℕ → A) → List A
 tabulate zero f = []
 tabulate (suc m) f = tabulate m f ++ (f m ∷ [])
 
--- RULES 8.9: an accepted band of m rows adds m to n and puts the w × c bytes of each of its rows behind the list, first row first
+-- RULES 8.9: an accepted band of m rows adds m to n and puts the w × c bytes of the frame's pixels in each of its rows behind the list, first row first
 abbrev pub counted : FrameDescription → BandCall → Tally → Tally
-counted d k t = record { n = t .n + k .rows; rows = t .rows ++ tabulate (k .rows) (rowBytes (rowSize d) (k .stride) (k .source)) }
+counted d k t = record { n = t .n + k .rows; rows = t .rows ++ tabulate (k .rows) (rowBytes d (k .stride) (k .source)) }
 
 -- RULES 8.9: a refused call changes neither
 abbrev pub tallyOf : FrameDescription → Tally → List BandCall → Tally
@@ -86,15 +86,15 @@ abbrev pub Chained : FrameState → Accepted → List BandCall → Type 0
 Chained o p [] = Unit {0}
 Chained o p (k ∷ ks) = either (isAccepted k) (Follows o p k × Chained o (call k) ks) (Chained o p ks)
 
--- RULES 8.9: an accepted frame call of the opening's size and settings whose first n rows are the tally's, whatever its later rows, strides and
--- buffers; the first part is the very predicate of the `ensures` of `rgbx_to_sharp_yuv`
+-- RULES 8.9: an accepted frame call of the opening's size and settings whose first n rows are the tally's, whatever its window, later rows, strides
+-- and buffers; the first part is the very predicate of the `ensures` of `rgbx_to_sharp_yuv`
 pub record SameRows (d : FrameDescription) (t : Tally) (f : FrameCall) : Type 0 where
   pub met : FramePost f
   pub accepted : f .answer ≡ Finished
   pub width : f .frame .width ≡ d .width
   pub height : f .frame .height ≡ d .height
   pub settings : f .frame .settings ≡ d .settings
-  pub rows : (r : ℕ) → r < t .n → rowBytes (rowSize d) (f .stride) (f .source) r ≡ getD (t .rows) r []
+  pub rows : (r : ℕ) → r < t .n → rowBytes (f .frame) (f .stride) (f .source) (f .frame .window .top + r) ≡ getD (t .rows) r []
 
 -- RULES 8.9: every byte but the first n of the first `rows` rows
 abbrev pub OthersEqual : (rows n stride : ℕ) → (plane plane′ : List ℕ) → Type 0

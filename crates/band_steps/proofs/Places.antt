@@ -7,8 +7,8 @@ use native.Mathlib.Omega.{arith}
 use Rattle.yuv_support.specs.declared.YuvChromaSubsampling.{YuvChromaSubsampling}
 use Rattle.yuv_support.specs.declared.YuvChromaSubsampling.the-variants.{Yuv420, Yuv422}
 use Rattle.yuv_support.specs.Sampling.{chromaHeight}
-use Rattle.definitions.specs.Image.{chromaSize, chromaRows}
-use Rattle.definitions.proofs.Numbers.{row-end, next-row}
+use Rattle.definitions.specs.Image.{pixelSize, rowSize, rowStart, chromaSize, chromaRows}
+use Rattle.definitions.proofs.Numbers.{row-end, next-row, columns-inside}
 use Rattle.band_steps.specs.declared.Work.{Work}
 use Rattle.band_steps.specs.declared.Step.{Step}
 use Rattle.yuv_error.specs.Known.{Lent}
@@ -39,6 +39,13 @@ place-small k stride a b = omega (arith, mul-le-mul {n₁ = k} {m₁ = stride} {
 pub row-is : (w : Work) {row : ℕ} {s : Step} → s ≡ stepOf w row → s .row ≡ row
 row-is w e = ap (λ (s : Step). s .row) e
 
+-- the frame's columns lie in a source row
+in-row : (w : Work) {source y u v : ℕ} → Lent (bandOf w) source y u v
+    → frameOf w .window .left * pixelSize (frameOf w) + rowSize (frameOf w) ≤ w .stride
+in-row w lent =
+    let d = frameOf w in
+    omega (arith, columns-inside (d .window .left) (d .width) (d .window .«source_width») (pixelSize d) (lent .sized .right), lent .given .source-row)
+
 module _ (w : Work) {source y u v : ℕ} (lent : Lent (bandOf w) source y u v) {row : ℕ} (least : w .done ≤ row) (most : row < w .done + w .count) where
   pub inside : row < frameOf w .height
   inside = omega (arith, lent .given .rows-most)
@@ -46,15 +53,23 @@ module _ (w : Work) {source y u v : ℕ} (lent : Lent (bandOf w) source y u v) {
   source-end : (row - w .done) * w .stride + w .stride ≤ source
   source-end = omega (arith, row-end (row - w .done) (w .count) (w .stride) (omega arith), mul-comm (w .stride) (w .count), lent .given .source-size)
 
+  -- the frame's pixels in the row
+  row-inside : rowStart (frameOf w) (w .stride) (row - w .done) + rowSize (frameOf w) ≤ (row - w .done) * w .stride + w .stride
+  row-inside = omega (arith, in-row w lent)
+
   -- what `step_at` asks
   pub step-fits : source < 18446744073709551616
-      → ((frameOf w .width ≤ 16384) × (w .done ≤ row) × (row ≤ 16384)) × ((row - w .done) * w .stride < 18446744073709551616)
-  step-fits fits = ((lent .sized .width-most, least, omega (arith, inside, lent .sized .height-most)), omega (arith, source-end))
+      → ((frameOf w .width ≤ 16384) × (frameOf w .window .left ≤ 16384) × (w .done ≤ row) × (row ≤ 16384))
+      × (rowStart (frameOf w) (w .stride) (row - w .done) < 18446744073709551616)
+  step-fits fits = (
+    (lent .sized .width-most, omega (arith, lent .sized .right, lent .sized .source-width-most), least, omega (arith, inside, lent .sized .height-most)),
+    omega (arith, source-end, row-inside),
+  )
 
   module _ {s : Step} (is : s ≡ stepOf w row) where
     pub source-at : SourceAt w s source
     source-at = subst⁻¹ (λ (s : Step). SourceAt w s source) is
-        (record { least = least; most = most; place = refl; size = refl; room = omega (arith, source-end, lent .given .source-row) })
+        (record { least = least; most = most; place = refl; size = refl; room = omega (arith, source-end, row-inside) })
 
     pub y-at : YAt w s y
     y-at = subst⁻¹ (λ (s : Step). YAt w s y) is
@@ -88,7 +103,7 @@ module _ (w : Work) {source y u v : ℕ} (lent : Lent (bandOf w) source y u v) {
           row-end (i + 1) (w .count) (w .stride) (omega arith),
           mul-comm (w .stride) (w .count),
           lent .given .source-size,
-          lent .given .source-row,
+          in-row w lent,
         );
         y-room = omega (
           arith,

@@ -11,12 +11,13 @@ use Rattle.yuv_support.specs.declared.YuvChromaSubsampling.{YuvChromaSubsamplin
 use Rattle.yuv_support.specs.declared.YuvChromaSubsampling.the-variants.{Yuv420, Yuv422}
 use Rattle.definitions.specs.declared.FrameDescription.{FrameDescription}
 use Rattle.definitions.specs.Row.{Pixels, pixelsOf, lumaRow, cbRow, crRow, input420, input422}
-use Rattle.definitions.specs.Image.{Image, sourceImage, rowBytes, pixelSize, rowSize, chromaSize, lumaAt, cbAt, crAt, chromaInput, finishedBy, finishedOf}
+use Rattle.definitions.specs.Image.{Image, sourceImage, rowBytes, pixelSize, rowSize, rowStart, chromaSize, lumaAt, cbAt, crAt, chromaInput, finishedBy, finishedOf}
 use Rattle.definitions.specs.Painted.{Painted}
 use Rattle.definitions.specs.Bands.{ownRows, bandImage, Sharpened}
 use Rattle.definitions.proofs.Planes.{plane-none, plane-between}
 use Rattle.definitions.proofs.Finished.{finished-all, finished-some, finished?}
 use Rattle.definitions.proofs.Bands.{band-own-rows}
+use Rattle.definitions.proofs.Windows.{own-row}
 use Rattle.definitions.proofs.Numbers.{next-row}
 use Rattle.pixel_pairs.specs.Rows.{ChromaRoom, TwoPainted, ChromaWritten}
 use Rattle.band_steps.specs.declared.Work.{Work}
@@ -51,27 +52,22 @@ chroma-room w {s} u v at = record {
 
 -- ---- rows of the source
 
-own-row : (w : Work) (source : List ℕ) (i at size : ℕ) → at ≡ (i - w .done) * w .stride → size ≡ rowSize (frameOf w)
-    → pixels (frameOf w) (part at size source) ≡ ownRows (bandOf w) source i
-unfolding ownRows sourceImage rowBytes
-own-row w source i at size place long = let a : at + size - at ≡ rowSize (frameOf w) = omega arith in rw (a, place)
-
 pub row-seen : (w : Work) {s : Step} (source : List ℕ) (image : Image) → SourceAt w s (length source) → Sees w source image
     → pixels (frameOf w) (part (s .source) (s .size) source) ≡ image (s .row)
-row-seen w {s} source image p sees = own-row w source (s .row) (s .source) (s .size) (p .place) (p .size) ∙ sees (s .row) (p .least)
+row-seen w {s} source image p sees = own-row (bandOf w) source (s .row) (s .source) (s .size) (p .place) (p .size) ∙ sees (s .row) (p .least)
 
 -- and the row below it
 pub next-seen : (w : Work) {s : Step} (source : List ℕ) (image : Image) → SourceAt w s (length source) → Sees w source image
     → pixels (frameOf w) (part (s .source + w .stride) (s .size) source) ≡ image (s .row + 1)
 next-seen w {s} source image p sees =
     let next : s .row - w .done + 1 ≡ s .row + 1 - w .done = omega (arith, p .least) in
-    let place : s .source + w .stride ≡ (s .row + 1 - w .done) * w .stride = omega (
+    let place : s .source + w .stride ≡ rowStart (frameOf w) (w .stride) (s .row + 1 - w .done) = omega (
       arith,
       p .place,
       next-row (s .row - w .done) (w .stride),
       ap (λ (i : ℕ). i * w .stride) next,
     ) in
-    own-row w source (s .row + 1) (s .source + w .stride) (s .size) place (p .size) ∙ sees (s .row + 1) (omega (arith, p .least))
+    own-row (bandOf w) source (s .row + 1) (s .source + w .stride) (s .size) place (p .size) ∙ sees (s .row + 1) (omega (arith, p .least))
 
 -- the image that the band sees has its own rows
 pub sees-own : (w : Work) (source carried : List ℕ) → Sees w source (bandImage (bandOf w) source carried)

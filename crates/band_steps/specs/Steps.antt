@@ -7,7 +7,7 @@ use Rattle.yuv_support.specs.declared.YuvChromaSubsampling.{YuvChromaSubsamplin
 use Rattle.yuv_support.specs.declared.YuvChromaSubsampling.the-variants.{Yuv420, Yuv422}
 use Rattle.definitions.specs.declared.FrameDescription.{FrameDescription}
 use Rattle.definitions.specs.declared.Band.{Band}
-use Rattle.definitions.specs.Image.{Image, lumaAt, cbAt, crAt, rowSize, chromaSize}
+use Rattle.definitions.specs.Image.{Image, lumaAt, cbAt, crAt, rowSize, rowStart, chromaSize}
 use Rattle.definitions.specs.Plane.{PlaneIs}
 use Rattle.definitions.specs.Bands.{ownRows}
 use Rattle.pixel_pairs.specs.Tables.{Prepared}
@@ -31,7 +31,7 @@ chromaOf d row = chromaRow (d .settings .sampling) row
 abbrev pub stepOf : Work → (row : ℕ) → Step
 stepOf w row = let d = frameOf w in record {
   row = row;
-  source = (row - w .done) * w .stride;
+  source = rowStart d (w .stride) (row - w .done);
   size = rowSize d;
   y = row * d .«y_stride»;
   width = d .width;
@@ -44,7 +44,7 @@ stepOf w row = let d = frameOf w in record {
 pub record SourceAt (w : Work) (s : Step) (length : ℕ) : Type 0 where
   pub least : w .done ≤ s .row
   pub most : s .row < w .done + w .count
-  pub place : s .source ≡ (s .row - w .done) * w .stride
+  pub place : s .source ≡ rowStart (frameOf w) (w .stride) (s .row - w .done)
   pub size : s .size ≡ rowSize (frameOf w)
   pub room : s .source + s .size ≤ length
 

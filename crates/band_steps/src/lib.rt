@@ -7,7 +7,7 @@ ghost use mathlib.Core.Path.{_≡_};
 ghost use Prim.Native.Nat.{_+_, _*_, _-_, _/_, _%_, _≤_, _<_};
 ghost use lib.ListN.{length};
 ghost use Rattle.definitions.specs.Row.{pixelsOf};
-ghost use Rattle.definitions.specs.Image.{Image, rowSize};
+ghost use Rattle.definitions.specs.Image.{Image, rowStart};
 ghost use Rattle.definitions.specs.Bands.{Sharpened};
 ghost use Rattle.pixel_pairs.specs.Tables.{Summed};
 ghost use Rattle.band_steps.specs.Steps.{frameOf, chromaRow, stepOf, SourceAt, YAt, PairAt, ForStep, Sees, LumaIs, ChromaIs};
@@ -41,19 +41,10 @@ fn chroma_row(sampling: YuvChromaSubsampling, row: usize) -> usize
     }
 }
 
-fn row_size(frame: FrameDescription) -> usize
-    requires { ⌜ frame .width ≤ 16384 ⌝ }
-    ensures { λ n. ⌜ n ≡ rowSize frame ⌝ }
-{
-    let settings = frame.settings;
-    let channels = settings.channels;
-    frame.width as usize * channels.get_channels_count()
-}
-
 // The step of a row.
 pub fn step_at(work: Work, row: usize) -> Step
-    requires { ⌜ (frameOf work .width ≤ 16384) × (work .done ≤ row) × (row ≤ 16384) ⌝ }
-    requires { ⌜ (row - work .done) * work .stride < 18446744073709551616 ⌝ }
+    requires { ⌜ (frameOf work .width ≤ 16384) × (frameOf work .window .left ≤ 16384) × (work .done ≤ row) × (row ≤ 16384) ⌝ }
+    requires { ⌜ rowStart (frameOf work) (work .stride) (row - work .done) < 18446744073709551616 ⌝ }
     ensures { λ s. ⌜ s ≡ stepOf work row ⌝ }
 {
     let rows = work.rows;
@@ -64,8 +55,8 @@ pub fn step_at(work: Work, row: usize) -> Step
     let k = chroma_row(sampling, row);
     Step {
         row,
-        source: (row - work.done) * work.stride,
-        size: row_size(frame),
+        source: definitions::row_start(frame, row - work.done, work.stride),
+        size: definitions::row_size(frame),
         y: row * frame.y_stride as usize,
         width,
         u: k * frame.u_stride as usize,

@@ -1,5 +1,6 @@
 -- The numbers that C passes for a description, and beside them kr and kb: docs/RULES.md, 1.2, 10.1 and 10.2.
--- Where a number is missing or a code has no meaning, 0 or the first one stands here: refusal 1 is first, so no answer turns on it.
+-- The rounding and the window may be left out: then it is Truncated, and the window is the whole source. Where another number is missing or a code has no
+-- meaning, 0 or the first one stands here: refusal 1 is first, so no answer turns on it.
 -- Assumes nothing.
 use Prim.Native.Nat.{ℕ, _+_}
 use mathlib.Core.Bool.{Bool, true, cond, _||_}
@@ -15,7 +16,9 @@ use Rattle.yuv_support.specs.declared.YuvStandardMatrix.the-variants.{Bt601, Cu
 use Rattle.sharp_gamma.specs.declared.SharpYuvGammaTransfer.the-variants.{Srgb}
 use Rattle.sharp_gamma.specs.declared.TableRounding.the-variants.{Truncated}
 use Rattle.definitions.specs.declared.YuvSettings.{YuvSettings}
+use Rattle.definitions.specs.declared.Window.{Window}
 use Rattle.definitions.specs.declared.FrameDescription.{FrameDescription}
+use Rattle.definitions.specs.Image.{wholeSource}
 use Rattle.yuv_error.specs.Rules.{Rule, rule}
 use Rattle.setting_codes.specs.Codes.{channelsCodes, samplingCodes, rangeCodes, matrixCodes, transferCodes, roundingCodes, customCode}
 
@@ -38,11 +41,18 @@ settingsOf numbers custom = record {
   rounding = getD roundingCodes (at numbers 10) Truncated;
 }
 
+-- RULES 10.1: fewer than fifteen numbers have the whole source as window
+unfoldable pub windowOf : (numbers : List ℕ) → Window
+windowOf numbers =
+    cond (ltb (length numbers) 15) (wholeSource (at numbers 0) (at numbers 1))
+    (record { left = at numbers 11; top = at numbers 12; «source_width» = at numbers 13; «source_height» = at numbers 14 })
+
 -- RULES 10.1: the frame that a description's numbers describe
 abbrev pub descriptionOf : (numbers : List ℕ) → (custom : List Float) → FrameDescription
 descriptionOf numbers custom = record {
   width = at numbers 0;
   height = at numbers 1;
+  window = windowOf numbers;
   settings = settingsOf numbers custom;
   «y_stride» = at numbers 7;
   «u_stride» = at numbers 8;
@@ -59,9 +69,9 @@ isUnknown numbers =
     || leb (length transferCodes) (at numbers 6)
     || leb (length roundingCodes) (at numbers 10)
 
--- RULES 10.1: so many numbers before a description, which has 10, or 11 with the rounding
+-- RULES 10.1: so many numbers before a description, which has 10, or 11 with the rounding, or 15 with the window too
 abbrev pub isCounted : (before count : ℕ) → Bool
-isCounted before count = eqb count (before + 10) || eqb count (before + 11)
+isCounted before count = eqb count (before + 10) || eqb count (before + 11) || eqb count (before + 15)
 
 -- RULES 10.2: another count of numbers, or a code without a meaning
 unfoldable pub isMalformed : (before : ℕ) → List ℕ → Bool

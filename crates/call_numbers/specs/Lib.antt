@@ -1,2 +1,3 @@
 -- What a caller's numbers mean.
 pub mod Codes
+pub mod Old

@@ -1,6 +1,7 @@
 // The numbers that a caller without enums and structs passes and is told: a description in a slice, so that a later setting is one number more; an
 // answer as its number, expected and received.
 use definitions::FrameDescription;
+use definitions::Window;
 use definitions::YuvSettings;
 use yuv_error::YuvAnswer;
 use yuv_support::YuvStandardMatrix;
@@ -9,13 +10,15 @@ ghost use mathlib.Core.Bool.{false};
 ghost use Prim.Native.Nat.{_+_, _≤_};
 ghost use lib.ListN.{length, getD, drop, set};
 ghost use Rattle.yuv_error.specs.Numbers.{numbersOf};
-ghost use Rattle.call_numbers.specs.Codes.{matrixOf, settingsOf, descriptionOf, isUnknown, isMalformed};
+ghost use Rattle.call_numbers.specs.Codes.{matrixOf, settingsOf, windowOf, descriptionOf, isUnknown, isMalformed};
 
 // The numbers of a description: width, height, channels, sampling, range, matrix, transfer, y_stride, u_stride, v_stride.
 const DESCRIPTION: usize = 10;
 
-// The same with the rounding, which comes last.
+// The same with the rounding behind them, and with left, top, source_width and source_height behind that.
 const WITH_ROUNDING: usize = 11;
+
+const WITH_WINDOW: usize = 15;
 
 // The code of a matrix of the caller's own kr and kb; those below it are the named ones.
 const CUSTOM: u32 = 6;
@@ -47,7 +50,10 @@ pub fn is_malformed(before: usize, numbers: &[u32]) -> bool
     ensures { λ r. ⌜ r ≡ isMalformed before (now (numbers .entry)) ⌝ }
 {
     let count = numbers.len();
-    if (count == before + DESCRIPTION) | (count == before + WITH_ROUNDING) {
+    if (count == before + DESCRIPTION)
+        | (count == before + WITH_ROUNDING)
+        | (count == before + WITH_WINDOW)
+    {
         return has_unknown(&numbers[before..]);
     }
     true
@@ -77,15 +83,37 @@ fn settings_of(numbers: &[u32], custom: &[f32; 2]) -> YuvSettings
     }
 }
 
+fn window_of(numbers: &[u32]) -> Window
+    requires { ⌜ 10 ≤ length (now numbers) ⌝ }
+    ensures { λ r. ⌜ r ≡ windowOf (now (numbers .entry)) ⌝ }
+{
+    if numbers.len() < WITH_WINDOW {
+        return Window {
+            left: 0,
+            top: 0,
+            source_width: numbers[0],
+            source_height: numbers[1],
+        };
+    }
+    Window {
+        left: numbers[11],
+        top: numbers[12],
+        source_width: numbers[13],
+        source_height: numbers[14],
+    }
+}
+
 // The frame that a description's numbers describe.
 fn describe(numbers: &[u32], custom: &[f32; 2]) -> FrameDescription
     requires { ⌜ 10 ≤ length (now numbers) ⌝ }
     ensures { λ r. ⌜ r ≡ descriptionOf (now (numbers .entry)) (now (custom .entry)) ⌝ }
 {
+    let window = window_of(numbers);
     let settings = settings_of(numbers, custom);
     FrameDescription {
         width: numbers[0],
         height: numbers[1],
+        window,
         settings,
         y_stride: numbers[7],
         u_stride: numbers[8],

@@ -25,7 +25,7 @@ module _ (b : Band) (source carried : List ℕ) where
   unfolding bandImage
   band-carried i h = sym (ap (λ (t : Bool). cond t (pixelsOf 3 carried) (ownRows b source i)) (lt-ltb i (b .done) h))
 
-  -- with no row done, a band's own rows are the source's, and nothing is above them
+  -- with no row done, a band's own rows are those of its source, and nothing is above them
   pub all-rows-image : b .done ≡ 0 → bandImage b source carried ≡ sourceImage (b .frame) (b .stride) source
   unfolding ownRows
   all-rows-image first =

@@ -7,6 +7,7 @@ pub mod Finished
 pub mod SameRows
 pub mod SameImages
 pub mod Bands
+pub mod Windows
 pub mod Inputs
 pub mod Flat
 pub mod Worked

@@ -19,6 +19,10 @@ row-end i n c h = omega (arith, mul-le-mul-right {m = i + 1} {n = n} c (omega ar
 pub next-row : (i c : ℕ) → (i + 1) * c ≡ i * c + c
 next-row i c = omega (arith, add-mul i 1 c, one-mul c)
 
+-- so many bytes of pixels from a column on lie in a row that reaches past the last of them
+pub columns-inside : (left w n c : ℕ) → left + w ≤ n → left * c + w * c ≤ n * c
+columns-inside left w n c h = omega (arith, mul-le-mul-right {m = left + w} {n = n} c h, add-mul left w c)
+
 pub three-or-four : (c : YuvSourceChannels) → (3 ≤ channelsCount c) × (channelsCount c ≤ 4)
 three-or-four Rgb = (lit≤ tt, lit≤ tt)
 three-or-four Rgba = (lit≤ tt, lit≤ tt)

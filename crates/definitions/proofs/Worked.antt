@@ -1,5 +1,5 @@
 -- Worked lines, as one set over the definitions; they are among the examples of docs/RULES.md that the comments name. Where a line names no channel
--- order, transfer, rounding, sampling or size, it is shown for all of them.
+-- order, transfer, rounding, sampling, size or window, it is shown for all of them.
 -- Assumes nothing.
 use Prim.Native.Nat.{ℕ, _+_, _*_, _≤_, _<_}
 use mathlib.Core.Path.{_≡_, refl, sym, _∙_}
@@ -16,6 +16,7 @@ use Rattle.sharp_gamma.specs.declared.SharpYuvGammaTransfer.{SharpYuvGammaTrans
 use Rattle.sharp_gamma.specs.declared.TableRounding.{TableRounding}
 use Rattle.sharp_gamma.proofs.Worked as curves
 use Rattle.definitions.specs.declared.YuvSettings.{YuvSettings}
+use Rattle.definitions.specs.declared.Window.{Window}
 use Rattle.definitions.specs.declared.FrameDescription.{FrameDescription}
 use Rattle.definitions.specs.Pixel.{weigh, lumaOf, cbOf, crOf}
 use Rattle.definitions.specs.Row.{Pixels, linear, gammaOf, interpolated, input420, input422}
@@ -58,13 +59,14 @@ abbrev bt601 : YuvRange → YuvSourceChannels → YuvChromaSubsampling → Sharp
 bt601 range channels sampling transfer rounding =
     record { channels = channels; sampling = sampling; range = range; matrix = Bt601; transfer = transfer; rounding = rounding }
 
-abbrev frameWith : YuvSettings → (w h y-stride u-stride v-stride : ℕ) → FrameDescription
-frameWith s w h y-stride u-stride v-stride = record { width = w; height = h; settings = s; «y_stride» = y-stride; «u_stride» = u-stride; «v_stride» = v-stride }
+abbrev frameWith : YuvSettings → (w h y-stride u-stride v-stride : ℕ) → Window → FrameDescription
+frameWith s w h y-stride u-stride v-stride window =
+    record { width = w; height = h; window = window; settings = s; «y_stride» = y-stride; «u_stride» = u-stride; «v_stride» = v-stride }
 
 -- a frame of the colour r, g, b has luma y and chroma u, v, in every byte
 abbrev Paints : YuvSettings → (r g b y u v : ℕ) → Type 0
-Paints s r g b y u v = (w h y-stride u-stride v-stride : ℕ) (image : Image) → let d = frameWith s w h y-stride u-stride v-stride in OneColour d image r g b
-    → FlatFrame d image y u v
+Paints s r g b y u v = (w h y-stride u-stride v-stride : ℕ) (window : Window) (image : Image)
+    → let d = frameWith s w h y-stride u-stride v-stride window in OneColour d image r g b → FlatFrame d image y u v
 
 pub record StarredLines : Type 0 where
   -- example 7.8: red, Bt601 Full, in either sampling
@@ -85,10 +87,10 @@ pub record StarredLines : Type 0 where
 pub starred-lines : StarredLines
 unfolding forwardTransform lumaOf cbOf crOf weigh
 starred-lines = record {
-  red = λ c m t q w h ys us vs image. flat-frame (frameWith (bt601 Full c m t q) w h ys us vs) image 255 0 0 (inr refl) (inl refl) (inl refl);
-  green = λ c m t q w h ys us vs image. flat-frame (frameWith (bt601 Limited c m t q) w h ys us vs) image 0 255 0 (inl refl) (inr refl) (inl refl);
-  black = λ c m t q w h ys us vs image. flat-frame (frameWith (bt601 Limited c m t q) w h ys us vs) image 0 0 0 (inl refl) (inl refl) (inl refl);
-  white = λ c m t q w h ys us vs image. flat-frame (frameWith (bt601 Limited c m t q) w h ys us vs) image 255 255 255 (inr refl) (inr refl) (inr refl);
+  red = λ c m t q w h ys us vs window image. flat-frame (frameWith (bt601 Full c m t q) w h ys us vs window) image 255 0 0 (inr refl) (inl refl) (inl refl);
+  green = λ c m t q w h ys us vs window image. flat-frame (frameWith (bt601 Limited c m t q) w h ys us vs window) image 0 255 0 (inl refl) (inr refl) (inl refl);
+  black = λ c m t q w h ys us vs window image. flat-frame (frameWith (bt601 Limited c m t q) w h ys us vs window) image 0 0 0 (inl refl) (inl refl) (inl refl);
+  white = λ c m t q w h ys us vs window image. flat-frame (frameWith (bt601 Limited c m t q) w h ys us vs window) image 255 255 255 (inr refl) (inr refl) (inr refl);
   entries = curves.worked;
   fcc = fcc-full;
   sixteenths = sixteenths;

@@ -9,6 +9,7 @@ use Rattle.yuv_support.specs.declared.YuvChromaSubsampling.{YuvChromaSubsamplin
 use Rattle.yuv_support.specs.declared.YuvChromaSubsampling.the-variants.{Yuv420, Yuv422}
 use Rattle.yuv_support.specs.Channels.{channelsCount}
 use Rattle.yuv_support.specs.Sampling.{chromaWidth, chromaHeight}
+use Rattle.definitions.specs.declared.Window.{Window}
 use Rattle.definitions.specs.declared.FrameDescription.{FrameDescription}
 use Rattle.definitions.specs.Row.{Pixels, pixelsOf, lumaRow, input420, input422, cbRow, crRow}
 
@@ -16,21 +17,37 @@ use Rattle.definitions.specs.Row.{Pixels, pixelsOf, lumaRow, input420, i
 abbrev pub Image : Type 0
 Image = ℕ → Pixels
 
--- RULES 2.2: the `size` bytes of row r of a source
-unfoldable pub rowBytes : (size stride : ℕ) → List ℕ → ℕ → List ℕ
-rowBytes size stride source r = take size (drop (r * stride) source)
-
 -- RULES 1.3: c, the bytes of a pixel
 abbrev pub pixelSize : FrameDescription → ℕ
 pixelSize d = channelsCount (d .settings .channels)
 
--- RULES 2.1: w × c, the bytes of the w pixels of a source row
+-- RULES 2.6: the whole source as window
+abbrev pub wholeSource : (w h : ℕ) → Window
+wholeSource w h = record { left = 0; top = 0; «source_width» = w; «source_height» = h }
+
+-- RULES 2.1: w × c, the bytes of the w pixels of a row
 abbrev pub rowSize : FrameDescription → ℕ
 rowSize d = d .width * pixelSize d
 
--- RULES 2.2: the image of a source
+-- RULES 2.1: W × c, the bytes of the pixels of a source row
+abbrev pub sourceRowSize : FrameDescription → ℕ
+sourceRowSize d = d .window .«source_width» * pixelSize d
+
+-- RULES 2.2: where the frame's pixels start in row r of a source, from its first column on
+abbrev pub rowStart : FrameDescription → (stride r : ℕ) → ℕ
+rowStart d stride r = r * stride + d .window .left * pixelSize d
+
+-- RULES 2.2: the bytes of the frame's pixels in row r of a source
+unfoldable pub rowBytes : FrameDescription → (stride : ℕ) → List ℕ → ℕ → List ℕ
+rowBytes d stride source r = take (rowSize d) (drop (rowStart d stride r) source)
+
+-- RULES 2.2, 8.7: the image of source rows that begin with the frame's first row
 unfoldable pub sourceImage : FrameDescription → (stride : ℕ) → List ℕ → Image
-sourceImage d stride source r = pixelsOf (pixelSize d) (rowBytes (rowSize d) stride source r)
+sourceImage d stride source r = pixelsOf (pixelSize d) (rowBytes d stride source r)
+
+-- RULES 2.2: the image of a whole source, in which the frame's first row is row top
+abbrev pub frameImage : FrameDescription → (stride : ℕ) → List ℕ → Image
+frameImage d stride source r = sourceImage d stride source (d .window .top + r)
 
 -- RULES 2.5: luma row r, byte x
 abbrev pub lumaAt : FrameDescription → Image → (r x : ℕ) → ℕ

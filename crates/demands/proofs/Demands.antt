@@ -98,10 +98,14 @@ module _ (k : FrameCall) where
     width-most = w .width-most;
     height-least = w .height-least;
     height-most = w .height-most;
+    source-width-most = w .source-width-most;
+    source-height-most = w .source-height-most;
     matrix = subst T (sym (w .matrix)) tt;
+    right = w .right;
+    bottom = w .bottom;
   }
 
-  lent : WholeFrame k → Buffers d (d .height) (k .stride) (lengthsOf (k .source) (k .y) (k .u) (k .v))
+  lent : WholeFrame k → Buffers d (d .window .«source_height») (k .stride) (lengthsOf (k .source) (k .y) (k .u) (k .v))
   lent w = record {
     source-row = w .source-rows .row;
     source-size = w .source-rows .size;
@@ -121,14 +125,19 @@ module _ (k : FrameCall) where
 
     whole : k .answer ≡ Finished → WholeFrame k
     whole is =
-        let o = call-accepted k is p .lent in
+        let a = call-accepted k is p in
+        let o = a .lent in
         record {
           width-least = o .sized .width-least;
           width-most = o .sized .width-most;
           height-least = o .sized .height-least;
           height-most = o .sized .height-most;
+          source-width-most = o .sized .source-width-most;
+          source-height-most = o .sized .source-height-most;
           matrix = is-true (accepted-matrix (d .settings .matrix)) (o .sized .matrix);
-          source-rows = record { row = o .given .source-row; size = o .given .source-size };
+          right = o .sized .right;
+          bottom = o .sized .bottom;
+          source-rows = record { row = o .given .source-row; size = a .whole };
           y-rows = record { row = o .planes .y-row; size = o .planes .y-size };
           u-rows = record { row = o .planes .u-row; size = o .planes .u-size };
           v-rows = record { row = o .planes .v-row; size = o .planes .v-size };

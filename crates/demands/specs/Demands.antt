@@ -20,7 +20,7 @@ use Rattle.sharp_gamma.specs.Curve.{curveOf, underCurve, underInverse}
 use Rattle.sharp_gamma.specs.declared.TableRounding.{TableRounding}
 use Rattle.sharp_gamma.specs.Entry.{place, linearEntry, gammaEntry}
 use Rattle.definitions.specs.declared.FrameDescription.{FrameDescription}
-use Rattle.definitions.specs.Image.{rowSize, chromaSize, chromaRows, lumaAt, cbAt, crAt}
+use Rattle.definitions.specs.Image.{sourceRowSize, chromaSize, chromaRows, lumaAt, cbAt, crAt}
 use Rattle.yuv_error.specs.Lent.{openingRules}
 use Rattle.sharp_rgba_to_yuv.specs.FrameCall.{FrameCall, rulesOf as frameRules, imageOf, FramePost, Unwritten}
 use Rattle.band_calls.specs.declared.FrameAnswer.{FrameAnswer}
@@ -37,8 +37,8 @@ use Rattle.segvartin.specs.Lists.{numbersTold, doneTold, openedState, asFrame, 
 
 -- ---- 1. Every call answers finished work or one numbered refusal, for all sizes, strides, buffers and settings; a refusal writes no byte.
 
--- RULES 7.1, 7.2: the answer, in its three numbers, is the lowest number whose condition holds, with that number's expected and received, or 0,
--- finished work, where none holds; and where it is a refusal, nothing changed
+-- RULES 7.1, 7.2: the answer, in its three numbers, is the first number, in the order of the refusals (yuv_error's Order.antt), whose condition holds,
+-- with that number's expected and received, or 0, finished work, where none holds; and where it is a refusal, nothing changed
 pub record Answered (rules : List Rule) (told : Numbers) (unchanged : Type 0) : Type 0 where
   pub lowest : Lowest rules told
   pub writes-nothing : 1 ≤ told .number → unchanged
@@ -57,15 +57,15 @@ pub record Demand1 : Type 0 where
   pub band : (k : BandCall) → BandPost k → Answered (bandRules k) (numbersOf (k .result .answer)) (Untouched k)
   pub request : (input output : List ℕ) (response : Response) (output′ : List ℕ) → RequestPost input output response output′
       → Answered (requestRules input) (responseNumbers response) (output′ ≡ output)
-  -- and what the program writes for it: the planes where no condition holds, or the line of the lowest number whose condition holds
+  -- and what the program writes for it: the planes where no condition holds, or the line of the first number whose condition holds
   pub reply : (input output : List ℕ) (n : ℕ) (output′ : List ℕ) → Begins (replyTo input) output n output′ → Replied input (take n output′)
   pub linked-frame : (k : ExportedFrame) → FrameKept k → Answered (rulesOfFrame k) (numbersTold (k .number) (k .told)) (Unwritten (asFrame k))
   pub linked-opening : (k : ExportedOpening) → OpenKept k → Lowest (rulesOfOpening k) (numbersTold (k .number) (k .told)) × (doneTold (k .told) ≡ 0)
   pub linked-band : (k : ExportedBand) → BandKept k
       → Answered (rulesOfBand k) (numbersTold (k .number) (k .told)) (Kept k (doneTold (k .told)))
 
--- ---- 2. Frames of 1 to 16,384 pixels a side in whole rows, with any channel order, sampling, range, transfer, rounding and accepted matrix:
--- every byte of the planes is the one that the rules name, which is that of the Rust over our stated curve tables; each table entry is the curve's, by
+-- ---- 2. Frames of 1 to 16,384 pixels a side, anywhere in a source of at most 16,384 a side in whole rows, with any channel order, sampling, range,
+-- transfer, rounding and accepted matrix: every byte of the planes is the one that the rules name, which is that of the Rust over our stated curve tables; each table entry is the curve's, by
 -- the rounding; and padding is untouched.
 
 -- RULES 7.5, 7.6, 7.7: so many whole rows of n bytes
@@ -73,14 +73,18 @@ pub record WholeRows (n rows stride : ℕ) (buffer : List ℕ) : Type 0 where
   pub row : n ≤ stride
   pub size : length buffer ≡ stride * rows
 
--- RULES 7.3, 7.4, 7.5, 7.6, 7.7: such a frame, with its planes
+-- RULES 7.3, 7.4, 7.5, 7.6, 7.7, 7.9: such a frame, with its planes
 pub record WholeFrame (k : FrameCall) : Type 0 where
   pub width-least : 1 ≤ k .frame .width
   pub width-most : k .frame .width ≤ 16384
   pub height-least : 1 ≤ k .frame .height
   pub height-most : k .frame .height ≤ 16384
+  pub source-width-most : k .frame .window .«source_width» ≤ 16384
+  pub source-height-most : k .frame .window .«source_height» ≤ 16384
   pub matrix : accepted (k .frame .settings .matrix) ≡ true
-  pub source-rows : WholeRows (rowSize (k .frame)) (k .frame .height) (k .stride) (k .source)
+  pub right : k .frame .window .left + k .frame .width ≤ k .frame .window .«source_width»
+  pub bottom : k .frame .window .top + k .frame .height ≤ k .frame .window .«source_height»
+  pub source-rows : WholeRows (sourceRowSize (k .frame)) (k .frame .window .«source_height») (k .stride) (k .source)
   pub y-rows : WholeRows (k .frame .width) (k .frame .height) (k .frame .«y_stride») (k .y)
   pub u-rows : WholeRows (chromaSize (k .frame)) (chromaRows (k .frame)) (k .frame .«u_stride») (k .u)
   pub v-rows : WholeRows (chromaSize (k .frame)) (chromaRows (k .frame)) (k .frame .«v_stride») (k .v)

@@ -33,6 +33,7 @@ pub fn error_numbers(e: YuvError) -> AnswerNumbers
         YuvError::VPlaneMinimumSizeMismatch(size) => AnswerNumbers { number: 11, size },
         YuvError::WholeRowsMismatch(size) => AnswerNumbers { number: 12, size },
         YuvError::CarriedRowSizeMismatch(size) => AnswerNumbers { number: 13, size },
+        YuvError::WindowOutsideSource => AnswerNumbers { number: 14, size },
     }
 }
 

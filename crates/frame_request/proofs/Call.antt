@@ -16,7 +16,7 @@ use Rattle.yuv_error.specs.Rules.{firstOf}
 use Rattle.definitions.specs.Painted.{Painted}
 use Rattle.definitions.proofs.Painted.{painted-none}
 use Rattle.definitions.specs.declared.FrameDescription.{FrameDescription}
-use Rattle.definitions.specs.Image.{Image, sourceImage}
+use Rattle.definitions.specs.Image.{Image, frameImage}
 use Rattle.definitions.specs.Bands.{Sharpened}
 use Rattle.definitions.proofs.Planes.{plane-same}
 use Rattle.yuv_error.specs.Lent.{taken}
@@ -51,7 +51,7 @@ module _ (d : FrameDescription) (sizes : PlaneSizes) (stride : ℕ) (source outp
     (packed : Packed d sizes) (room : 49152 ≤ length output) (urest : 16384 ≡ length u) (vrest : 16384 ≡ length v)
     (post : PlanesPost sizes (frameCall d stride source output u v a output′ u′ v′)) where
   abbrev image : Image
-  image = sourceImage d stride source
+  image = frameImage d stride source
 
   ysize : length (take (sizes .luma) output) ≡ sizes .luma
   ysize = first-size (sizes .luma) output (omega (arith, packed))
@@ -70,7 +70,7 @@ module _ (d : FrameDescription) (sizes : PlaneSizes) (stride : ℕ) (source outp
   call-answered = rw (ysize, usize, vsize, packed .luma, packed .chroma) at (post .called .answered)
 
   pub call-refused : {e : YuvError} → a ≡ Refused e
-      → Painted (taken a (outputSize d)) (outputAt d (sourceImage d stride source)) output output′
+      → Painted (taken a (outputSize d)) (outputAt d (frameImage d stride source)) output output′
   call-refused is =
       let same = plane-same 0 0 _ _ _ (take (sizes .luma) output) (take (sizes .luma) output′) (le-refl 0) (rw is at (post .called .planes .luma)) in
       let whole = output-is ∙ ap (λ (xs : List ℕ). putMid 0 (sizes .luma) output xs) same ∙ put-same 0 (sizes .luma) output in
@@ -79,7 +79,7 @@ module _ (d : FrameDescription) (sizes : PlaneSizes) (stride : ℕ) (source outp
   pub call-finished : a ≡ Finished → (o o′ : List ℕ)
       → o ≡ putMid (sizes .luma) (sizes .chroma) output′ (take (sizes .chroma) u′)
       → o′ ≡ putMid (sizes .luma + sizes .chroma) (sizes .chroma) o (take (sizes .chroma) v′)
-      → Painted (taken a (outputSize d)) (outputAt d (sourceImage d stride source)) output o′
+      → Painted (taken a (outputSize d)) (outputAt d (frameImage d stride source)) output o′
   call-finished is o o′ first second =
       let y″ = take (sizes .luma) output′ in
       let u″ = take (sizes .chroma) u′ in

@@ -3,7 +3,7 @@
 use Prim.Native.Nat.{ℕ, _≤_}
 use mathlib.Core.Path.{_≡_, refl, sym, ap, _∙_}
 use mathlib.Core.Bool.{true, false, _||_}
-use mathlib.Core.List.{List, _++_}
+use mathlib.Core.List.{List, [], _++_}
 use native.Mathlib.Nat.{mul-le-mul}
 use native.Mathlib.Omega.{arith}
 use borrow.Author.Tests.{ltb-false, eqb-false}
@@ -13,7 +13,9 @@ use Rattle.yuv_error.specs.Rules.{Rule, firstOf, sizeRules}
 use Rattle.yuv_error.proofs.First.{numbered, first-append, append-finished}
 use Rattle.yuv_error.proofs.Accepted.{none-holds, neither}
 use Rattle.definitions.proofs.Numbers.{chroma-rows}
+use Rattle.definitions.specs.Image.{wholeSource}
 use Rattle.sharp_rgba_to_yuv.specs.FrameCall.{frameRules}
+use Rattle.sharp_rgba_to_yuv.proofs.Whole.{whole-is-old}
 use Rattle.frame_request.specs.declared.PlaneSizes.{PlaneSizes}
 use Rattle.frame_request.specs.Request.{frameOf, sourceStride, lumaSize, chromaSize, packedLengths}
 use Rattle.frame_request.specs.Request.{malformed, headerRules, areaRules, openingRules, bufferRules, requestRules}
@@ -72,11 +74,18 @@ packed input sizes k l c = record {
 after-none : (xs ys : List Rule) → numbered xs ≡ true → firstOf xs .number ≡ 0 → firstOf (xs ++ ys) ≡ firstOf ys
 after-none xs ys n e = rw e at (first-append xs ys n)
 
--- the frame call asks 2 and 3 again, which do not hold
+-- a request's frame is its whole source
+whole-window : (input : List ℕ) → let d = frameOf input in d .window ≡ wholeSource (d .width) (d .height)
+unfolding frameOf
+whole-window input = refl
+
+-- so the frame call asks what it would ask without a window, and 2 and 3, asked again, do not hold
 pub frame-asks : (input : List ℕ) → firstOf (openingRules input) .number ≡ 0
     → let d = frameOf input in firstOf (frameRules d (sourceStride d) (packedLengths d (length (drop 9 input)))) ≡ firstOf (requestRules input)
+unfolding frameOf
 frame-asks input e =
     let d = frameOf input in
     let size = append-finished (headerRules input) (sizeRules (d .width) (d .height) ++ areaRules (d .width) (d .height)) refl e .1 in
     let side = append-finished (sizeRules (d .width) (d .height)) (areaRules (d .width) (d .height)) refl size .0 in
-    after-none (sizeRules (d .width) (d .height)) (bufferRules input) refl side ∙ sym (after-none (openingRules input) (bufferRules input) refl e)
+    whole-is-old d (sourceStride d) [] (packedLengths d (length (drop 9 input))) (whole-window input) .rules
+    ∙ after-none (sizeRules (d .width) (d .height)) (bufferRules input) refl side ∙ sym (after-none (openingRules input) (bufferRules input) refl e)

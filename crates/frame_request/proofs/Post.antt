@@ -13,7 +13,7 @@ use Rattle.yuv_error.proofs.First.{after-refused, append-finished}
 use Rattle.definitions.specs.Painted.{Painted}
 use Rattle.definitions.proofs.Painted.{painted-none}
 use Rattle.definitions.specs.declared.FrameDescription.{FrameDescription}
-use Rattle.definitions.specs.Image.{sourceImage}
+use Rattle.definitions.specs.Image.{frameImage}
 use Rattle.yuv_error.specs.Lent.{taken}
 use Rattle.sharp_rgba_to_yuv.specs.FrameCall.{frameRules}
 use Rattle.frame_request.specs.declared.Response.{Response}
@@ -40,7 +40,7 @@ pub record Called (input output : List ℕ) (a : YuvAnswer) (output′ : List �
 pub called : (input output output′ : List ℕ) (d : FrameDescription) (stride : ℕ) (source : List ℕ) (a : YuvAnswer)
     → d ≡ frameOf input → stride ≡ sourceStride (frameOf input) → source ≡ drop 9 input → firstOf (openingRules input) .number ≡ 0
     → numbersOf a ≡ firstOf (frameRules d stride (packedLengths d (length source)))
-    → Painted (taken a (outputSize d)) (outputAt d (sourceImage d stride source)) output output′
+    → Painted (taken a (outputSize d)) (outputAt d (frameImage d stride source)) output output′
     → Called input output a output′
 called input output output′ d stride source a frame row rows opened n w = record {
   answered = rw (frame, row, rows) at n ∙ frame-asks input opened;

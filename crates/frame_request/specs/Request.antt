@@ -21,7 +21,7 @@ use Rattle.definitions.specs.Painted.{Painted}
 use Rattle.yuv_error.specs.Numbers.{Numbers, numbers, errorNumbers}
 use Rattle.yuv_error.specs.Rules.{Rule, rule, firstOf, sizeRules, matrixRules}
 use Rattle.definitions.specs.declared.FrameDescription.{FrameDescription}
-use Rattle.definitions.specs.Image.{Image, sourceImage, lumaAt, cbAt, crAt}
+use Rattle.definitions.specs.Image.{wholeSource, Image, frameImage, lumaAt, cbAt, crAt}
 use Rattle.yuv_error.specs.declared.Lengths.{Lengths}
 use Rattle.yuv_error.specs.Lent.{lentRules}
 use Rattle.frame_request.specs.declared.Response.{Response}
@@ -44,11 +44,12 @@ settingsOf input = record {
   rounding = Truncated;
 }
 
--- RULES 9.1: the frame of a request, its planes without padding
+-- RULES 9.1: the frame of a request, a whole source, its planes without padding
 unfoldable pub frameOf : List ℕ → FrameDescription
 frameOf input = record {
   width = wordAt input 0;
   height = wordAt input 2;
+  window = wholeSource (wordAt input 0) (wordAt input 2);
   settings = settingsOf input;
   «y_stride» = wordAt input 0;
   «u_stride» = chromaWidth (wordAt input 0);
@@ -142,7 +143,7 @@ outputSize d = lumaSize d + 2 * chromaSize d
 
 -- RULES 9.3: the bytes that answer a request
 abbrev pub answerAt : List ℕ → (p : ℕ) → ℕ
-answerAt input = let d = frameOf input in outputAt d (sourceImage d (sourceStride d) (drop 9 input))
+answerAt input = let d = frameOf input in outputAt d (frameImage d (sourceStride d) (drop 9 input))
 
 -- RULES 9.2, 9.3: everything of a request, by its bytes, the answer, and the output as it was left
 pub record RequestPost (input output : List ℕ) (response : Response) (output′ : List ℕ) : Type 0 where

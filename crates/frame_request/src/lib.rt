@@ -1,5 +1,6 @@
 // A request of the program `frame`, from its bytes to those that answer it.
 use definitions::FrameDescription;
+use definitions::Window;
 use definitions::YuvSettings;
 use sharp_gamma::TableRounding;
 use yuv_error::YuvAnswer;
@@ -11,7 +12,7 @@ ghost use lib.ListN.{length, take, drop};
 ghost use Rattle.definitions.specs.Painted.{Painted};
 ghost use Rattle.yuv_error.specs.Numbers.{numbersOf};
 ghost use Rattle.yuv_error.specs.Rules.{firstOf, sizeRules};
-ghost use Rattle.definitions.specs.Image.{sourceImage};
+ghost use Rattle.definitions.specs.Image.{frameImage};
 ghost use Rattle.yuv_error.specs.Lent.{taken};
 ghost use Rattle.sharp_rgba_to_yuv.specs.FrameCall.{frameCall, frameRules};
 ghost use Rattle.frame_request.specs.Request.{settingsOf, frameOf, sourceStride, lumaSize, chromaSize, packedLengths};
@@ -69,10 +70,17 @@ fn frame_of(input: &[u8]) -> FrameDescription
     let width = word(input[0], input[1]);
     let height = word(input[2], input[3]);
     let chroma_width = yuv_support::chroma_width(width as usize) as u32;
+    let window = Window {
+        left: 0,
+        top: 0,
+        source_width: width,
+        source_height: height,
+    };
     let settings = settings_of(input);
     FrameDescription {
         width,
         height,
+        window,
         settings,
         y_stride: width,
         u_stride: chroma_width,
@@ -212,7 +220,7 @@ fn convert_into(
     requires { ⌜ Packed frame sizes ⌝ }
     requires { ⌜ 49152 ≤ length (now output) ⌝ }
     ensures { λ a. ⌜ numbersOf a ≡ firstOf (frameRules frame stride (packedLengths frame (length (now (source .entry))))) ⌝ }
-    ensures { λ a. ⌜ Painted (taken a (outputSize frame)) (outputAt frame (sourceImage frame stride (now (source .entry))))
+    ensures { λ a. ⌜ Painted (taken a (outputSize frame)) (outputAt frame (frameImage frame stride (now (source .entry))))
         (now (output .entry)) (now (output .exit)) ⌝ }
 {
     let mut u = plane();

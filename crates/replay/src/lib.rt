@@ -1,6 +1,7 @@
 // What the programs that replay stored calls share: the parts of a list, read from standard input one after the other, and what is
 // printed of a call. The gate compares. vectors/README.md has the form of a list and of what is printed.
 use definitions::FrameDescription;
+use definitions::Window;
 use definitions::YuvSettings;
 use libc::STDIN_FILENO;
 use libc::STDOUT_FILENO;
@@ -68,7 +69,7 @@ fn read_matrix() -> YuvStandardMatrix {
     }
 }
 
-// The numbers of a description, in their order; the rounding's code is the last.
+// The numbers of a description, in their order.
 pub fn read_frame() -> FrameDescription {
     let width = read_number();
     let height = read_number();
@@ -81,6 +82,12 @@ pub fn read_frame() -> FrameDescription {
     let u_stride = read_number();
     let v_stride = read_number();
     let rounding = setting_codes::rounding_of(read_number());
+    let window = Window {
+        left: read_number(),
+        top: read_number(),
+        source_width: read_number(),
+        source_height: read_number(),
+    };
     let settings = YuvSettings {
         channels,
         sampling,
@@ -92,6 +99,7 @@ pub fn read_frame() -> FrameDescription {
     FrameDescription {
         width,
         height,
+        window,
         settings,
         y_stride,
         u_stride,

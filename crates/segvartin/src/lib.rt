@@ -34,8 +34,8 @@ fn frame_answer(
     sharp_rgba_to_yuv::rgbx_to_sharp_yuv(frame, source, numbers[0], y, u, v)
 }
 
-// Converts a whole frame (0), or answers the number of one refusal and writes no byte of a plane: 1 for numbers without a meaning, else 2, 3, 4
-// or 6 to 12. numbers: the source's stride, then the description. told: expected and received.
+// Converts a whole frame (0), or answers the number of one refusal and writes no byte of a plane: 1 for numbers without a meaning, else 2, 3, 4,
+// 14 or 6 to 12. numbers: the source's stride, then the description. told: expected and received.
 #[no_mangle]
 pub extern "C" fn segvartin_call_frame(
     numbers: &[u32],
@@ -71,7 +71,7 @@ fn open_told(numbers: &[u32], custom: &[f32; 2]) -> Told
     }
 }
 
-// Opens a frame that comes in bands (0), or answers the number of one refusal: 1 for numbers without a meaning, else 2, 3 or 4.
+// Opens a frame that comes in bands (0), or answers the number of one refusal: 1 for numbers without a meaning, else 2, 3, 4 or 14.
 // numbers: the description. told: expected, received, and the rows done, 0.
 #[no_mangle]
 pub extern "C" fn segvartin_call_open(
@@ -119,7 +119,7 @@ fn band_told(
 }
 
 // Converts the next rows of a frame (0), or answers the number of one refusal, writes no byte of a plane or of the carried row and leaves the rows
-// done as they are: 1 for numbers without a meaning, else 2 to 13. numbers: the rows done, the rows of the band, the source's stride, then the
+// done as they are: 1 for numbers without a meaning, else 2 to 14. numbers: the rows done, the rows of the band, the source's stride, then the
 // description. told: expected, received, and the rows done.
 #[no_mangle]
 pub extern "C" fn segvartin_call_band(

@@ -3,3 +3,4 @@ pub mod Accepted
 pub mod Post
 pub mod Strides
 pub mod SameFrames
+pub mod Whole

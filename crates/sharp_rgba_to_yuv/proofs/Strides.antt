@@ -1,21 +1,22 @@
--- Plane strides are no part of the rows' bytes: planes of a frame with other strides are planes of the same rows.
+-- Plane strides and the window are no part of the rows' bytes: planes of a frame elsewhere are planes of the same rows.
 -- Assumes nothing.
 use Prim.Native.Nat.{ℕ}
 use mathlib.Core.Path.{_≡_, refl, ap}
 use mathlib.Core.List.{List}
 use Rattle.yuv_support.specs.declared.YuvChromaSubsampling.{YuvChromaSubsampling}
 use Rattle.yuv_support.specs.declared.YuvChromaSubsampling.the-variants.{Yuv420, Yuv422}
+use Rattle.definitions.specs.declared.Window.{Window}
 use Rattle.definitions.specs.declared.FrameDescription.{FrameDescription}
 use Rattle.definitions.specs.Pixel.{cbOf, crOf}
 use Rattle.definitions.specs.Row.{ofColour, lumaRow, input420, input422, cbRow, crRow}
 use Rattle.definitions.specs.Image.{Image, chromaInput, lumaAt, cbAt, crAt}
 use Rattle.definitions.specs.Plane.{PlaneIs}
 use Rattle.definitions.proofs.Planes.{plane-like}
-use Rattle.sharp_rgba_to_yuv.specs.Same.{withStrides}
+use Rattle.sharp_rgba_to_yuv.specs.Same.{elsewhere}
 
-module _ (d : FrameDescription) (ys us vs : ℕ) (image : Image) where
+module _ (d : FrameDescription) (o : Window) (ys us vs : ℕ) (image : Image) where
   abbrev other : FrameDescription
-  other = withStrides d ys us vs
+  other = elsewhere d o ys us vs
 
   same-input : (m : YuvChromaSubsampling) (k j : ℕ) → chromaInput m other image k j ≡ chromaInput m d image k j
   unfolding input420 input422

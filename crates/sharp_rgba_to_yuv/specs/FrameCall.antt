@@ -9,7 +9,7 @@ use Rattle.yuv_error.specs.Numbers.{numbersOf}
 use Rattle.yuv_error.specs.Rules.{Rule, firstOf}
 use Rattle.yuv_error.specs.Lent.{lengthsOf, openingRules, lentRules, taken}
 use Rattle.definitions.specs.declared.FrameDescription.{FrameDescription}
-use Rattle.definitions.specs.Image.{Image, sourceImage}
+use Rattle.definitions.specs.Image.{Image, frameImage}
 use Rattle.definitions.specs.Bands.{Sharpened}
 
 -- RULES 2.1: what a call was given, its answer, and the planes as it left them
@@ -29,17 +29,17 @@ abbrev pub frameCall : FrameDescription → (stride : ℕ) (source y u v : List 
 frameCall d stride source y u v answer y′ u′ v′ =
     record { frame = d; stride = stride; source = source; y = y; u = u; v = v; answer = answer; y′ = y′; u′ = u′; v′ = v′ }
 
--- RULES 7.8: 2, 3, 4 and 6 to 12, of a frame and the lengths of what is lent
+-- RULES 7.8: 2, 3, 4, 14 and 6 to 12, of a frame and the lengths of what is lent
 abbrev pub frameRules : FrameDescription → (stride : ℕ) → Lengths → List Rule
-frameRules d stride n = openingRules d ++ lentRules d (d .height) stride n
+frameRules d stride n = openingRules d ++ lentRules d (d .window .«source_height») stride n
 
 -- RULES 7.8
 abbrev pub rulesOf : FrameCall → List Rule
 rulesOf k = frameRules (k .frame) (k .stride) (lengthsOf (k .source) (k .y) (k .u) (k .v))
 
--- RULES 2.2
+-- RULES 2.2, 2.6
 abbrev pub imageOf : FrameCall → Image
-imageOf k = sourceImage (k .frame) (k .stride) (k .source)
+imageOf k = frameImage (k .frame) (k .stride) (k .source)
 
 -- RULES 7.1, 7.2, 7.8: everything of a call: its answer, and each byte of the planes
 pub record FramePost (k : FrameCall) : Type 0 where

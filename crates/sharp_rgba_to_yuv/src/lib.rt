@@ -8,7 +8,7 @@ ghost use Rattle.yuv_error.specs.Numbers.{numbersOf};
 ghost use Rattle.yuv_error.specs.Rules.{firstOf};
 ghost use Rattle.sharp_rgba_to_yuv.specs.FrameCall.{frameCall, frameRules, FramePost};
 
-// Refusals 2, 3, 4 and 6 to 12.
+// Refusals 2, 3, 4, 14 and 6 to 12.
 fn check_frame(frame: FrameDescription, stride: u32, lent: Lengths) -> YuvAnswer
     ensures { λ a. ⌜ numbersOf a ≡ firstOf (frameRules frame stride lent) ⌝ }
 {
@@ -19,7 +19,8 @@ fn check_frame(frame: FrameDescription, stride: u32, lent: Lengths) -> YuvAnswer
         }
         YuvAnswer::Finished => {}
     }
-    yuv_error::check_lent(frame, frame.height as usize, stride, lent)
+    let window = frame.window;
+    yuv_error::check_lent(frame, window.source_height as usize, stride, lent)
 }
 
 // Converts a whole frame, or answers one numbered refusal and writes no byte.
@@ -53,7 +54,9 @@ pub fn rgbx_to_sharp_yuv(
         rows: frame.height,
         stride,
     };
+    let window = frame.window;
+    let at = window.top as usize * stride as usize;
     // no row is above the first, so what stands for the carried row is never read
-    band_planes::sharpen_band(band, source, source, y, u, v);
+    band_planes::sharpen_band(band, &source[at..], source, y, u, v);
     answer
 }

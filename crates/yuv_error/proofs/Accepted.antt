@@ -1,5 +1,5 @@
 -- What a caller knows once no refusal was answered: no condition holds, so each bound does. Assumes nothing.
-use Prim.Native.Nat.{ℕ, _*_, _≤_}
+use Prim.Native.Nat.{ℕ, _+_, _*_, _≤_}
 use mathlib.Core.Bool.{Bool, true, false, _||_, true≢false}
 use mathlib.Core.List.{List}
 use mathlib.Core.Path.{_≡_, refl, sym, subst}
@@ -8,7 +8,7 @@ use lib.Dec.{T, ltb, eqb}
 use borrow.Author.Tests.{ltb-false, eqb-true, eqb-false, not-false}
 use Rattle.yuv_support.specs.Matrix.{accepted}
 use Rattle.definitions.specs.declared.FrameDescription.{FrameDescription}
-use Rattle.definitions.specs.Image.{rowSize}
+use Rattle.definitions.specs.Image.{sourceRowSize}
 use Rattle.yuv_error.specs.Rules.{Rule, firstOf, bufferRules, tooNarrow, notWhole}
 use Rattle.yuv_error.specs.Lowest.{inOrder, NoneHolds}
 use Rattle.yuv_error.specs.Lent.{sourceOf, yOf, uOf, vOf, openingRules, lentRules}
@@ -25,7 +25,7 @@ pub neither : (a b : Bool) → a || b ≡ false → (a ≡ false) × (b ≡ fals
 neither true b h = absurd (true≢false h)
 neither false b h = (refl, h)
 
--- ---- 2, 3, 4
+-- ---- 2, 3, 4, 14
 
 pub opened : (d : FrameDescription) → firstOf (openingRules d) .number ≡ 0 → Sized d
 opened d e =
@@ -33,13 +33,21 @@ opened d e =
     let h = d .height in
     let none = none-holds (openingRules d) refl e in
     let some = neither (eqb w 0) (eqb h 0) (neither (eqb w 0 || eqb h 0) false (none 2) .0) in
-    let few = neither (ltb 16384 w) (ltb 16384 h) (neither (ltb 16384 w || ltb 16384 h) false (none 3) .0) in
+    let o = d .window in
+    let large = neither (ltb 16384 w || ltb 16384 h) _ (none 3) in
+    let few = neither (ltb 16384 w) (ltb 16384 h) (large .0) in
+    let few-source = neither (ltb 16384 (o .«source_width»)) (ltb 16384 (o .«source_height»)) (neither _ false (large .1) .0) in
+    let inside = neither (ltb (o .«source_width») (o .left + w)) (ltb (o .«source_height») (o .top + h)) (neither _ false (none 14) .0) in
     record {
       width-least = omega (arith, eqb-false w 0 (some .0));
       width-most = ltb-false _ _ (few .0);
       height-least = omega (arith, eqb-false h 0 (some .1));
       height-most = ltb-false _ _ (few .1);
+      source-width-most = ltb-false _ _ (few-source .0);
+      source-height-most = ltb-false _ _ (few-source .1);
       matrix = subst T (sym (not-false (accepted (d .settings .matrix)) (neither _ _ (none 4) .0))) tt;
+      right = ltb-false _ _ (inside .0);
+      bottom = ltb-false _ _ (inside .1);
     }
 
 -- ---- 6 to 12
@@ -74,7 +82,7 @@ accepted-buffers source y u v e =
 
 -- the source of so many rows, and the planes
 pub record Buffers (d : FrameDescription) (rows stride : ℕ) (n : Lengths) : Type 0 where
-  pub source-row : rowSize d ≤ stride
+  pub source-row : sourceRowSize d ≤ stride
   pub source-size : n .source ≡ stride * rows
   pub planes : PlanesLent d (n .y) (n .u) (n .v)
 

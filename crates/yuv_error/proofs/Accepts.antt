@@ -1,5 +1,5 @@
 -- The other way round: where each bound holds, no refusal is answered. Assumes nothing.
-use Prim.Native.Nat.{ℕ, _≤_}
+use Prim.Native.Nat.{ℕ, _+_, _≤_}
 use mathlib.Core.Bool.{Bool, true, false}
 use mathlib.Core.List.{List, _++_}
 use mathlib.Core.Path.{_≡_, refl, sym, _∙_}
@@ -37,6 +37,10 @@ opening-passes {d} s =
       ne-eqb h 0 (λ e. omega (arith, s)),
       le-ltb 16384 w (s .width-most),
       le-ltb 16384 h (s .height-most),
+      le-ltb 16384 (d .window .«source_width») (s .source-width-most),
+      le-ltb 16384 (d .window .«source_height») (s .source-height-most),
+      le-ltb (d .window .«source_width») (d .window .left + w) (s .right),
+      le-ltb (d .window .«source_height») (d .window .top + h) (s .bottom),
       is-true (accepted (d .settings .matrix)) (s .matrix),
     )
 

@@ -10,7 +10,7 @@ use Rattle.yuv_error.specs.declared.YuvError.{YuvError}
 use Rattle.yuv_error.specs.declared.YuvError.the-variants.{MalformedRequest, ZeroBaseSize, SizeTooLarge, MatrixNotAccepted, BandRowsMismatch}
 use Rattle.yuv_error.specs.declared.YuvError.the-variants.{DestinationSizeMismatch, MinimumStrideSizeMismatch, LumaPlaneMinimumSizeMismatch}
 use Rattle.yuv_error.specs.declared.YuvError.the-variants.{LumaPlaneSizeMismatch, UPlaneMinimumSizeMismatch, VPlaneMinimumSizeMismatch}
-use Rattle.yuv_error.specs.declared.YuvError.the-variants.{WholeRowsMismatch, CarriedRowSizeMismatch}
+use Rattle.yuv_error.specs.declared.YuvError.the-variants.{WholeRowsMismatch, CarriedRowSizeMismatch, WindowOutsideSource}
 use Rattle.yuv_error.specs.declared.YuvAnswer.{YuvAnswer}
 use Rattle.yuv_error.specs.declared.YuvAnswer.the-variants.{Finished, Refused}
 
@@ -29,6 +29,7 @@ found (Refused (UPlaneMinimumSizeMismatch m)) = refl
 found (Refused (VPlaneMinimumSizeMismatch m)) = refl
 found (Refused (WholeRowsMismatch m)) = refl
 found (Refused (CarriedRowSizeMismatch m)) = refl
+found (Refused WindowOutsideSource) = refl
 
 -- two answers of equal numbers are equal
 pub same-answer : (a b : YuvAnswer) → numbersOf a ≡ numbersOf b → a ≡ b

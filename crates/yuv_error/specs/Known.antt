@@ -6,22 +6,26 @@ use lib.Dec.{T}
 use Rattle.yuv_support.specs.Matrix.{accepted}
 use Rattle.definitions.specs.declared.FrameDescription.{FrameDescription}
 use Rattle.definitions.specs.declared.Band.{Band}
-use Rattle.definitions.specs.Image.{rowSize, chromaSize, chromaRows}
+use Rattle.definitions.specs.Image.{sourceRowSize, chromaSize, chromaRows}
 
--- a frame's size and matrix
+-- a frame's size, matrix and place in its source
 pub record Sized (d : FrameDescription) : Type 0 where
   pub width-least : 1 ≤ d .width
   pub width-most : d .width ≤ 16384
   pub height-least : 1 ≤ d .height
   pub height-most : d .height ≤ 16384
+  pub source-width-most : d .window .«source_width» ≤ 16384
+  pub source-height-most : d .window .«source_height» ≤ 16384
   pub matrix : T (accepted (d .settings .matrix))
+  pub right : d .window .left + d .width ≤ d .window .«source_width»
+  pub bottom : d .window .top + d .height ≤ d .window .«source_height»
 
 -- a band's rows, and its source
 pub record Given (b : Band) (source : ℕ) : Type 0 where
   pub rows-least : 1 ≤ b .rows
   pub rows-most : b .done + b .rows ≤ b .frame .height
-  pub source-row : rowSize (b .frame) ≤ b .stride
-  pub source-size : source ≡ b .stride * b .rows
+  pub source-row : sourceRowSize (b .frame) ≤ b .stride
+  pub source-size : b .stride * b .rows ≤ source
 
 -- plane strides, and planes of whole rows
 pub record PlanesLent (d : FrameDescription) (y u v : ℕ) : Type 0 where

@@ -8,7 +8,7 @@ use Rattle.yuv_error.specs.declared.YuvError.{YuvError}
 use Rattle.yuv_error.specs.declared.YuvError.the-variants.{MalformedRequest, ZeroBaseSize, SizeTooLarge, MatrixNotAccepted, BandRowsMismatch}
 use Rattle.yuv_error.specs.declared.YuvError.the-variants.{DestinationSizeMismatch, MinimumStrideSizeMismatch, LumaPlaneMinimumSizeMismatch}
 use Rattle.yuv_error.specs.declared.YuvError.the-variants.{LumaPlaneSizeMismatch, UPlaneMinimumSizeMismatch, VPlaneMinimumSizeMismatch}
-use Rattle.yuv_error.specs.declared.YuvError.the-variants.{WholeRowsMismatch, CarriedRowSizeMismatch}
+use Rattle.yuv_error.specs.declared.YuvError.the-variants.{WholeRowsMismatch, CarriedRowSizeMismatch, WindowOutsideSource}
 use Rattle.yuv_error.specs.declared.YuvAnswer.{YuvAnswer}
 use Rattle.yuv_error.specs.declared.YuvAnswer.the-variants.{Finished, Refused}
 
@@ -41,6 +41,7 @@ errorNumbers (UPlaneMinimumSizeMismatch m) = sized 10 m
 errorNumbers (VPlaneMinimumSizeMismatch m) = sized 11 m
 errorNumbers (WholeRowsMismatch m) = sized 12 m
 errorNumbers (CarriedRowSizeMismatch m) = sized 13 m
+errorNumbers WindowOutsideSource = numbers 14 0 0
 
 -- RULES 7.1: finished work is number 0
 abbrev pub numbersOf : YuvAnswer → Numbers
@@ -63,7 +64,8 @@ answers m =
     Refused (UPlaneMinimumSizeMismatch m) ∷
     Refused (VPlaneMinimumSizeMismatch m) ∷
     Refused (WholeRowsMismatch m) ∷
-    Refused (CarriedRowSizeMismatch m) ∷ []
+    Refused (CarriedRowSizeMismatch m) ∷
+    Refused WindowOutsideSource ∷ []
 
 -- RULES 7.1: the answer of these numbers, the other way round
 abbrev pub answerOf : Numbers → YuvAnswer

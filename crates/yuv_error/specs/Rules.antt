@@ -23,11 +23,13 @@ abbrev pub firstOf : List Rule → Numbers
 firstOf [] = numbers 0 0 0
 firstOf (r ∷ rs) = cond (r .holds) (r .says) (firstOf rs)
 
--- RULES 7.3
+-- RULES 7.3: 3, of a frame's size and of its source's
+abbrev pub largeRules : (w h : ℕ) → List Rule
+largeRules w h = rule 3 (ltb 16384 w || ltb 16384 h) 0 0 ∷ []
+
+-- RULES 7.3: 2 and 3 of a frame's size
 abbrev pub sizeRules : (w h : ℕ) → List Rule
-sizeRules w h =
-    rule 2 (eqb w 0 || eqb h 0) 0 0 ∷
-    rule 3 (ltb 16384 w || ltb 16384 h) 0 0 ∷ []
+sizeRules w h = rule 2 (eqb w 0 || eqb h 0) 0 0 ∷ largeRules w h
 
 -- RULES 7.4
 abbrev pub matrixRules : YuvStandardMatrix → List Rule

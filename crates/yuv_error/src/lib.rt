@@ -1,13 +1,13 @@
 // The refusals: the errors and checks of the Rust's yuv_error.rs, with those that the rules add beside them (RULES 7.1).
 ghost use mathlib.Core.Path.{_≡_};
 ghost use mathlib.Core.List.{_++_};
-ghost use Prim.Native.Nat.{_*_, _≤_};
+ghost use Prim.Native.Nat.{_+_, _*_, _≤_};
 ghost use Rattle.yuv_error.specs.Numbers.{sized, errorNumbers, numbersOf};
 ghost use Rattle.yuv_error.specs.Bounded.{Bounded};
 ghost use Rattle.yuv_error.specs.Checks.{andThen, planeRulesSaying, chromaNumber};
-ghost use Rattle.yuv_error.specs.Rules.{firstOf, sizeRules, matrixRules, leastOf, wholeOf, tooShort, tooNarrow};
+ghost use Rattle.yuv_error.specs.Rules.{firstOf, largeRules, sizeRules, matrixRules, leastOf, wholeOf, tooShort, tooNarrow};
 ghost use Rattle.yuv_error.specs.Rules.{sourceRules, planeRules, wholeRules, bufferRules};
-ghost use Rattle.yuv_error.specs.Lent.{openingRules, lentRules};
+ghost use Rattle.yuv_error.specs.Lent.{windowRules, openingRules, lentRules};
 ghost use Rattle.yuv_error.specs.Known.{Sized};
 use definitions::FrameDescription;
 use yuv_support::YuvStandardMatrix;
@@ -37,6 +37,7 @@ pub enum YuvError {
     VPlaneMinimumSizeMismatch(MismatchedSize),
     WholeRowsMismatch(MismatchedSize),
     CarriedRowSizeMismatch(MismatchedSize),
+    WindowOutsideSource,
 }
 
 // What a call answers: finished work, or one refusal.
@@ -143,16 +144,23 @@ impl ChromaPlane {
     }
 }
 
+// Refusal 3.
+fn check_large(width: u32, height: u32) -> YuvAnswer
+    ensures { λ r. ⌜ numbersOf r ≡ firstOf (largeRules width height) ⌝ }
+{
+    if width > MAX_SIDE || height > MAX_SIDE {
+        return YuvAnswer::Refused(YuvError::SizeTooLarge);
+    }
+    YuvAnswer::Finished
+}
+
 fn check_size(width: u32, height: u32) -> YuvAnswer
     ensures { λ r. ⌜ numbersOf r ≡ firstOf (sizeRules width height) ⌝ }
 {
     if width == 0 || height == 0 {
         return YuvAnswer::Refused(YuvError::ZeroBaseSize);
     }
-    if width > MAX_SIDE || height > MAX_SIDE {
-        return YuvAnswer::Refused(YuvError::SizeTooLarge);
-    }
-    YuvAnswer::Finished
+    check_large(width, height)
 }
 
 fn check_matrix(matrix: YuvStandardMatrix) -> YuvAnswer
@@ -165,13 +173,41 @@ fn check_matrix(matrix: YuvStandardMatrix) -> YuvAnswer
     }
 }
 
-// Refuses a side of 0 (2), a side above 16,384 (3), a matrix that is not accepted (4).
+// Where so many columns or rows end; the sum of two u32 needs 33 bits.
+fn end_of(start: u32, size: u32) -> u64
+    ensures { λ r. ⌜ r ≡ start + size ⌝ }
+{
+    start as u64 + size as u64
+}
+
+// Refusal 14.
+fn check_window(frame: FrameDescription) -> YuvAnswer
+    ensures { λ r. ⌜ numbersOf r ≡ firstOf (windowRules frame) ⌝ }
+{
+    let window = frame.window;
+    let right = end_of(window.left, frame.width);
+    let bottom = end_of(window.top, frame.height);
+    if (right > window.source_width as u64) | (bottom > window.source_height as u64) {
+        return YuvAnswer::Refused(YuvError::WindowOutsideSource);
+    }
+    YuvAnswer::Finished
+}
+
+// Refuses a side of 0 (2), a side above 16,384, the source's too (3), a matrix that is not accepted (4), a window that reaches past
+// the source (14).
 pub fn check_opening(frame: FrameDescription) -> YuvAnswer
     ensures { λ r. ⌜ numbersOf r ≡ firstOf (openingRules frame) ⌝ }
 {
     let settings = frame.settings;
     let matrix = settings.matrix;
-    check_size(frame.width, frame.height).and(check_matrix(matrix))
+    let window = frame.window;
+    let size = check_size(frame.width, frame.height);
+    let source_size = check_large(window.source_width, window.source_height);
+    let accepted = check_matrix(matrix);
+    let inside = check_window(frame);
+    let sizes = size.and(source_size);
+    let others = accepted.and(inside);
+    sizes.and(others)
 }
 
 // The Rust's check_rgba_destination.
@@ -268,9 +304,10 @@ pub fn check_lent(frame: FrameDescription, rows: usize, stride: u32, lent: Lengt
     let settings = frame.settings;
     let channels = settings.channels;
     let sampling = settings.sampling;
+    let window = frame.window;
     let width = frame.width as usize;
     let height = frame.height as usize;
-    let row = width * channels.get_channels_count();
+    let row = window.source_width as usize * channels.get_channels_count();
     let chroma_width = yuv_support::chroma_width(width);
     let chroma_height = sampling.chroma_height(height);
     check_buffers(

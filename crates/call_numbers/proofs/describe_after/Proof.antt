@@ -4,7 +4,8 @@ use Prim.Native.Nat.{_+_, _≤_}
 use mathlib.Core.Path.{_≡_, _∙_}
 use native.Mathlib.Omega.{arith}
 use lib.ListN.{length, length-drop}
-use Rattle.call_numbers.proofs.Numbers.{counted, rest}
+use Rattle.call_numbers.proofs.Numbers.{counted}
+use Rattle.definitions.proofs.Windows.{rest}
 use borrow.Author.Needs.{needs}
 use Rattle.call_numbers.proofs.describe_after.Statement.{statement}
 use Rattle.call_numbers.proofs.describe_after.Tie as tie

@@ -5,7 +5,8 @@ use mathlib.Core.Path.{ap, _∙_}
 use native.Mathlib.Omega.{arith}
 use lib.ListN.{length, length-drop}
 use Rattle.call_numbers.specs.Codes.{isUnknown, isMalformed}
-use Rattle.call_numbers.proofs.Numbers.{room, rest}
+use Rattle.call_numbers.proofs.Numbers.{room}
+use Rattle.definitions.proofs.Windows.{rest}
 use borrow.Author.Needs.{needs}
 use Rattle.call_numbers.proofs.is_malformed.Statement.{statement}
 use Rattle.call_numbers.proofs.is_malformed.Tie as tie
@@ -39,6 +40,7 @@ pub is-malformed-spec : {M : Type 1} → statement M
 is-malformed-spec =
     tie.close
     (tie.spec
+    (λ c. search needs)
     (λ c. search needs)
     (λ c. search needs)
     (λ c. search needs)

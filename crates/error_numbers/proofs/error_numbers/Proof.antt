@@ -45,10 +45,14 @@ returns-12 c = sym (ap errorNumbers (c .before .e7 .given .1))
 returns-13 : tie.Need-returns-13
 returns-13 c = sym (ap errorNumbers (c .before .e8 .given .1))
 
+returns-14 : tie.Need-returns-14
+returns-14 c = sym (ap errorNumbers (c .enum-told6 .given .1))
+
 pub error-numbers-spec : {M : Type 1} → statement M
 error-numbers-spec =
     tie.close
     (tie.spec
+    (λ c. search needs)
     (λ c. search needs)
     (λ c. search needs)
     (λ c. search needs)
@@ -74,4 +78,5 @@ error-numbers-spec =
     returns-10
     returns-11
     returns-12
-    returns-13)
+    returns-13
+    returns-14)

@@ -14,26 +14,25 @@ use Rattle.yuv_error.proofs.check_lent.Statement.{statement}
 use Rattle.yuv_error.proofs.check_lent.Tie as tie
 
 abbrev Start : tie.After-get-channels-count → tie.Start
-Start c = c .before .before .before .before
+Start c = c .before .before .before .before .before .before
 
--- a row of the source, as the code has its size
-row-size : (c : tie.After-get-channels-count) → Start c .args .frame .width * c .get-channels-count .result ≤ 65536
-row-size c =
-    let a = Start c .args in
+-- a row of so many pixels, as the code has its size
+row-size : (c : tie.After-get-channels-count) {n : ℕ} → n ≤ 16384 → n * c .get-channels-count .result ≤ 65536
+row-size c {n} small =
     let count = c .get-channels-count in
-    size-small (a .frame .width) (count .result) (Start c .pre .0 .width-most)
-    (subst (λ (n : ℕ). n ≤ 4) (sym (count .ensures)) (three-or-four (a .frame .settings .channels) .1))
+    size-small n (count .result) small
+    (subst (λ (n : ℕ). n ≤ 4) (sym (count .ensures)) (three-or-four (Start c .args .frame .settings .channels) .1))
 
 -- the rules, by the numbers that the code works out: bytes a pixel, chroma bytes a row, chroma rows
 abbrev rules : (s : tie.Start) → (count width height : ℕ) → Numbers
 rules s count width height =
     let a = s .args in
-    firstOf (bufferRules (record { row = a .frame .width * count; rows = a .rows; stride = a .stride; len = a .lent .source }) (yOf (a .frame) (a .lent .y))
+    firstOf (bufferRules (record { row = a .frame .window .«source_width» * count; rows = a .rows; stride = a .stride; len = a .lent .source }) (yOf (a .frame) (a .lent .y))
     (record { row = width; rows = height; stride = a .frame .«u_stride»; len = a .lent .u })
     (record { row = width; rows = height; stride = a .frame .«v_stride»; len = a .lent .v }))
 
 mul-row : tie.Need-mul-row
-mul-row c = omega (arith, row-size c)
+mul-row c = let z = Start c .pre .0 in omega (arith, row-size c (z .source-width-most), row-size c (z .width-most))
 
 check-buffers-requires : tie.Need-check-buffers-requires
 check-buffers-requires c κs =
@@ -43,7 +42,7 @@ check-buffers-requires c κs =
     let w = c .before .chroma-width .ensures in
     let h = c .chroma-height .ensures in
     let r = chroma-rows (f .settings .sampling) (f .height) (p .0 .height-least) in (
-      record { row-most = row-size g; rows-least = p .1 .0; rows-most = p .1 .1 },
+      record { row-most = row-size g (p .0 .source-width-most); rows-least = p .1 .0; rows-most = p .1 .1 },
       (
         record { row-most = omega (arith, p .0); rows-least = p .0 .height-least; rows-most = p .0 .height-most },
         (
@@ -69,6 +68,7 @@ pub check-lent-spec : {M : Type 1} → statement M
 check-lent-spec =
     tie.close
     (tie.spec
+    (λ c. search needs)
     (λ c. search needs)
     (λ c. search needs)
     (λ c κs. search needs)

@@ -3,10 +3,10 @@
 use Prim.Native.Nat.{ℕ, _*_}
 use mathlib.Core.Path.{ap}
 use native.Mathlib.Omega.{arith}
 use Rattle.definitions.proofs.Numbers.{three-or-four, size-small}
 use borrow.Author.Needs.{needs}
-use Rattle.band_steps.proofs.row_size.Statement.{statement}
-use Rattle.band_steps.proofs.row_size.Tie as tie
+use Rattle.definitions.proofs.row_size.Statement.{statement}
+use Rattle.definitions.proofs.row_size.Tie as tie
 
 mul-result : tie.Need-mul-result
 mul-result c =
