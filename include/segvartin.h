@@ -5,9 +5,9 @@
  * calls on separate buffers may run on separate threads. A call takes less than 96 KiB of stack.
  *
  * Call segvartin_frame, segvartin_open and segvartin_band, or the same calls with their numbers in structs: segvartin_convert_frame,
- * segvartin_open_frame and segvartin_convert_band. With a choice that these do not have, which today is the rounding of the curve tables:
- * segvartin_convert_frame_with, segvartin_open_frame_with and segvartin_convert_band_with. All only pass numbers on to the library's
- * segvartin_call_ functions below.
+ * segvartin_open_frame and segvartin_convert_band. With choices that these do not have, which today are the rounding of the curve tables and a
+ * window (the frame is a rectangle inside a larger source): segvartin_convert_frame_with, segvartin_open_frame_with and
+ * segvartin_convert_band_with. All only pass numbers on to the library's segvartin_call_ functions below.
  *
  * docs/RULES.md has the rules that fix each byte and each answer; RULES 7.1 below names one of them. The library's three functions are the
  * calls of its chapter 10.
@@ -20,9 +20,10 @@
  * The caller's floating-point mode (rounding, denormals, trapped exceptions) does not matter: each call is made in the default mode, and the
  * caller's mode and exception flags are put back as they were. Only SEGVARTIN_FCC and SEGVARTIN_CUSTOM use floats at all.
  *
- * Write w, h for width and height; c for the bytes of a pixel, 3 (RGB, BGR) or 4; cw for w / 2 rounded up; ch for h in 4:2:2, and for h / 2
- * rounded up in 4:2:0. Strides are in bytes, from the start of a row to the start of the next. Of a row only its first w (Y) or cw (U, V)
- * bytes are written; what follows up to the stride is left as it is. Alpha and the source's padding are never looked at.
+ * Write w, h for width and height; W, H for those of the source, which are w, h where no window says otherwise; c for the bytes of a pixel,
+ * 3 (RGB, BGR) or 4; cw for w / 2 rounded up; ch for h in 4:2:2, and for h / 2 rounded up in 4:2:0. Strides are in bytes, from the start of a
+ * row to the start of the next. Of a row only its first w (Y) or cw (U, V) bytes are written; what follows up to the stride is left as it is.
+ * Alpha, the source's padding and its pixels outside the window are never looked at.
  */
 #ifndef SEGVARTIN_H
 #define SEGVARTIN_H
@@ -68,8 +69,8 @@ enum { SEGVARTIN_SRGB = 0, SEGVARTIN_REC709 = 1, SEGVARTIN_GAMMA2P2 = 2, SEGVART
 enum { SEGVARTIN_TRUNCATED = 0, SEGVARTIN_NEAREST = 1 };
 
 /*
- * What a call answers (RULES 7.1). Where several conditions hold, the lowest number is answered. In parentheses: what *expected and *received get;
- * where nothing stands there, and after finished work, both get 0.
+ * What a call answers (RULES 7.1). Where several conditions hold, the first in the order below is answered: 1, 2, 3, 4, 14, 5, 6 and so on to 13.
+ * In parentheses: what *expected and *received get; where nothing stands there, and after finished work, both get 0.
  */
 enum {
     SEGVARTIN_FINISHED = 0,
@@ -77,15 +78,17 @@ enum {
     SEGVARTIN_MALFORMED_REQUEST = 1,
     /* w or h is 0 */
     SEGVARTIN_ZERO_BASE_SIZE = 2,
-    /* w or h is above 16384 */
+    /* w, h, W or H is above 16384 */
     SEGVARTIN_SIZE_TOO_LARGE = 3,
     /* kr or kb of SEGVARTIN_CUSTOM is not from 0 to 0.5, or is no number; -0.0 is 0 */
     SEGVARTIN_MATRIX_NOT_ACCEPTED = 4,
+    /* with options only: left + w is above W, or top + h above H, the sums not wrapped; so where W or H is 0 */
+    SEGVARTIN_WINDOW_OUTSIDE_SOURCE = 14,
     /* band calls only: a band of 0 rows, or of more than remain */
     SEGVARTIN_BAND_ROWS_MISMATCH = 5,
-    /* source shorter than stride * (its rows - 1) + w * c (that, its length) */
+    /* source shorter than stride * (its rows - 1) + W * c (that, its length); its rows: H, in a band call the band's */
     SEGVARTIN_SOURCE_SIZE_MISMATCH = 6,
-    /* source stride below w * c (w * c, stride) */
+    /* source stride below W * c (W * c, stride) */
     SEGVARTIN_SOURCE_STRIDE_MISMATCH = 7,
     /* y_stride below w (w * h, y_stride * h) */
     SEGVARTIN_Y_STRIDE_MISMATCH = 8,
@@ -110,7 +113,8 @@ enum {
  *
  *   numbers          frame: stride, description. open: description. band: done, rows, stride, description. The description is ten numbers:
  *                    width, height, channels, sampling, range, matrix, transfer, y_stride, u_stride, v_stride; or eleven, the last of them
- *                    rounding, which is SEGVARTIN_TRUNCATED where it is not given. Any other count is refusal 1.
+ *                    rounding; or fifteen, the last four of them left, top, source_width, source_height. Where it is not given, rounding is
+ *                    SEGVARTIN_TRUNCATED, and where they are not, these four are 0, 0, width, height. Any other count is refusal 1.
  *                    A later version may take further numbers; a call that does not give them stays the call that it is today
  *   custom           kr, kb
  *   told             gets expected, received, and in open and band the rows done: 0, and what they are after the band
@@ -321,16 +325,25 @@ static inline segvartin_answer segvartin_convert_band(segvartin_state *state, ui
  * gives every choice the meaning that it has in a call without options, and fields are then set by name.
  *
  *   rounding         SEGVARTIN_TRUNCATED or SEGVARTIN_NEAREST
+ *   left, top        where the frame begins in the source: pixel x of its row r is pixel left + x of row top + r there. left + w at most W, top + h
+ *                    at most H. In band calls the source is the band's rows: left is applied in each, and top in none
+ *   source_width, source_height    W, H: the size of the source, 1 to 16384
  */
 typedef struct segvartin_options {
     uint32_t rounding;
+    uint32_t left, top, source_width, source_height;
 } segvartin_options;
 
-/* The choices that a call without options makes. d is the description of the call, its size already set. */
+/*
+ * The choices that a call without options makes: truncated tables, and the whole source as window. d is the description of the call, its size
+ * already set: W and H are taken from it here, so where the size of d changes later, make the options anew.
+ */
 static inline segvartin_options segvartin_options_of(const segvartin_description *d) {
     segvartin_options o;
-    (void)d;
     o.rounding = SEGVARTIN_TRUNCATED;
+    o.left = o.top = 0;
+    o.source_width = d->width;
+    o.source_height = d->height;
     return o;
 }
 
@@ -342,7 +355,7 @@ typedef struct segvartin_state_with {
 } segvartin_state_with;
 
 /* The numbers of a description with options. */
-static inline void segvartin_put_numbers(uint32_t numbers[11], const segvartin_description *d, const segvartin_options *o) {
+static inline void segvartin_put_numbers(uint32_t numbers[15], const segvartin_description *d, const segvartin_options *o) {
     numbers[0] = d->width;
     numbers[1] = d->height;
     numbers[2] = d->channels;
@@ -354,33 +367,39 @@ static inline void segvartin_put_numbers(uint32_t numbers[11], const segvartin_d
     numbers[8] = d->u_stride;
     numbers[9] = d->v_stride;
     numbers[10] = o->rounding;
+    numbers[11] = o->left;
+    numbers[12] = o->top;
+    numbers[13] = o->source_width;
+    numbers[14] = o->source_height;
 }
 
 /*
- * Converts a whole frame (RULES 7.8). Answers 0, or a refusal: 1 to 4, 6 to 12. With o as segvartin_options_of makes it, it is
- * segvartin_convert_frame.
+ * Converts a whole frame (RULES 7.8). Answers 0, or a refusal: 1 to 4, 14, 6 to 12. With o as segvartin_options_of makes it, it is
+ * segvartin_convert_frame. With a window the planes are those of the rectangle copied out: no pixel outside it is looked at, also where w is odd or
+ * in the last row.
  *
  *   d                size, settings and plane strides by the rules of segvartin_frame
  *   o                the choices of the call; a code without a meaning is refusal 1
- *   source, stride, y, u, v    as in segvartin_frame
+ *   source           H rows of W * c bytes: stride at least W * c, its length exactly stride * H
+ *   y, u, v          as in segvartin_frame
  */
 static inline segvartin_answer segvartin_convert_frame_with(const segvartin_description *d, const segvartin_options *o, segvartin_bytes source,
                                                             uint32_t stride, segvartin_bytes_mut y, segvartin_bytes_mut u,
                                                             segvartin_bytes_mut v) {
     const float custom[2] = {d->kr, d->kb};
-    uint32_t numbers[12];
+    uint32_t numbers[16];
     size_t told[2];
     segvartin_answer a;
     numbers[0] = stride;
     segvartin_put_numbers(numbers + 1, d, o);
-    a.number = segvartin_frame_in_default_mode(numbers, 12, custom, source.at, source.len, y.at, y.len, u.at, u.len, v.at, v.len, told);
+    a.number = segvartin_frame_in_default_mode(numbers, 16, custom, source.at, source.len, y.at, y.len, u.at, u.len, v.at, v.len, told);
     a.expected = told[0];
     a.received = told[1];
     return a;
 }
 
 /*
- * Opens a frame that comes in bands of rows (RULES 8.1). Answers 0, or a refusal: 1 to 4. Of plane strides it says nothing; the first band
+ * Opens a frame that comes in bands of rows (RULES 8.1). Answers 0, or a refusal: 1 to 4, 14. Of plane strides it says nothing; the first band
  * call does.
  *
  *   state            gets the description, the options and 0 rows done, also after a refusal. The options hold for all bands of the frame
@@ -389,13 +408,13 @@ static inline segvartin_answer segvartin_convert_frame_with(const segvartin_desc
 static inline segvartin_answer segvartin_open_frame_with(segvartin_state_with *state, const segvartin_description *d,
                                                          const segvartin_options *o) {
     const float custom[2] = {d->kr, d->kb};
-    uint32_t numbers[11];
+    uint32_t numbers[15];
     size_t told[3];
     segvartin_answer a;
     state->frame = *d;
     state->options = *o;
     segvartin_put_numbers(numbers, d, o);
-    a.number = segvartin_open_in_default_mode(numbers, 11, custom, told);
+    a.number = segvartin_open_in_default_mode(numbers, 15, custom, told);
     a.expected = told[0];
     a.received = told[1];
     state->done = told[2] & 0xffffffffu; /* the rows done are 32 bits */
@@ -403,26 +422,30 @@ static inline segvartin_answer segvartin_open_frame_with(segvartin_state_with *s
 }
 
 /*
- * Converts the next rows of a frame (RULES 8.2, 8.9). Answers 0, or a refusal: 1 to 13; a refusal leaves *state as it is.
+ * Converts the next rows of a frame (RULES 8.2, 8.9). Answers 0, or a refusal: 1 to 14; a refusal leaves *state as it is.
  *
  * State, planes and carried row are those that the last accepted call left: then the rows finished are those of segvartin_convert_frame_with
  * on the same rows with the opening's options, byte for byte.
  *
  *   state            in: as the opening or the band before left it; out: this band's rows are done too
- *   rows, source, stride, y, u, v, carried    as in segvartin_band
+ *   source           the next rows of the source that have the frame in them, whole: W * c bytes each, from column 0 on. The call itself goes
+ *                    to pixel left of each; the caller adds no left to the pointer. Where the source stands in memory whole, the band starts
+ *                    at byte (top + state->done) * stride of it. stride at least W * c, its length exactly stride * rows; stride may change
+ *                    between bands
+ *   rows, y, u, v, carried    as in segvartin_band
  */
 static inline segvartin_answer segvartin_convert_band_with(segvartin_state_with *state, uint32_t rows, segvartin_bytes source, uint32_t stride,
                                                            segvartin_bytes_mut y, segvartin_bytes_mut u, segvartin_bytes_mut v,
                                                            segvartin_bytes_mut carried) {
     const float custom[2] = {state->frame.kr, state->frame.kb};
-    uint32_t numbers[14];
+    uint32_t numbers[18];
     size_t told[3];
     segvartin_answer a;
     numbers[0] = state->done;
     numbers[1] = rows;
     numbers[2] = stride;
     segvartin_put_numbers(numbers + 3, &state->frame, &state->options);
-    a.number = segvartin_band_in_default_mode(numbers, 14, custom, source.at, source.len, y.at, y.len, u.at, u.len, v.at, v.len, carried.at,
+    a.number = segvartin_band_in_default_mode(numbers, 18, custom, source.at, source.len, y.at, y.len, u.at, u.len, v.at, v.len, carried.at,
                                               carried.len, told);
     a.expected = told[0];
     a.received = told[1];

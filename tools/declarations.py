@@ -27,7 +27,8 @@ ERRORS = ROOT / 'rust' / 'src' / 'error.rs'
 # The header's names of refusals, by the library's; those of settings are the library's in capitals.
 REFUSALS = {
     'MalformedRequest': 'MALFORMED_REQUEST', 'ZeroBaseSize': 'ZERO_BASE_SIZE', 'SizeTooLarge': 'SIZE_TOO_LARGE',
-    'MatrixNotAccepted': 'MATRIX_NOT_ACCEPTED', 'BandRowsMismatch': 'BAND_ROWS_MISMATCH',
+    'MatrixNotAccepted': 'MATRIX_NOT_ACCEPTED', 'WindowOutsideSource': 'WINDOW_OUTSIDE_SOURCE',
+    'BandRowsMismatch': 'BAND_ROWS_MISMATCH',
     'DestinationSizeMismatch': 'SOURCE_SIZE_MISMATCH', 'MinimumStrideSizeMismatch': 'SOURCE_STRIDE_MISMATCH',
     'LumaPlaneMinimumSizeMismatch': 'Y_STRIDE_MISMATCH', 'LumaPlaneSizeMismatch': 'Y_SIZE_MISMATCH',
     'UPlaneMinimumSizeMismatch': 'U_MISMATCH', 'VPlaneMinimumSizeMismatch': 'V_MISMATCH',

@@ -2,18 +2,24 @@
 //!
 //! Each figure is the least of many turns. The two, or a frame's forms, take turns, so that a busy
 //! moment of the machine falls on both alike.
-use segvartin::{FrameDescription, FrameOptions, FrameState, TableRounding, YuvChromaSubsampling, YuvSourceChannels};
+use segvartin::{FrameDescription, FrameOptions, FrameState, TableRounding, Window, YuvChromaSubsampling, YuvSourceChannels};
 use std::time::Instant;
 use yuvutils_unaltered::sharpyuv::*;
 use yuvutils_unaltered::{BufferStoreMut, YuvPlanarImageMut, YuvRange, YuvStandardMatrix};
 
-// What is asked of the figures at 1,920 x 1,080: times the Rust; per cent over one call; per cent of one rounding over the other.
+// What is asked of the figures at 1,920 x 1,080: times the Rust; per cent over one call; per cent of one rounding over the other; per cent of a
+// window over its rectangle copied out.
 const LEAST_RATIO: f64 = 2.2;
 const MOST_OVER_16: f64 = 12.;
 const MOST_OVER_120: f64 = 3.;
 const MOST_APART: f64 = 3.;
+const MOST_OVER_COPIED: f64 = 5.;
 
 const TURNS: usize = 100;
+
+/// Where a window begins in its source, in pixels.
+const LEFT: usize = 961;
+const TOP: usize = 541;
 
 const CHANNELS: [YuvSourceChannels; 4] =
     [YuvSourceChannels::Rgb, YuvSourceChannels::Rgba, YuvSourceChannels::Bgra, YuvSourceChannels::Bgr];
@@ -102,6 +108,22 @@ impl Frame {
         segvartin::rgbx_to_sharp_yuv_with(&frame, &options, &self.source, stride, &mut self.y, &mut self.u, &mut self.v).unwrap();
     }
 
+    /// Takes its source out of a larger frame.
+    fn copy_out(&mut self, large: &Frame) {
+        let (stride, before) = (self.stride(), LEFT * ORDERS[self.order].1);
+        for (row, from) in self.source.chunks_mut(stride).zip(large.source.chunks(large.stride()).skip(TOP)) {
+            row.copy_from_slice(&from[before..before + stride]);
+        }
+    }
+
+    /// One call on the same pixels where they stand in the larger frame.
+    fn window(&mut self, large: &Frame) {
+        let (frame, stride) = (self.description(), large.stride() as u32);
+        let mut options = FrameOptions::of(&frame);
+        options.window = Window::new(LEFT as u32, TOP as u32, large.width as u32, large.height as u32);
+        segvartin::rgbx_to_sharp_yuv_with(&frame, &options, &large.source, stride, &mut self.y, &mut self.u, &mut self.v).unwrap();
+    }
+
     /// The same frame in bands of so many rows.
     fn bands(&mut self, rows: usize) {
         let stride = self.stride();
@@ -181,6 +203,21 @@ fn roundings(frame: &mut Frame, turns: usize) -> [f64; 2] {
     least(frame, turns, [&Frame::ours, &Frame::nearest])
 }
 
+/// The times of a call on a rectangle copied out beforehand, of one on the same rectangle as a window, and of the copying.
+fn windows(sampling: usize) -> [f64; 3] {
+    let large = Frame::new(Content::Noise, 3840, 2160, 0, sampling);
+    let mut frame = Frame::new(Content::Noise, 1920, 1080, 0, sampling);
+    frame.window(&large);
+    let window = frame.planes();
+    frame.copy_out(&large);
+    frame.ours();
+    assert!(frame.planes() == window, "a window leaves other planes than its rectangle copied out");
+    // the copying in turns of its own: just before a call it would leave the rectangle in the cache for it
+    let [copied, window] = least(&mut frame, TURNS, [&Frame::ours, &|f| f.window(&large)]);
+    let [copying] = least(&mut frame, TURNS, [&|f: &mut Frame| f.copy_out(&large)]);
+    [copied, window, copying]
+}
+
 /// Whether every figure is within its bar.
 struct Bars(bool);
 
@@ -233,6 +270,15 @@ fn main() {
         let [truncated, nearest] = roundings(&mut Frame::new(Content::Noise, 1920, 1080, 0, sampling), TURNS);
         let said = bars.hold(truncated.max(nearest) <= truncated.min(nearest) * (1. + MOST_APART / 100.));
         println!("{:<8}{truncated:>11.2}{nearest:>9.2}{:>8.3}{said}", SAMPLINGS[sampling], nearest / truncated);
+    }
+
+    // The call has nowhere to copy to: no heap, and a stack below 96 KiB (tests/c/stack.c). Had it copied, it would be over by the last column.
+    println!("\na window of 1,920 x 1,080 in 3,840 x 2,160, Rgb, noise, ms, and over its rectangle copied out beforehand; bar: {MOST_OVER_COPIED} %");
+    println!("{:<8}{:>11}{:>9}{:>9}{:>13}", "chroma", "copied out", "window", "over", "the copying");
+    for sampling in 0..2 {
+        let [copied, window, copying] = windows(sampling);
+        let said = bars.hold(window <= copied * (1. + MOST_OVER_COPIED / 100.));
+        println!("{:<8}{copied:>11.2}{window:>9.2}{:>7.1} %{copying:>13.2}{said}", SAMPLINGS[sampling], (window / copied - 1.) * 100.);
     }
 
     println!("\nother sizes, Rgb, noise, ns a pixel; least of so many turns");

@@ -52,7 +52,7 @@ pub struct FrameStateWith {
 }
 
 impl FrameStateWith {
-    /// As [`FrameState::open`], with the choices of `options`, which hold for all bands of the frame.
+    /// As [`FrameState::open`], with the choices of `options`, which hold for all bands of the frame. Refuses a window (14) too.
     pub fn open(
         frame: FrameDescription,
         options: FrameOptions,
@@ -66,7 +66,9 @@ impl FrameStateWith {
         })
     }
 
-    /// As [`FrameState::band`]. The rows finished are those of [`rgbx_to_sharp_yuv_with`](crate::rgbx_to_sharp_yuv_with) with the opening's options.
+    /// As [`FrameState::band`], refusals also 14. The rows finished are those of [`rgbx_to_sharp_yuv_with`](crate::rgbx_to_sharp_yuv_with) with the
+    /// opening's options. `source` is `rows` whole rows of the large source, from column 0 on, which have the frame's next rows in them;
+    /// `carried` is at least 3 × the frame's width bytes.
     #[allow(clippy::too_many_arguments)]
     pub fn band(
         self,

@@ -10,17 +10,21 @@ pub struct MismatchedSize {
     pub received: usize,
 }
 
-/// The refusals, lowest number first. Where several hold, the lowest is answered (RULES 7.1).
+/// The refusals, in the order of RULES 7.1. Where several hold, the first in this order is answered. There may be more of them one day: a
+/// `match` needs a last arm `_`.
 #[derive(Debug, Copy, Clone, Eq, PartialEq)]
+#[non_exhaustive]
 pub enum YuvError {
     /// 1: a setting without a meaning. The enums of this crate have none, so no call here answers it.
     MalformedRequest,
     /// 2: width or height is 0.
     ZeroBaseSize,
-    /// 3: width or height is above 16,384.
+    /// 3: width or height is above 16,384, of the frame or of the large source.
     SizeTooLarge,
     /// 4: kr or kb of Custom is not from 0 to 0.5, or is no number.
     MatrixNotAccepted,
+    /// 14: the window ends outside the large source.
+    WindowOutsideSource,
     /// 5: a band of 0 rows, or of more than remain.
     BandRowsMismatch,
     /// 6: the source is too short.
@@ -50,6 +54,7 @@ impl YuvError {
             YuvError::ZeroBaseSize => 2,
             YuvError::SizeTooLarge => 3,
             YuvError::MatrixNotAccepted => 4,
+            YuvError::WindowOutsideSource => 14,
             YuvError::BandRowsMismatch => 5,
             YuvError::DestinationSizeMismatch(_) => 6,
             YuvError::MinimumStrideSizeMismatch(_) => 7,
@@ -70,6 +75,7 @@ impl YuvError {
             | YuvError::ZeroBaseSize
             | YuvError::SizeTooLarge
             | YuvError::MatrixNotAccepted
+            | YuvError::WindowOutsideSource
             | YuvError::BandRowsMismatch => None,
             YuvError::DestinationSizeMismatch(size)
             | YuvError::MinimumStrideSizeMismatch(size)
@@ -90,6 +96,7 @@ impl YuvError {
             2 => YuvError::ZeroBaseSize,
             3 => YuvError::SizeTooLarge,
             4 => YuvError::MatrixNotAccepted,
+            14 => YuvError::WindowOutsideSource,
             5 => YuvError::BandRowsMismatch,
             6 => YuvError::DestinationSizeMismatch(size),
             7 => YuvError::MinimumStrideSizeMismatch(size),
@@ -109,8 +116,9 @@ impl Display for YuvError {
         let what = match self {
             YuvError::MalformedRequest => "a setting has no meaning",
             YuvError::ZeroBaseSize => "width or height is 0",
-            YuvError::SizeTooLarge => "width or height is above 16384",
+            YuvError::SizeTooLarge => "width or height, of the frame or of its source, is above 16384",
             YuvError::MatrixNotAccepted => "kr or kb is not from 0 to 0.5",
+            YuvError::WindowOutsideSource => "the window ends outside the large source",
             YuvError::BandRowsMismatch => "the band has no rows, or more than remain",
             YuvError::DestinationSizeMismatch(_) => "the source is too short",
             YuvError::MinimumStrideSizeMismatch(_) => "the source's stride is below its row",

@@ -24,7 +24,10 @@ pub fn rgbx_to_sharp_yuv(
     convert(&numbers[2..], &frame.custom(), source, y, u, v)
 }
 
-/// As [`rgbx_to_sharp_yuv`], with the choices of `options`; with those of [`FrameOptions::of`] it is the same call.
+/// As [`rgbx_to_sharp_yuv`], with the choices of `options`; with those of [`FrameOptions::of`] it is the same call. Refusals are 2, 3, 4, 14, 6 to
+/// 12.
+///
+/// `source` is the large source of the window: its rows are of the large width, and it is exactly `stride` × the large height bytes.
 ///
 /// ```
 /// use segvartin::*;

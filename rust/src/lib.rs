@@ -30,6 +30,6 @@ pub use error::{MismatchedSize, YuvError};
 pub use frame::*;
 pub use image::{BufferStoreMut, YuvPlanarImageMut};
 pub use settings::{
-    FrameDescription, FrameOptions, SharpYuvGammaTransfer, TableRounding, YuvChromaSubsampling,
-    YuvRange, YuvSourceChannels, YuvStandardMatrix,
+    FrameDescription, FrameOptions, SharpYuvGammaTransfer, TableRounding, Window,
+    YuvChromaSubsampling, YuvRange, YuvSourceChannels, YuvStandardMatrix,
 };

@@ -74,6 +74,56 @@ pub struct FrameDescription {
     pub v_stride: u32,
 }
 
+/// Where the frame stands in a larger source: pixel x of its row r is pixel `left` + x of row `top` + r there, and it must end within it (14).
+/// In band calls the source is the band's rows alone, each of the large width: `left` is applied in each, and `top` in none.
+///
+/// ```
+/// use segvartin::*;
+///
+/// let frame = FrameDescription {
+///     width: 1,
+///     height: 1,
+///     channels: YuvSourceChannels::Rgb,
+///     sampling: YuvChromaSubsampling::Yuv420,
+///     range: YuvRange::Full,
+///     matrix: YuvStandardMatrix::Bt601,
+///     transfer: SharpYuvGammaTransfer::Srgb,
+///     y_stride: 1,
+///     u_stride: 1,
+///     v_stride: 1,
+/// };
+/// let mut options = FrameOptions::of(&frame);
+/// options.window = Window::new(2, 1, 4, 3); // the third pixel of the second row of 4 × 3
+/// let mut source = [0; 36];
+/// source[18] = 255;
+/// let (mut y, mut u, mut v) = ([0; 1], [0; 1], [0; 1]);
+/// rgbx_to_sharp_yuv_with(&frame, &options, &source, 12, &mut y, &mut u, &mut v)?;
+/// assert_eq!((y, u, v), ([76], [85], [255]));
+/// # Ok::<(), YuvError>(())
+/// ```
+#[derive(Debug, Copy, Clone, PartialEq, Eq)]
+#[non_exhaustive]
+pub struct Window {
+    pub left: u32,
+    pub top: u32,
+    /// Width of the large source, whose rows are lent whole.
+    pub source_width: u32,
+    /// Rows of the large source.
+    pub source_height: u32,
+}
+
+impl Window {
+    #[must_use]
+    pub fn new(left: u32, top: u32, source_width: u32, source_height: u32) -> Window {
+        Window {
+            left,
+            top,
+            source_width,
+            source_height,
+        }
+    }
+}
+
 /// What a call may choose beyond its description. [`FrameOptions::of`] makes it, and a field is then set by name; it may gain fields.
 ///
 /// [`rgbx_to_sharp_yuv_with`](crate::rgbx_to_sharp_yuv_with) has an example.
@@ -81,14 +131,16 @@ pub struct FrameDescription {
 #[non_exhaustive]
 pub struct FrameOptions {
     pub rounding: TableRounding,
+    pub window: Window,
 }
 
 impl FrameOptions {
-    /// The choices that a call without options makes for this frame: `Truncated`.
+    /// The choices that a call without options makes for this frame: `Truncated`, and a window that is the whole source.
     #[must_use]
-    pub fn of(_frame: &FrameDescription) -> FrameOptions {
+    pub fn of(frame: &FrameDescription) -> FrameOptions {
         FrameOptions {
             rounding: TableRounding::Truncated,
+            window: Window::new(0, 0, frame.width, frame.height),
         }
     }
 }
@@ -142,7 +194,7 @@ impl FrameDescription {
         ]
     }
 
-    /// The numbers of a band call with options: its numbers without, then those of the options. The last 12 are those of a frame call, the last 11
+    /// The numbers of a band call with options: its numbers without, then those of the options. The last 16 are those of a frame call, the last 15
     /// those of an opening.
     pub(crate) fn numbers_with(
         &self,
@@ -150,13 +202,21 @@ impl FrameDescription {
         done: u32,
         rows: u32,
         stride: u32,
-    ) -> [u32; 14] {
+    ) -> [u32; 18] {
         let rounding = match options.rounding {
             TableRounding::Truncated => 0,
             TableRounding::Nearest => 1,
         };
-        let mut numbers = [rounding; 14];
+        let window = options.window;
+        let mut numbers = [0; 18];
         numbers[..13].copy_from_slice(&self.numbers(done, rows, stride));
+        numbers[13..].copy_from_slice(&[
+            rounding,
+            window.left,
+            window.top,
+            window.source_width,
+            window.source_height,
+        ]);
         numbers
     }
 

@@ -148,6 +148,21 @@ fn by_bands_with(frame: &FrameDescription, source: &[u8]) -> (Result<(), YuvErro
     (answer, planes)
 }
 
+/// What a frame call with nearest tables answers and leaves where the frame is a window onto a larger source, 99 around it.
+fn by_window(frame: &FrameDescription, source: &[u8]) -> (Result<(), YuvError>, [Vec<u8>; 3]) {
+    let mut planes = planes(frame);
+    let [y, u, v] = &mut planes;
+    let mut options = nearest(frame);
+    options.window = Window::new(2, 1, frame.width + 3, frame.height + 2);
+    let [row, stride] = [frame.width, frame.width + 3].map(|width| 3 * width as usize);
+    let mut large = vec![99; stride * (frame.height as usize + 2)];
+    for (to, from) in large[stride..].chunks_mut(stride).zip(source.chunks(row)) {
+        to[6..6 + row].copy_from_slice(from);
+    }
+    let answer = rgbx_to_sharp_yuv_with(frame, &options, &large, stride as u32, y, u, v);
+    (answer, planes)
+}
+
 /// The number that the exported frame call answers, and the planes that it leaves, for Limited, 4:2:2 and a Custom matrix.
 fn by_export(width: u32, height: u32, custom: [f32; 2], source: &[u8]) -> (u32, [Vec<u8>; 3]) {
     let (sampling, range) = (YuvChromaSubsampling::Yuv422, YuvRange::Limited);
@@ -226,6 +241,8 @@ fn the_same_in_every_mode() {
                 let (before, after, got) = in_mode(mode, || by_frame_with(&frame, &source));
                 assert_eq!((before, after, &got), (mode, mode, &usual_with));
                 let (before, after, got) = in_mode(mode, || by_bands_with(&frame, &source));
+                assert_eq!((before, after, &got), (mode, mode, &usual_with));
+                let (before, after, got) = in_mode(mode, || by_window(&frame, &source));
                 assert_eq!((before, after, &got), (mode, mode, &usual_with));
                 let (before, after, opened) = in_mode(mode, || FrameState::open(frame));
                 assert_eq!(

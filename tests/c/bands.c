@@ -278,24 +278,24 @@ static lent lend_numbers(const uint32_t *numbers, size_t count) {
 }
 
 /*
- * The exported functions answer 1 to every count of numbers but their own two, with and without the rounding; no byte is written, and the rows
- * done are told as they were given. Of a band the numbers are one row done, one row, stride 15.
+ * The exported functions answer 1 to every count of numbers but their own three, without options, with the rounding, and with a window too, here the
+ * whole source; no byte is written, and the rows done are told as they were given. Of a band the numbers are one row done, one row, stride 15.
  */
 static void counts(void) {
     segvartin_description d = description(SEGVARTIN_RGB, SEGVARTIN_YUV420, 3);
-    const uint32_t numbers[19] = {1, 1, 15, 5, 3, 0, 0, 0, 0, 0, 6, 4, 3, SEGVARTIN_NEAREST, 1, 1, 1, 1, 1};
+    const uint32_t numbers[25] = {1, 1, 15, 5, 3, 0, 0, 0, 0, 0, 6, 4, 3, SEGVARTIN_NEAREST, 0, 0, 5, 3};
     const float custom[2] = {0, 0};
-    for (size_t count = 0; count <= 16; count++) {
+    for (size_t count = 0; count <= 22; count++) {
         planes p = lend_planes(&d);
         lent source = lend(15), carried = lend(3 * WIDTH), given = lend_numbers(numbers + 3, count);
         size_t told[3] = {99, 99, 99};
-        int finished = count == 10 || count == 11;
+        int finished = count == 10 || count == 11 || count == 15;
         uint32_t number = segvartin_call_open((const uint32_t *)(const void *)given.at, count, custom, told);
         EXPECT(number == (finished ? SEGVARTIN_FINISHED : SEGVARTIN_MALFORMED_REQUEST));
         EXPECT(told[0] == 0 && told[1] == 0 && told[2] == 0);
         give_back(&given);
         given = lend_numbers(numbers, count);
-        finished = count == 13 || count == 14;
+        finished = count == 13 || count == 14 || count == 18;
         told[0] = told[1] = told[2] = 99;
         number = segvartin_call_band((const uint32_t *)(const void *)given.at, count, custom, source.at, source.len, p.y.at, p.y.len, p.u.at, p.u.len,
                                      p.v.at, p.v.len, carried.at, carried.len, told);

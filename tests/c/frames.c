@@ -201,7 +201,7 @@ static void refusals(uint32_t sampling) {
             REFUSED(r.d.channels = i == 0 ? code : r.d.channels; r.d.sampling = i == 1 ? code : r.d.sampling;
                     r.d.range = i == 2 ? code : r.d.range; r.d.matrix = i == 3 ? code : r.d.matrix;
                     r.d.transfer = i == 4 ? code : r.d.transfer, 1, 0, 0);
-            /* 1 is the lowest */
+            /* 1 is the first */
             REFUSED(r.d.matrix = i == 3 ? code : 7; r.d.width = 0; r.d.y_stride = 0, 1, 0, 0);
         }
     REFUSED(r.d.width = 0, 2, 0, 0);
@@ -232,7 +232,7 @@ static void refusals(uint32_t sampling) {
     REFUSED(shorter(&r.y, 7 * 2 + 5), 12, 21, 19);
     REFUSED(shorter(&r.u, 5 * rows + 1), 12, 5 * rows, 5 * rows + 1);
     REFUSED(shorter(&r.v, 5 * rows + 5), 12, 5 * rows, 5 * rows + 5);
-    /* the lowest of several */
+    /* the first of several */
     REFUSED(shorter(&r.v, 0); shorter(&r.y, 0); r.stride = 19, 7, 20, 19);
     REFUSED(shorter(&r.v, 0); shorter(&r.y, 22), 11, 5 * (rows - 1) + 3, 0);
 }
@@ -269,24 +269,24 @@ static void refused_roundings(uint32_t sampling) {
 }
 
 /*
- * The exported function answers 1 to every count of numbers but its own two, 11 and 12, whatever the numbers are; no byte is written. The numbers
- * have a closed page behind them too: of 11 no twelfth is read.
+ * The exported function answers 1 to every count of numbers but its own three, 11, 12 and 16, whatever the numbers are; no byte is written. The
+ * numbers have a closed page behind them too: of 11 no twelfth is read. The window of 16 is the whole source.
  */
 static void counts(void) {
-    static const uint32_t numbers[16] = {6, 2, 1, 0, 0, 1, 0, 0, 2, 1, 1, SEGVARTIN_NEAREST, 1, 1, 1, 1};
+    static const uint32_t numbers[20] = {6, 2, 1, 0, 0, 1, 0, 0, 2, 1, 1, SEGVARTIN_NEAREST, 0, 0, 2, 1};
     const float custom[2] = {0, 0};
-    for (size_t count = 0; count <= 16; count++) {
+    for (size_t count = 0; count <= 20; count++) {
         request r = accepted(2, 1, SEGVARTIN_RGB, SEGVARTIN_YUV420, SEGVARTIN_FULL, 0);
         lent given = lend(count * sizeof *numbers);
         size_t told[2] = {99, 99};
-        int finished = count == 11 || count == 12;
+        int finished = count == 11 || count == 12 || count == 16;
         memcpy(given.at, numbers, given.len);
         paint(&r, 10, 0, 0);
         uint32_t number = segvartin_call_frame((const uint32_t *)(const void *)given.at, count, custom, r.source.at, r.source.len, r.y.at, r.y.len,
                                                r.u.at, r.u.len, r.v.at, r.v.len, told);
         EXPECT(number == (finished ? SEGVARTIN_FINISHED : SEGVARTIN_MALFORMED_REQUEST) && told[0] == 0 && told[1] == 0);
         if (finished)
-            EXPECT(r.v.at[0] == (count == 12 ? 133 : 132));
+            EXPECT(r.v.at[0] == (count == 11 ? 132 : 133));
         else
             EXPECT(untouched(&r.y) && untouched(&r.u) && untouched(&r.v));
         give_back(&given);

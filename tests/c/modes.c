@@ -133,6 +133,51 @@ static void bands_with(const segvartin_description *d, outcome *o) {
     o->done = state.done;
 }
 
+/*
+ * The three with nearest tables, the frame a window onto a larger source: of the row above, of the pixels around it and of the row below every byte
+ * is 99. They leave what those without a window leave.
+ */
+enum { LEFT = 2, TOP = 1, LARGE_W = W + 3, LARGE_H = H + 2, LARGE_STRIDE = 3 * LARGE_W };
+
+static uint8_t large[LARGE_STRIDE * LARGE_H];
+
+static segvartin_options window(const segvartin_description *d) {
+    segvartin_options o = nearest(d);
+    o.left = LEFT;
+    o.top = TOP;
+    o.source_width = LARGE_W;
+    o.source_height = LARGE_H;
+    memset(large, 99, sizeof large);
+    for (uint32_t row = 0; row < d->height; row++) memcpy(large + (TOP + row) * LARGE_STRIDE + 3 * LEFT, rows(d, row, 1).at, 3 * d->width);
+    return o;
+}
+
+static void frame_in_window(const segvartin_description *d, outcome *o) {
+    segvartin_options options = window(d);
+    segvartin_bytes from = {large, sizeof large};
+    segvartin_bytes_mut y = {o->y, (size_t)d->y_stride * d->height};
+    told(o, segvartin_convert_frame_with(d, &options, from, LARGE_STRIDE, y, plane(o->u, d), plane(o->v, d)));
+}
+
+static void opening_of_window(const segvartin_description *d, outcome *o) {
+    segvartin_options options = window(d);
+    segvartin_state_with state;
+    told(o, segvartin_open_frame_with(&state, d, &options));
+    o->done = state.done;
+}
+
+static void bands_in_window(const segvartin_description *d, outcome *o) {
+    segvartin_options options = window(d);
+    segvartin_state_with state;
+    segvartin_bytes_mut y = {o->y, (size_t)d->y_stride * d->height}, carried = {o->carried, 3 * (size_t)d->width};
+    segvartin_open_frame_with(&state, d, &options);
+    do {
+        segvartin_bytes row = {large + (TOP + state.done) * LARGE_STRIDE, LARGE_STRIDE};
+        told(o, segvartin_convert_band_with(&state, 1, row, LARGE_STRIDE, y, plane(o->u, d), plane(o->v, d), carried));
+    } while (o->number == SEGVARTIN_FINISHED && state.done < d->height);
+    o->done = state.done;
+}
+
 /* As frame, by the exported function alone. */
 static void bare(const segvartin_description *d, outcome *o) {
     const uint32_t numbers[11] = {3 * d->width, d->width,    d->height,   d->channels, d->sampling, d->range,
@@ -172,11 +217,15 @@ static segvartin_description description(uint32_t width, uint32_t height, uint32
 
 /* The calls, in each mode: answered with this number, and the same bytes as in the default mode. */
 static void in_every_mode(const segvartin_description *d, uint32_t number) {
-    static call *const calls[6] = {frame, opening, bands, frame_with, opening_with, bands_with};
-    for (int i = 0; i < 6; i++) {
+    static call *const calls[9] = {frame, opening, bands, frame_with, opening_with, bands_with, frame_in_window, opening_of_window, bands_in_window};
+    for (int i = 0; i < 9; i++) {
         outcome usual, o;
         unsigned mxcsr[2];
         in_mode(0, calls[i], d, &usual, mxcsr);
+        if (i >= 6) {
+            in_mode(0, calls[i - 3], d, &o, mxcsr);
+            EXPECT(!differ(&o, &usual));
+        }
         EXPECT(usual.number == number && usual.expected == 0 && usual.received == 0);
         EXPECT(usual.done == (i % 3 == 2 && number == SEGVARTIN_FINISHED ? d->height : 0));
         for (int mode = 0; mode < MODES; mode++) {
@@ -235,6 +284,10 @@ static void another_rounding(void) {
         EXPECT(o.number == SEGVARTIN_FINISHED && o.v[0] == 46);
         in_mode(mode, bands_with, &d, &o, mxcsr);
         EXPECT(o.number == SEGVARTIN_FINISHED && o.v[0] == 46);
+        in_mode(mode, frame_in_window, &d, &o, mxcsr);
+        EXPECT(o.number == SEGVARTIN_FINISHED && o.v[0] == 46);
+        in_mode(mode, bands_in_window, &d, &o, mxcsr);
+        EXPECT(o.number == SEGVARTIN_FINISHED && o.v[0] == 46);
         in_mode(mode, bare, &d, &o, mxcsr);
         EXPECT(o.number == SEGVARTIN_FINISHED && o.v[0] == (mode == 0 ? 46 : 47));
     }
@@ -277,6 +330,7 @@ static int ends(call *made, const segvartin_description *d) {
 static void another_end(void) {
     segvartin_description d = description(W, H, SEGVARTIN_YUV420, SEGVARTIN_FULL, SEGVARTIN_FCC);
     EXPECT(!ends(frame, &d) && !ends(bands, &d) && !ends(frame_with, &d) && !ends(bands_with, &d) && ends(bare, &d));
+    EXPECT(!ends(frame_in_window, &d) && !ends(bands_in_window, &d));
     d.matrix = SEGVARTIN_BT709;
     EXPECT(!ends(bare, &d));
 }

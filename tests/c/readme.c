@@ -1,18 +1,21 @@
 /*
- * The lines of C that README.md shows, one block after another, on a frame of flat green 10. tests/run takes them out of it. The last call is the
- * one with nearest tables: V is 124, and 125 by truncated ones (RULES 5.2, Bt601 Limited: of green 10 and of green 9).
+ * The lines of C that README.md shows, one block after another, on a frame of flat green 10 with the rear of a truck in it, flat white. tests/run
+ * takes them out of it. The last call but one is that with nearest tables: V of green is 124, and 125 by truncated ones (RULES 5.2, Bt601 Limited: of
+ * green 10 and of green 9). The last is the window onto the rear, which is white alone; behind its planes there is still what the call before left.
  */
 #include "expect.h"
 
 #include "segvartin.h"
 
+#include <string.h>
+
 enum { WIDTH = 1920, HEIGHT = 1080 };
 
 static uint8_t pixels[3 * WIDTH * HEIGHT], luma[WIDTH * HEIGHT], cb[WIDTH * HEIGHT / 4], cr[WIDTH * HEIGHT / 4];
 
-static int all_are(segvartin_bytes_mut plane, uint8_t byte) {
-    for (size_t i = 0; i < plane.len; i++)
-        if (plane.at[i] != byte) return 0;
+static int all_are(const uint8_t *plane, size_t from, size_t to, uint8_t byte) {
+    for (size_t i = from; i < to; i++)
+        if (plane[i] != byte) return 0;
     return 1;
 }
 
@@ -20,8 +23,13 @@ int main(void) {
     segvartin_bytes source = {pixels, sizeof pixels};
     segvartin_bytes_mut y = {luma, sizeof luma}, u = {cb, sizeof cb}, v = {cr, sizeof cr};
     for (size_t i = 1; i < sizeof pixels; i += 3) pixels[i] = 10;
+    for (size_t row = 300; row < 780; row++) memset(pixels + 3 * (row * WIDTH + 1200), 255, 3 * 640);
 #include "readme.inc"
     EXPECT(a.number == SEGVARTIN_FINISHED);
-    EXPECT(all_are(y, 21) && all_are(u, 125) && all_are(v, 124));
+    EXPECT(all_are(luma, 0, y.len, 235) && all_are(cb, 0, u.len, 128) && all_are(cr, 0, v.len, 128));
+    EXPECT(y.len == 640 * 480 && u.len == 320 * 240 && v.len == u.len);
+    /* the rows below the truck */
+    EXPECT(all_are(luma, 780 * WIDTH, sizeof luma, 21));
+    EXPECT(all_are(cb, 390 * WIDTH / 2, sizeof cb, 125) && all_are(cr, 390 * WIDTH / 2, sizeof cr, 124));
     return finish("readme");
 }

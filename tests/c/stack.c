@@ -1,7 +1,7 @@
 /*
- * The stack that a call takes, for every setting, without options and with nearest tables. Each call runs on a thread whose stack is filled with
- * one byte first; from where the call is made down to the lowest byte that changed is what it took. Bytes that a call reserves and never writes
- * are not seen.
+ * The stack that a call takes, for every setting, without options and with: nearest tables, and a window onto a larger source. Each call runs on a
+ * thread whose stack is filled with one byte first; from where the call is made down to the lowest byte that changed is what it took. Bytes that a
+ * call reserves and never writes are not seen.
  */
 #include <pthread.h>
 #include <stdint.h>
@@ -11,17 +11,18 @@
 
 #include "segvartin.h"
 
-/* PROMISED is what segvartin.h says. The frame is odd both ways, and given in bands of one row. */
+/* PROMISED is what segvartin.h says. The frame is odd both ways, and given in bands of one row. With options its source is twice as large. */
 enum { STACK = 1 << 20, FILL = 0xA5, PROMISED = 96 << 10, W = 17, H = 5, CW = 9 };
 
-static uint8_t source_bytes[4 * W * H], y_bytes[W * H], u_bytes[CW * H], v_bytes[CW * H], carried_bytes[3 * W];
+static uint8_t source_bytes[4 * 2 * W * 2 * H], y_bytes[W * H], u_bytes[CW * H], v_bytes[CW * H], carried_bytes[3 * W];
 static segvartin_description description;
-static int nearest;
+static int with_options;
 static segvartin_bytes_mut y = {y_bytes, sizeof y_bytes}, carried = {carried_bytes, sizeof carried_bytes};
 static const uint8_t *called_from;
 
 static uint32_t stride(void) {
-    return description.channels == SEGVARTIN_RGBA || description.channels == SEGVARTIN_BGRA ? 4 * W : 3 * W;
+    uint32_t width = with_options ? 2 * W : W;
+    return description.channels == SEGVARTIN_RGBA || description.channels == SEGVARTIN_BGRA ? 4 * width : 3 * width;
 }
 
 static segvartin_bytes_mut chroma(uint8_t *at) {
@@ -37,6 +38,10 @@ static segvartin_bytes rows(uint32_t from, uint32_t count) {
 static segvartin_options options(void) {
     segvartin_options o = segvartin_options_of(&description);
     o.rounding = SEGVARTIN_NEAREST;
+    o.left = W;
+    o.top = H;
+    o.source_width = 2 * W;
+    o.source_height = 2 * H;
     return o;
 }
 
@@ -44,8 +49,8 @@ static void *frame(void *unused) {
     segvartin_options o = options();
     segvartin_answer a;
     called_from = __builtin_frame_address(0);
-    a = nearest ? segvartin_convert_frame_with(&description, &o, rows(0, H), stride(), y, chroma(u_bytes), chroma(v_bytes))
-                : segvartin_convert_frame(&description, rows(0, H), stride(), y, chroma(u_bytes), chroma(v_bytes));
+    a = with_options ? segvartin_convert_frame_with(&description, &o, rows(0, 2 * H), stride(), y, chroma(u_bytes), chroma(v_bytes))
+                     : segvartin_convert_frame(&description, rows(0, H), stride(), y, chroma(u_bytes), chroma(v_bytes));
     return a.number == SEGVARTIN_FINISHED ? unused : &description;
 }
 
@@ -58,8 +63,8 @@ static void *bands(void *unused) {
     if (a.number == SEGVARTIN_FINISHED) a = segvartin_open_frame_with(&state, &description, &o);
     called_from = __builtin_frame_address(0);
     for (row = 0; row < H && a.number == SEGVARTIN_FINISHED; row++)
-        a = nearest ? segvartin_convert_band_with(&state, 1, rows(row, 1), stride(), y, chroma(u_bytes), chroma(v_bytes), carried)
-                    : segvartin_convert_band(&old, 1, rows(row, 1), stride(), y, chroma(u_bytes), chroma(v_bytes), carried);
+        a = with_options ? segvartin_convert_band_with(&state, 1, rows(row, 1), stride(), y, chroma(u_bytes), chroma(v_bytes), carried)
+                         : segvartin_convert_band(&old, 1, rows(row, 1), stride(), y, chroma(u_bytes), chroma(v_bytes), carried);
     return a.number == SEGVARTIN_FINISHED ? unused : &description;
 }
 
@@ -95,7 +100,7 @@ int main(void) {
         description.range = code / 8 % 2;
         description.matrix = code / 16 % 7;
         description.transfer = code / 112 % 4;
-        nearest = code / 448;
+        with_options = code / 448;
         f = taken(frame);
         b = taken(bands);
         if (f > most[0]) most[0] = f;
