@@ -2,12 +2,12 @@
 //! what is answered, what the list must have, and its files.
 
 use crate::check::{Converters, band_of, checked, frame_of};
-use crate::conditions;
+use crate::conditions::{self, BAND_SLIPS, Slip};
 use crate::converter::Converter;
-use crate::request::{BandRequest, answer_text, band_text, state_text};
+use crate::request::{BandRequest, answer_text, band_text, place_text, state_text};
 use crate::sequences::{Held, MOST_CALLS, Sequence, sequences};
 use crate::stored::{Stored, digest};
-use model::{Answer, FrameState, TableRounding};
+use model::{Answer, FrameState, TableRounding, Window};
 use std::collections::{BTreeMap, BTreeSet};
 use std::fmt::Write;
 use std::path::Path;
@@ -46,10 +46,8 @@ fn hold(held: &mut Held, left: BandRequest) {
 fn answered(sequence: Sequence, converters: &Converters) -> Result<Answered, String> {
     let model = &*converters[0];
     let s = &sequence.opening;
-    let strides = [s.y_stride, s.u_stride, s.v_stride];
-    let opened = model.open(s.w, s.h, s.settings, strides);
-    let opened = opened.expect("the model has bands");
-    if opened.map(|_| ()) != conditions::of_opening(s.w, s.h, &s.settings)
+    let opened = model.open(s).expect("the model has bands");
+    if opened.map(|_| ()) != conditions::of_opening(s)
         || opened.is_ok_and(|state| state_text(&state) != state_text(s))
     {
         return Err(format!("the opening differs: {}", state_text(s)));
@@ -129,65 +127,111 @@ fn list(converters: &Converters) -> Result<Vec<Answered>, String> {
     Ok(list)
 }
 
-// The choice of tables, lost between calls.
+// The choice of tables and the window, lost between calls or taken wrongly.
 
-/// By the opening, the number of calls accepted before, and the state's rounding: the rounding that
-/// a converter with this mistake takes.
-type Lost = fn(&FrameState, usize, TableRounding) -> TableRounding;
+/// By the opening and the number of calls accepted before: the call that a converter with this
+/// mistake makes of one.
+type Lost = fn(&FrameState, usize, &mut BandRequest);
 
-const LOST: [(&str, Lost); 3] = [
+/// This one is made for the carried row alone: the planes are those of the right call.
+const OF_CARRIED: &str = "left not applied in what is stored in the carried row";
+
+const LOST: [(&str, Lost); 7] = [
     (
         "the choice of nearest tables lost by the opening",
-        |_, _, _| TableRounding::Truncated,
+        |_, _, call| call.state.settings.rounding = TableRounding::Truncated,
     ),
     (
         "the choice of nearest tables lost by the first band",
-        |_, accepted, rounding| match accepted {
-            0 => rounding,
-            _ => TableRounding::Truncated,
+        |_, accepted, call| {
+            if accepted > 0 {
+                call.state.settings.rounding = TableRounding::Truncated;
+            }
         },
     ),
     (
         "the opening's choice taken where the state has the other",
-        |opening, _, _| opening.settings.rounding,
+        |opening, _, call| call.state.settings.rounding = opening.settings.rounding,
+    ),
+    ("top applied in bands", |_, _, call| {
+        // From its top on, as far as the band has rows.
+        let stride = call.source_stride as usize;
+        let rows = call.lent[0].len().checked_div(stride).unwrap_or(0);
+        let last = rows.saturating_sub(1);
+        let row = |r: usize| r.saturating_add(call.state.window.top as usize).min(last);
+        let source = (0..rows).flat_map(|r| call.lent[0][row(r) * stride..][..stride].to_vec());
+        let mut source: Vec<u8> = source.collect();
+        source.resize(call.lent[0].len(), 0);
+        call.lent[0] = source;
+    }),
+    ("left not applied in bands", |_, _, call| {
+        call.state.window.left = 0;
+    }),
+    (OF_CARRIED, |_, _, call| call.state.window.left = 0),
+    (
+        "the opening's window taken where the state has another",
+        |opening, _, call| call.state.window = opening.window,
     ),
 ];
 
-/// The fewest sequences that must tell each of them.
-const TELLING: usize = 4;
+/// The fewest sequences that must tell each of them, and each mistake in a condition.
+const TELLING: [usize; 2] = [4, 1];
 
 impl Answered {
-    /// Whether a converter with this mistake leaves other bytes after some call.
-    fn tells(&self, model: &dyn Converter, lost: Lost) -> bool {
+    /// Whether a converter with this mistake answers otherwise or leaves other bytes after some call.
+    fn tells(&self, model: &dyn Converter, name: &str, lost: Lost) -> bool {
         let mut held = self.sequence.held.clone();
         let mut accepted = 0;
         for (call, after) in self.sequence.calls.iter().zip(&self.after) {
-            let mut request = call.request(&held);
-            let rounding = &mut request.state.settings.rounding;
-            *rounding = lost(&self.sequence.opening, accepted, *rounding);
-            let (_, _, left) = band_of(model, &request).expect("the model has bands");
+            let right = call.request(&held);
+            let mut request = right.clone();
+            lost(&self.sequence.opening, accepted, &mut request);
+            let (_, answer, mut left) = band_of(model, &request).expect("the model has bands");
+            if name == OF_CARRIED {
+                let (_, _, after) = band_of(model, &right).expect("the model has bands");
+                left.lent = after.lent;
+            }
             hold(&mut held, left);
-            if held != after.held {
+            if answer != after.answer || held != after.held {
                 return true;
             }
             accepted += usize::from(after.answer.is_ok());
         }
         false
     }
+
+    /// Whether a converter with this mistake in a condition answers otherwise at some call.
+    fn tells_slip(&self, slip: Slip) -> bool {
+        let held = &self.sequence.held;
+        let mut calls = self.sequence.calls.iter().zip(&self.after);
+        conditions::of_opening_with(slip, &self.sequence.opening) != self.opened
+            || calls.any(|(call, after)| {
+                conditions::of_band_with(slip, &call.request(held)) != after.answer
+            })
+    }
 }
 
 /// A line for each mistake: the first sequence that tells it, and how many do.
 fn lost_lines(list: &[Answered], converters: &Converters) -> Result<Vec<String>, String> {
     let mut lines = Vec::new();
-    for (name, lost) in LOST {
+    let mut line = |name: &str, fewest: usize, tells: &dyn Fn(&Answered) -> bool| {
         let places: Vec<usize> = (list.iter().zip(1..))
-            .filter(|(answered, _)| answered.tells(&*converters[0], lost))
+            .filter(|(answered, _)| tells(answered))
             .map(|(_, place)| place)
             .collect();
-        if places.len() < TELLING {
+        if places.len() < fewest {
             return Err(format!("{} sequences tell: {name}", places.len()));
         }
         lines.push(format!("| {name} | {} | {} |", places[0], places.len()));
+        Ok(())
+    };
+    for (name, lost) in LOST {
+        line(name, TELLING[0], &|answered| {
+            answered.tells(&*converters[0], name, lost)
+        })?;
+    }
+    for (slip, name) in BAND_SLIPS {
+        line(name, TELLING[1], &|answered| answered.tells_slip(slip))?;
     }
     Ok(lines)
 }
@@ -229,6 +273,11 @@ fn complete(list: &[Answered]) -> Result<(), String> {
         let way = (settings.sampling, settings.transfer, settings.rounding);
         format!("{way:?}")
     };
+    let windows: BTreeSet<String> = (whole.iter())
+        .map(|answered| &answered.sequence.opening)
+        .filter(|s| s.window != Window::whole(s.w, s.h))
+        .map(orders)
+        .collect();
     let counts = |a: &Answered| (1..=MOST_CALLS).contains(&a.sequence.calls.len());
     let short = |a: &Answered| {
         let mut calls = a.sequence.calls.iter();
@@ -255,10 +304,17 @@ fn complete(list: &[Answered]) -> Result<(), String> {
         ),
         (sides(&|s| s.w), "every width from 1 to 12"),
         (sides(&|s| s.h), "every height from 1 to 12"),
-        (opened.into_iter().eq([0, 2, 3, 4]), "every opening answer"),
         (
-            numbers.into_iter().eq((0..=13).filter(|n| *n != 1)),
+            opened.into_iter().eq([0, 2, 3, 4, 14]),
+            "every opening answer",
+        ),
+        (
+            numbers.into_iter().eq((0..=14).filter(|n| *n != 1)),
             "every band answer",
+        ),
+        (
+            windows.len() == 8,
+            "a rectangle inside its source with every order and sampling",
         ),
         (odd, "odd rows done at first"),
         (strides, "a source stride that changes"),
@@ -274,7 +330,8 @@ fn complete(list: &[Answered]) -> Result<(), String> {
 
 fn put_frame(stored: &mut Stored, state: &FrameState) {
     let strides = [state.y_stride, state.u_stride, state.v_stride];
-    stored.frame(state.w, state.h, &state.settings, strides);
+    let size = (state.w, state.h);
+    stored.frame(size, &state.window, &state.settings, strides);
 }
 
 fn stored(list: &[Answered]) -> Vec<u8> {
@@ -369,11 +426,12 @@ fn index(list: &[Answered], bytes: usize) -> String {
     };
     for (answered, place) in list.iter().zip(1..) {
         let sequence = &answered.sequence;
-        let FrameState { w, h, settings, .. } = &sequence.opening;
         let s = &sequence.opening;
+        let settings = &s.settings;
+        let size = place_text(s.w, s.h, &s.window);
         let _ = writeln!(
             text,
-            "{place} | {} | {w} x {h} {:?} {:?} {:?} {:?} {:?} {:?} | {} {} {} | {}",
+            "{place} | {} | {size} {:?} {:?} {:?} {:?} {:?} {:?} | {} {} {} | {}",
             sequence.group,
             settings.channels,
             settings.sampling,
@@ -461,7 +519,7 @@ pub fn check(root: &Path, converters: &Converters) -> Result<String, String> {
     Ok(format!("{} band sequences, as they are made", list.len()))
 }
 
-/// Which sequence is the first to tell each way to lose the choice of tables, and how many do.
+/// Which sequence is the first to tell each mistake, and how many do.
 pub fn report(converters: &Converters) -> Result<String, String> {
     Ok(lost_lines(&list(converters)?, converters)?.join("\n"))
 }

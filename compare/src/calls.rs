@@ -1,13 +1,14 @@
 //! The frame calls of the stored list, from fixed seeds.
 
-use crate::mistakes::{EXACT_HALVES, MISTAKES, Mistake, TABLE_MISTAKES, convert};
+use crate::conditions::{FRAME_SLIPS, Slip};
+use crate::mistakes::{EXACT_HALVES, MISTAKES, Mistake, TABLE_MISTAKES, WINDOW_MISTAKES, convert};
 use crate::random::{self, Random};
 use crate::request::{FrameRequest, frame_text, shapes};
 use crate::stored::repeated;
 use crate::worked::{bt601, painted};
 use model::settings::{channels_of, matrix_of, range_of, sampling_of, transfer_of};
 use model::{
-    Frame, Settings, SharpYuvGammaTransfer, TableRounding, YuvChromaSubsampling, YuvRange,
+    Frame, Settings, SharpYuvGammaTransfer, TableRounding, Window, YuvChromaSubsampling, YuvRange,
     YuvSourceChannels, YuvStandardMatrix,
 };
 use std::collections::BTreeSet;
@@ -51,6 +52,14 @@ pub fn calls() -> Vec<Call> {
         ("Nearest condition", one_condition()),
         ("Nearest settings", nearest_settings()),
         ("Nearest ramp", ramps(Nearest)),
+        ("mistake", mistakes(&WINDOW_MISTAKES, 170)),
+        ("condition's mistake", slips()),
+        ("window", windows()),
+        ("window's place", window_places()),
+        ("far corner", far_corners()),
+        ("window's limit", window_limits()),
+        ("window's source", window_boundaries()),
+        ("14 and another", outside_and_another()),
     ];
     let mut seen = BTreeSet::new();
     let mut calls = Vec::new();
@@ -73,7 +82,7 @@ fn frame(
     settings: Settings,
     padding: [u32; 4],
 ) -> FrameRequest {
-    let shapes = shapes(w, h, h, &settings);
+    let shapes = shapes(w, h, (w, h), &settings);
     let strides = [0, 1, 2, 3].map(|i| shapes[i].row as u32 + padding[i]);
     let length = |i: usize| strides[i] as usize * shapes[i].rows as usize;
     let source = random::source_bytes(random, length(0));
@@ -83,6 +92,7 @@ fn frame(
         frame: Frame {
             w,
             h,
+            window: Window::whole(w, h),
             settings,
             source_stride: strides[0],
             y_stride: strides[1],
@@ -236,7 +246,7 @@ fn thought_of(mistake: Mistake) -> Option<FrameRequest> {
                 sampling: YuvChromaSubsampling::Yuv422,
                 ..srgb
             };
-            // 25,662 of the gamma table by weights 12 and 4.
+            // 25,662 of the truncated gamma table by weights 12 and 4.
             let colour = |_, column| [[178, 0, 0], [132, 0, 0]][column as usize];
             Some(painted(2, 1, settings, colour))
         }
@@ -280,7 +290,12 @@ fn mistakes(list: &[(Mistake, &str)], first_kind: u64) -> Vec<Call> {
                 }
                 _ => settings.sampling = YuvChromaSubsampling::Yuv420,
             }
-            frame(&mut random, side, side, settings, [0; 4])
+            let mut request = frame(&mut random, side, side, settings, [0; 4]);
+            if WINDOW_MISTAKES.iter().any(|(other, _)| *other == mistake) {
+                // One pixel, with one around it on each side.
+                random::set_window(&mut random, &mut request, window(1, 1, 3, 3));
+            }
+            request
         });
         let caught =
             |request: &FrameRequest| convert(mistake, request) != convert(Mistake::None, request);
@@ -323,7 +338,7 @@ fn sides() -> Vec<Call> {
             ..bt601(YuvRange::Full)
         };
         let mut request = painted(1, 1, settings, |_, _| [0; 3]);
-        (request.frame.w, request.frame.h) = (w, h);
+        request.set_size(w, h);
         if u64::from(w) * u64::from(h) <= 16_385 {
             let shapes = request.shapes();
             request.set_strides(shapes.map(|shape| shape.row as u32));
@@ -508,8 +523,8 @@ fn with_condition(request: &FrameRequest, condition: &str) -> FrameRequest {
     };
     let mut changed = request.clone();
     match condition {
-        "2" => changed.frame.w = 0,
-        "3" => changed.frame.h = 16_385,
+        "2" => changed.set_size(0, request.frame.h),
+        "3" => changed.set_size(request.frame.w, 16_385),
         "4" => changed.frame.settings.matrix = YuvStandardMatrix::Custom(0.3, f32::NAN),
         "6" => changed = short(0),
         "7" => changed = narrow(0),
@@ -527,8 +542,8 @@ fn with_condition(request: &FrameRequest, condition: &str) -> FrameRequest {
     changed
 }
 
-/// Two conditions at once, of which the lower number is answered. The lower is made to hold last:
-/// 2, 3 and 4 leave the buffers as they are.
+/// Two conditions at once, 14 aside, of which the one that is asked first is answered. It is made to
+/// hold last: 2, 3 and 4 leave the buffers as they are.
 fn two_conditions() -> Vec<Call> {
     let mut calls = Vec::new();
     for (higher, second) in CONDITIONS.into_iter().enumerate() {
@@ -706,6 +721,273 @@ fn ramps(rounding: TableRounding) -> Vec<Call> {
         };
         let colour = |row: u32, _| [row as u8, 0, 10 * (row / 256) as u8];
         calls.push(call("", painted(2, 512, settings, colour)));
+    }
+    calls
+}
+
+fn window(left: u32, top: u32, source_width: u32, source_height: u32) -> Window {
+    Window {
+        left,
+        top,
+        source_width,
+        source_height,
+    }
+}
+
+/// An accepted frame as a rectangle of a larger source.
+fn framed(
+    random: &mut Random,
+    (w, h): (u32, u32),
+    window: Window,
+    settings: Settings,
+    padding: [u32; 4],
+) -> FrameRequest {
+    let mut request = frame(random, w, h, settings, padding);
+    random::set_window(random, &mut request, window);
+    request
+}
+
+/// 3 × 3 pixels of a source of 7 × 5, with rows and columns on each side.
+fn some_framed(random: &mut Random) -> FrameRequest {
+    let settings = some_settings(random);
+    framed(random, (3, 3), window(2, 1, 7, 5), settings, [1, 2, 3, 4])
+}
+
+/// For each mistake in a condition a call that it answers otherwise.
+fn slips() -> Vec<Call> {
+    let mut calls = Vec::new();
+    for ((slip, name), case) in FRAME_SLIPS.into_iter().zip(0..) {
+        let mut random = Random::new(SEED, 1_200, case);
+        let base = some_framed(&mut random);
+        let row = base.shapes()[0].row as u32;
+        let stride = base.strides()[0];
+        let (least, _) = lengths(&base, 0, stride);
+        let mut request = base.clone();
+        let place = &mut request.frame.window;
+        match slip {
+            Slip::LengthOfRectangle => request = with_buffer(&base, 0, stride, least - 1),
+            Slip::StrideOfRectangle => {
+                let (least, _) = lengths(&base, 0, row - 1);
+                request = with_buffer(&base, 0, row - 1, least);
+            }
+            Slip::RowsOfRectangle => {
+                let rows = u64::from(stride) * u64::from(base.frame.h);
+                request = with_buffer(&base, 0, stride, rows);
+            }
+            Slip::SidesOfRectangle => place.source_width = 16_385,
+            Slip::NoSideIs2 => place.source_height = 0,
+            Slip::SumWraps => place.left = u32::MAX - 2,
+            Slip::EdgeIsOutside => place.left = 4,
+            _ => {
+                request = with_buffer(&base, 0, stride, least - 1);
+                request.frame.window.top = 3;
+            }
+        }
+        calls.push(call(name, request));
+    }
+    calls
+}
+
+/// Every order and sampling with rectangles inside, with odd sides; at the left and top edge; at
+/// the right and bottom edge; and over the source's whole width or height.
+fn windows() -> Vec<Call> {
+    let mut calls = Vec::new();
+    for case in 0..4 * 2 * 4 {
+        let mut random = Random::new(SEED, 1_300, case);
+        let codes = [case % 4, case / 4 % 2].map(|code| code as u8);
+        let meaning = "a code with a meaning";
+        let settings = Settings {
+            channels: channels_of(codes[0]).expect(meaning),
+            sampling: sampling_of(codes[1]).expect(meaning),
+            rounding: random.pick(&[TableRounding::Truncated, TableRounding::Nearest]),
+            ..some_settings(&mut random)
+        };
+        let (mut w, mut h) = (random.from(1, 7), random.from(1, 7));
+        let [left, right, top, bottom] = [(); 4].map(|()| random.from(1, 4));
+        let (why, [left, right, top, bottom]) = match case / 8 {
+            0 => {
+                (w, h) = (w | 1, h | 1);
+                ("inside", [left, right, top, bottom])
+            }
+            1 => ("left and top edge", [0, right, 0, bottom]),
+            2 => ("right and bottom edge", [left, 0, top, 0]),
+            _ if case % 2 == 0 => ("whole width", [0, 0, top, bottom]),
+            _ => ("whole height", [left, right, 0, 0]),
+        };
+        let window = window(left, top, left + w + right, top + h + bottom);
+        let padding = some_padding(&mut random);
+        let request = framed(&mut random, (w, h), window, settings, padding);
+        calls.push(call(why, request));
+    }
+    calls
+}
+
+/// Rectangles of one source of 6 × 5: its corners, a column, a row, all of it, and odd and even
+/// sides from odd and even places.
+fn window_places() -> Vec<Call> {
+    let mut calls = Vec::new();
+    for (case, (w, h, left, top)) in [
+        (1, 1, 0, 0),
+        (1, 1, 5, 0),
+        (1, 1, 0, 4),
+        (1, 1, 5, 4),
+        (1, 5, 3, 0),
+        (6, 1, 0, 3),
+        (6, 5, 0, 0),
+        (5, 3, 1, 1),
+        (4, 4, 1, 1),
+        (3, 5, 2, 0),
+        (2, 3, 3, 2),
+        (5, 4, 0, 1),
+    ]
+    .into_iter()
+    .enumerate()
+    {
+        let mut random = Random::new(SEED, 1_400, case as u64);
+        let settings = some_settings(&mut random);
+        let window = window(left, top, 6, 5);
+        let padding = some_padding(&mut random);
+        let request = framed(&mut random, (w, h), window, settings, padding);
+        calls.push(call("", request));
+    }
+    calls
+}
+
+/// The last pixels of the longest rows and columns that a source may have. Eleven bytes come round
+/// in it, which is no number of pixels, so that it is stored short and no two places near are alike.
+fn far_corners() -> Vec<Call> {
+    use YuvChromaSubsampling::{Yuv420, Yuv422};
+    use YuvSourceChannels::*;
+    let mut calls = Vec::new();
+    for (case, (w, h, channels, sampling, place)) in [
+        (1, 1, Rgb, Yuv420, window(16_383, 0, 16_384, 1)),
+        (1, 1, Bgr, Yuv422, window(0, 16_383, 1, 16_384)),
+        (2, 1, Rgba, Yuv422, window(16_382, 0, 16_384, 1)),
+        (1, 2, Bgra, Yuv420, window(0, 16_382, 1, 16_384)),
+    ]
+    .into_iter()
+    .enumerate()
+    {
+        let mut random = Random::new(SEED, 1_500, case as u64);
+        let settings = Settings {
+            channels,
+            sampling,
+            ..some_settings(&mut random)
+        };
+        let mut request = framed(&mut random, (w, h), place, settings, [0; 4]);
+        request.lent[0] = repeated(&random.bytes(11), request.lent[0].len());
+        calls.push(call("", request));
+    }
+    calls
+}
+
+/// 3 and 14: where a rectangle of 3 × 2 lies in a source of 6 × 4, around the edges and around
+/// 2^32; and other sides of the source, over the bytes of that one.
+fn window_limits() -> Vec<Call> {
+    const MAX: u32 = u32::MAX;
+    let mut calls = Vec::new();
+    for (case, (w, h, place)) in [
+        (3, 2, window(3, 2, 6, 4)),
+        (3, 2, window(4, 2, 6, 4)),
+        (3, 2, window(3, 3, 6, 4)),
+        (3, 2, window(4, 3, 6, 4)),
+        (3, 2, window(6, 0, 6, 4)),
+        (3, 2, window(0, 4, 6, 4)),
+        (3, 2, window(MAX, 1, 6, 4)),
+        (3, 2, window(MAX - 2, 1, 6, 4)),
+        (3, 2, window(MAX - 1, 1, 6, 4)),
+        (3, 2, window(1, MAX, 6, 4)),
+        (3, 2, window(1, MAX - 1, 6, 4)),
+        (3, 2, window(MAX, MAX, 6, 4)),
+        (3, 2, window(1 << 31, 1 << 31, 6, 4)),
+        (3, 2, window(65_536, 0, 6, 4)),
+        (3, 2, window(0, 0, 0, 4)),
+        (3, 2, window(0, 0, 6, 0)),
+        (3, 2, window(0, 0, 0, 0)),
+        (3, 2, window(MAX - 2, MAX - 1, 0, 0)),
+        (3, 2, window(0, 0, 2, 4)),
+        (3, 2, window(0, 0, 6, 1)),
+        (3, 2, window(0, 0, 16_384, 4)),
+        (3, 2, window(0, 0, 16_385, 4)),
+        (3, 2, window(0, 0, 6, 16_385)),
+        (3, 2, window(0, 0, MAX, 4)),
+        (3, 2, window(1, 1, 6, MAX)),
+        (3, 2, window(MAX, MAX, MAX, MAX)),
+        (0, 2, window(0, 0, 0, 4)),
+        (0, 2, window(7, 0, 6, 4)),
+        (16_385, 2, window(0, 0, 0, 0)),
+    ]
+    .into_iter()
+    .enumerate()
+    {
+        let mut random = Random::new(SEED, 1_600, case as u64);
+        let settings = some_settings(&mut random);
+        let mut request = framed(&mut random, (3, 2), window(1, 1, 6, 4), settings, [0; 4]);
+        (request.frame.w, request.frame.h, request.frame.window) = (w, h, place);
+        calls.push(call("", request));
+    }
+    calls
+}
+
+/// 6, 7 and 12 of a source larger than the rectangle: lengths and strides around those of the
+/// source, and those of the rectangle.
+fn window_boundaries() -> Vec<Call> {
+    let mut random = Random::new(SEED, 1_700, 0);
+    let base = some_framed(&mut random);
+    let shape = base.shapes()[0];
+    let (row, stride) = (shape.row as u32, base.strides()[0]);
+    let c = base.frame.settings.channels.bytes();
+    let rectangle = u64::from(base.frame.w) * c;
+    let rows = u64::from(base.frame.h);
+    let (least, whole) = lengths(&base, 0, stride);
+    let mut changes: Vec<(&str, u32, u64)> = [
+        ("no byte", 0),
+        ("one under the least", least - 1),
+        ("the least", least),
+        ("one above the least", least + 1),
+        ("one under whole rows", whole - 1),
+        ("one above whole rows", whole + 1),
+        ("the rectangle's rows", u64::from(stride) * rows),
+        (
+            "up to the rectangle's last row",
+            u64::from(stride) * (rows + 1),
+        ),
+        ("all but what is right of the rectangle", least - 2 * c),
+    ]
+    .map(|(why, length)| (why, stride, length))
+    .into();
+    for (why, stride) in [
+        ("stride one under the row", row - 1),
+        ("stride the row", row),
+        ("stride one above the row", row + 1),
+        ("stride the rectangle's row", rectangle as u32),
+    ] {
+        let (least, whole) = lengths(&base, 0, stride);
+        changes.push((why, stride, whole));
+        if least != whole {
+            changes.push((why, stride, least));
+        }
+    }
+    changes.push(("stride the longest", u32::MAX, whole));
+    (changes.into_iter())
+        .map(|(why, stride, length)| call(why, with_buffer(&base, 0, stride, length)))
+        .collect()
+}
+
+/// 14 with each other condition.
+fn outside_and_another() -> Vec<Call> {
+    let mut calls = Vec::new();
+    for (other, case) in CONDITIONS.into_iter().zip(0..) {
+        let mut random = Random::new(SEED, 1_800, case);
+        let base = some_framed(&mut random);
+        let mut request = with_condition(&base, other);
+        let place = &mut request.frame.window;
+        if case % 2 == 0 {
+            place.left = place.source_width + 1;
+        } else {
+            place.top = place.source_height + 1;
+        }
+        calls.push(call(other, request));
     }
     calls
 }

@@ -6,7 +6,7 @@ use crate::random::{self, Random};
 use crate::request::*;
 use crate::smaller;
 use model::settings::chroma_height;
-use model::{Answer, FrameState, YuvChromaSubsampling};
+use model::{Answer, FrameState, Window, YuvChromaSubsampling};
 use std::ops::Range;
 use std::panic::{AssertUnwindSafe, catch_unwind};
 use std::sync::atomic::{AtomicBool, Ordering};
@@ -28,6 +28,11 @@ pub trait Case: Clone {
     /// Width and height.
     fn size(&self) -> Option<(u32, u32)> {
         None
+    }
+
+    /// Whether the frame is not all of its source.
+    fn is_inside(&self) -> bool {
+        false
     }
 }
 
@@ -123,9 +128,16 @@ pub fn band_of(
     Some((state, answer, after))
 }
 
+/// Whether an accepted call is made once more, with other bytes where none is looked at: a quarter
+/// of them are.
+fn is_repeated(y_stride: u32) -> bool {
+    y_stride.is_multiple_of(4)
+}
+
 impl Case for FrameRequest {
     /// The model's answer is that of the list of conditions, a refusal writes nothing, and every
     /// other converter that has this answer gives it and leaves the same bytes, padding included.
+    /// A quarter of the accepted calls leave them too with other bytes around the rectangle.
     fn check(&self, converters: &Converters) -> Result<u8, String> {
         let should = conditions::of_frame(self);
         let (answer, after) = frame_of(&*converters[0], self);
@@ -140,6 +152,17 @@ impl Case for FrameRequest {
             let (is, other_after) = frame_of(&**other, self);
             equal_answers(other.name(), &is, &answer)?;
             equal_lent(other.name(), &other_after.lent, &after.lent)?;
+        }
+        if answer.is_ok() && is_repeated(self.frame.y_stride) {
+            let request = self.with_others_outside();
+            for converter in converters {
+                let name = &format!("{}, other bytes outside", converter.name());
+                let (is, left) = frame_of(&**converter, &request);
+                equal_answers(name, &is, &Ok(()))?;
+                for i in 1..4 {
+                    equal_bytes(name, LENT[i], &left.lent[i], &after.lent[i])?;
+                }
+            }
         }
         if number(&answer) == 12 {
             self.passes_checks_of_rust()?;
@@ -161,6 +184,10 @@ impl Case for FrameRequest {
 
     fn size(&self) -> Option<(u32, u32)> {
         Some((self.frame.w, self.frame.h))
+    }
+
+    fn is_inside(&self) -> bool {
+        !self.is_whole()
     }
 }
 
@@ -219,29 +246,28 @@ impl BandRequest {
     /// The opening that fixes what this state has.
     fn check_opening(&self, converter: &dyn Converter) -> Result<(), String> {
         let s = &self.state;
-        let strides = [s.y_stride, s.u_stride, s.v_stride];
-        let Some(opened) = converter.open(s.w, s.h, s.settings, strides) else {
+        let Some(opened) = converter.open(s) else {
             return Ok(());
         };
-        let should = conditions::of_opening(s.w, s.h, &s.settings);
+        let should = conditions::of_opening(s);
         equal_answers(converter.name(), &opened.map(|_| ()), &should)?;
         let fresh = FrameState { done: 0, ..*s };
         equal_states(converter.name(), &opened.unwrap_or(fresh), &fresh)
     }
 
-    /// A whole frame without padding that has this band in its place: above it the carried row,
-    /// elsewhere rows of no meaning. Its planes are those of the second converter, the oracle.
+    /// A whole frame without padding that has this band's pixels in their place: above them the
+    /// carried row, elsewhere rows of no meaning. Its planes are those of the second converter, the
+    /// oracle.
     fn whole(&self, converters: &Converters) -> Result<FrameRequest, String> {
         let s = &self.state;
         let c = s.settings.channels.bytes() as usize;
-        let [source, planes @ ..] = shapes(s.w, s.h, s.h, &s.settings);
+        let [source, planes @ ..] = shapes(s.w, s.h, (s.w, s.h), &s.settings);
         let row = source.row as usize;
         let mut bytes = vec![77; row * s.h as usize];
         let start = s.done as usize * row;
         for r in 0..self.rows as usize {
-            let from = r * self.source_stride as usize;
             let to = start + r * row;
-            bytes[to..to + row].copy_from_slice(&self.lent[0][from..from + row]);
+            bytes[to..to + row].copy_from_slice(self.pixels(r));
         }
         if s.done > 0 {
             let above = bytes[start - row..start].chunks_exact_mut(c);
@@ -254,6 +280,7 @@ impl BandRequest {
             frame: model::Frame {
                 w: s.w,
                 h: s.h,
+                window: Window::whole(s.w, s.h),
                 settings: s.settings,
                 source_stride: source.row as u32,
                 y_stride: planes[0].row as u32,
@@ -271,7 +298,8 @@ impl BandRequest {
 impl Case for BandRequest {
     /// One call, on any state: its answer is that of the list of conditions; refused, it changes
     /// nothing; accepted, it writes the rows it finishes as the oracle's whole frame has them,
-    /// the carried row as RULES 8.8 says, and no other byte.
+    /// the carried row as RULES 8.8 says, and no other byte. A quarter of the accepted calls do so
+    /// too with other bytes around the rectangle.
     fn check(&self, converters: &Converters) -> Result<u8, String> {
         let should = conditions::of_band(self);
         let mut result = self.clone();
@@ -283,12 +311,7 @@ impl Case for BandRequest {
             let chroma = finished(sampling, s.h, s.done)..finished(sampling, s.h, end);
             let luma = u64::from(s.done)..u64::from(end);
             put_rows(&mut result.lent, self.strides(), &whole, luma, chroma);
-            store_row(
-                &mut result.carried,
-                s,
-                end,
-                whole.source_row(end as usize - 1),
-            );
+            store_row(&mut result.carried, s, end, whole.pixels(end as usize - 1));
             result.state.done = end;
         }
         for converter in converters {
@@ -305,6 +328,21 @@ impl Case for BandRequest {
             equal_lent(name, &after.lent, &result.lent)?;
             equal_bytes(name, "carried row", &after.carried, &result.carried)?;
         }
+        if should.is_ok() && is_repeated(self.state.y_stride) {
+            let request = self.with_others_outside();
+            for converter in converters {
+                let Some((is, answer, after)) = band_of(&**converter, &request) else {
+                    continue;
+                };
+                let name = &format!("{}, other bytes outside", converter.name());
+                equal_answers(name, &answer, &Ok(()))?;
+                equal_states(name, &is, &result.state)?;
+                for i in 1..4 {
+                    equal_bytes(name, LENT[i], &after.lent[i], &result.lent[i])?;
+                }
+                equal_bytes(name, "carried row", &after.carried, &result.carried)?;
+            }
+        }
         Ok(number(&should))
     }
 
@@ -314,6 +352,10 @@ impl Case for BandRequest {
 
     fn text(&self) -> String {
         band_text(self)
+    }
+
+    fn is_inside(&self) -> bool {
+        self.state.window != Window::whole(self.state.w, self.state.h)
     }
 }
 
@@ -347,14 +389,17 @@ impl Case for Run {
     fn size(&self) -> Option<(u32, u32)> {
         self.request.size()
     }
+
+    fn is_inside(&self) -> bool {
+        self.request.is_inside()
+    }
 }
 
 impl Run {
     fn check_one(&self, converter: &dyn Converter, whole: &FrameRequest) -> Result<(), String> {
         let f = &self.request.frame;
         let strides = self.request.strides();
-        let [_, planes @ ..] = strides;
-        let Some(opened) = converter.open(f.w, f.h, f.settings, planes) else {
+        let Some(opened) = converter.open(&self.request.opening()) else {
             return Ok(());
         };
         let name = converter.name();
@@ -376,7 +421,7 @@ impl Run {
             let chroma = [first, end].map(|n| finished(f.settings.sampling, f.h, n));
             let luma = u64::from(first)..u64::from(end);
             put_rows(&mut should.lent, strides, whole, luma, chroma[0]..chroma[1]);
-            let last = self.request.source_row(end as usize - 1);
+            let last = self.request.pixels(end as usize - 1);
             store_row(&mut should.carried, &should.state, end, last);
             should.state.done = end;
 
@@ -398,9 +443,11 @@ impl Run {
         Ok(())
     }
 
-    /// The next band's source: the frame's rows from n on, with a stride of its own.
+    /// The next band's source: the frame's rows from n on, with a stride of its own. An odd padding
+    /// brings other bytes left and right of the rectangle than the frame's source has.
     fn lend(&self, now: &mut BandRequest, n: u32, rows: u32, padding: u32) {
         let row = self.request.shapes()[0].row as usize;
+        let columns = self.request.columns();
         now.rows = rows;
         now.source_stride = row as u32 + padding;
         now.lent[0] = vec![0x5a; now.source_stride as usize * rows as usize];
@@ -409,6 +456,12 @@ impl Run {
             .enumerate()
         {
             part[..row].copy_from_slice(self.request.source_row(n as usize + r));
+            if padding % 2 == 1 {
+                for byte in part[..row].iter_mut() {
+                    *byte = !*byte;
+                }
+                part[columns.clone()].copy_from_slice(self.request.pixels(n as usize + r));
+            }
         }
     }
 }
@@ -502,11 +555,12 @@ impl Input {
         };
         let w = u32::from(header[0]) + 256 * u32::from(header[1]);
         let h = u32::from(header[2]) + 256 * u32::from(header[3]);
-        let strides = shapes(w, h, h, &settings).map(|shape| shape.row as u32);
+        let strides = shapes(w, h, (w, h), &settings).map(|shape| shape.row as u32);
         let mut request = FrameRequest {
             frame: model::Frame {
                 w,
                 h,
+                window: Window::whole(w, h),
                 settings,
                 source_stride: 0,
                 y_stride: 0,

@@ -1,16 +1,68 @@
 //! RULES 7.1 and on, once more and apart from the model: all conditions of a call
-//! as a list, of which the lowest that holds is answered. It judges the answers where the Rust
+//! as a list, of which the first that holds is answered. It judges the answers where the Rust
 //! has no such refusal.
 
 use crate::request::{BandRequest, FrameRequest, Lent, Shape};
-use model::{Answer, Refusal, Settings, YuvStandardMatrix};
+use model::{Answer, FrameState, Refusal, Settings, Window, YuvStandardMatrix};
 
 /// Number, whether it holds, expected, received.
 type Condition = (u8, bool, u128, u128);
 
-/// The first of those that hold and have the least number: 10, 11 and 12 stand more than once.
-fn lowest(conditions: Vec<Condition>) -> Answer {
-    match conditions.into_iter().filter(|c| c.1).min_by_key(|c| c.0) {
+/// The order in which they are asked.
+const ORDER: [u8; 14] = [1, 2, 3, 4, 14, 5, 6, 7, 8, 9, 10, 11, 12, 13];
+
+/// A mistake in a condition that a window brings, so that a list of calls can be held to catch it.
+#[derive(Clone, Copy, PartialEq)]
+pub enum Slip {
+    Without,
+    LengthOfRectangle,
+    StrideOfRectangle,
+    RowsOfRectangle,
+    CarriedOfSource,
+    SidesOfRectangle,
+    NoSideIs2,
+    SumWraps,
+    EdgeIsOutside,
+    AfterRows,
+    Last,
+}
+
+use Slip::*;
+
+/// Those that a frame call can tell.
+pub const FRAME_SLIPS: [(Slip, &str); 8] = [
+    (LengthOfRectangle, "6 with the rectangle's width"),
+    (StrideOfRectangle, "7 with the rectangle's width"),
+    (RowsOfRectangle, "6 and 12 with the rectangle's rows"),
+    (SidesOfRectangle, "3 of the rectangle's sides alone"),
+    (NoSideIs2, "2 where the source has a side of 0"),
+    (SumWraps, "14 by a sum that wraps"),
+    (EdgeIsOutside, "14 at the source's last column or row"),
+    (Last, "14 asked after 13"),
+];
+
+/// Those that a band call can tell.
+pub const BAND_SLIPS: [(Slip, &str); 9] = [
+    (LengthOfRectangle, "6 with the rectangle's width"),
+    (StrideOfRectangle, "7 with the rectangle's width"),
+    (CarriedOfSource, "13 with the source's width"),
+    (SidesOfRectangle, "3 of the rectangle's sides alone"),
+    (NoSideIs2, "2 where the source has a side of 0"),
+    (SumWraps, "14 by a sum that wraps"),
+    (EdgeIsOutside, "14 at the source's last column or row"),
+    (Last, "14 asked after 13"),
+    (AfterRows, "14 asked after 5"),
+];
+
+/// The first of those that hold and are asked first: 10, 11 and 12 stand more than once.
+fn first(slip: Slip, conditions: Vec<Condition>) -> Answer {
+    let place = |number: u8| match (slip, number) {
+        (AfterRows, 14) => place_of(5) + 1,
+        (Last, 14) => place_of(13) + 1,
+        _ => place_of(number),
+    };
+    let holding = conditions.into_iter().filter(|c| c.1);
+    match holding.min_by_key(|c| place(c.0)) {
         Some((number, _, expected, received)) => Err(Refusal {
             number,
             expected: expected as u64,
@@ -20,53 +72,110 @@ fn lowest(conditions: Vec<Condition>) -> Answer {
     }
 }
 
-pub fn of_opening(w: u32, h: u32, settings: &Settings) -> Answer {
-    lowest(sizes(w, h, settings))
+/// Twice its place in the order, so that a mistake has room between two.
+fn place_of(number: u8) -> usize {
+    let place = ORDER.iter().position(|other| *other == number);
+    2 * place.expect("a number of the order")
+}
+
+pub fn of_opening(asked: &FrameState) -> Answer {
+    of_opening_with(Without, asked)
 }
 
 pub fn of_frame(request: &FrameRequest) -> Answer {
-    let f = &request.frame;
-    let mut all = memory(&request.lent, request.strides(), request.shapes());
-    all.extend(sizes(f.w, f.h, &f.settings));
-    lowest(all)
+    of_frame_with(Without, request)
 }
 
 pub fn of_band(request: &BandRequest) -> Answer {
+    of_band_with(Without, request)
+}
+
+pub fn of_opening_with(slip: Slip, asked: &FrameState) -> Answer {
+    let s = asked;
+    first(slip, sizes(slip, s.w, s.h, &s.window, &s.settings))
+}
+
+pub fn of_frame_with(slip: Slip, request: &FrameRequest) -> Answer {
+    let f = &request.frame;
+    let mut shapes = request.shapes();
+    if slip == RowsOfRectangle {
+        shapes[0].rows = u64::from(f.h);
+    }
+    let rectangle = u64::from(f.w) * f.settings.channels.bytes();
+    let mut all = memory(slip, rectangle, &request.lent, request.strides(), shapes);
+    all.extend(sizes(slip, f.w, f.h, &f.window, &f.settings));
+    first(slip, all)
+}
+
+pub fn of_band_with(slip: Slip, request: &BandRequest) -> Answer {
     let s = &request.state;
     let remain = i64::from(s.h) - i64::from(s.done);
     let rows = i64::from(request.rows);
-    let (carried, needed) = (request.carried.len() as u128, 3 * u128::from(s.w));
-    let mut all = memory(&request.lent, request.strides(), request.shapes());
+    let pixels = match slip {
+        CarriedOfSource => s.window.source_width,
+        _ => s.w,
+    };
+    let (carried, needed) = (request.carried.len() as u128, 3 * u128::from(pixels));
+    let (strides, shapes) = (request.strides(), request.shapes());
+    let rectangle = u64::from(s.w) * s.settings.channels.bytes();
+    let mut all = memory(slip, rectangle, &request.lent, strides, shapes);
     all.push((13, carried < needed, needed, carried));
     all.push((5, rows == 0 || rows > remain, 0, 0));
-    all.extend(sizes(s.w, s.h, &s.settings));
-    lowest(all)
+    all.extend(sizes(slip, s.w, s.h, &s.window, &s.settings));
+    first(slip, all)
 }
 
-fn sizes(w: u32, h: u32, settings: &Settings) -> Vec<Condition> {
+fn sizes(slip: Slip, w: u32, h: u32, window: &Window, settings: &Settings) -> Vec<Condition> {
     let custom = match settings.matrix {
         YuvStandardMatrix::Custom(kr, kb) => [kr, kb],
         _ => [0.0, 0.0],
     };
     let outside = |k: &f32| k.is_nan() || *k < 0.0 || *k > 0.5;
+    let sides = [
+        (window.left, w, window.source_width),
+        (window.top, h, window.source_height),
+    ];
+    // The room that a side leaves in the source's, where it fits there at all.
+    let past = |(before, side, all): (u32, u32, u32)| match slip {
+        SumWraps => before.wrapping_add(side) > all,
+        EdgeIsOutside if all != side => u64::from(before) + u64::from(side) >= u64::from(all),
+        _ => all.checked_sub(side).is_none_or(|room| before > room),
+    };
+    let none = |(_, side, all): (u32, u32, u32)| side == 0 || (slip == NoSideIs2 && all == 0);
+    let large = |(_, side, all): (u32, u32, u32)| {
+        side > 16_384 || (slip != SidesOfRectangle && all > 16_384)
+    };
     vec![
+        (14, sides.into_iter().any(past), 0, 0),
         (4, custom.iter().any(outside), 0, 0),
-        (3, w > 16_384 || h > 16_384, 0, 0),
-        (2, w == 0 || h == 0, 0, 0),
+        (3, sides.into_iter().any(large), 0, 0),
+        (2, sides.into_iter().any(none), 0, 0),
     ]
 }
 
-fn memory(lent: &Lent, strides: [u32; 4], shapes: [Shape; 4]) -> Vec<Condition> {
+/// `rectangle`: the bytes of a row of it, which only a mistake asks for.
+fn memory(
+    slip: Slip,
+    rectangle: u64,
+    lent: &Lent,
+    strides: [u32; 4],
+    shapes: [Shape; 4],
+) -> Vec<Condition> {
     let lengths = lent.each_ref().map(|bytes| bytes.len() as u128);
     let mut all = Vec::new();
     for (i, (narrow, short)) in [(7, 6), (8, 9), (10, 10), (11, 11)].into_iter().enumerate() {
         let (row, rows) = (u128::from(shapes[i].row), u128::from(shapes[i].rows));
+        let row_of = |number: u8| match (slip, number) {
+            (LengthOfRectangle, 6) | (StrideOfRectangle, 7) => u128::from(rectangle),
+            _ => row,
+        };
         let stride = u128::from(strides[i]);
         // 7 names a stride, the planes' conditions the bytes of all rows.
         let times = if i == 0 { 1 } else { rows };
+        let row = row_of(narrow);
         all.push((narrow, stride < row, row * times, stride * times));
-        // With 0 rows a lower number is answered.
-        let least = stride * rows.saturating_sub(1) + row;
+        // With 0 rows a condition is answered that is asked before.
+        let least = stride * rows.saturating_sub(1) + row_of(short);
         all.push((short, lengths[i] < least, least, lengths[i]));
     }
     for i in 0..4 {

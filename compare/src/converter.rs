@@ -1,7 +1,7 @@
 //! What is compared: the model, the oracle, and the library that users link. The built program is in program.rs.
 
 use crate::request::BandRequest;
-use model::{Answer, Frame, FrameState, Refusal, Settings};
+use model::{Answer, Frame, FrameState, Refusal};
 
 /// A converter by the rules. To compare one more, implement this for it and add it to
 /// `converters`.
@@ -21,14 +21,8 @@ pub trait Converter {
         v: &mut [u8],
     ) -> Answer;
 
-    /// Plane strides are those of Y, U, V. None: it has no bands.
-    fn open(
-        &self,
-        _w: u32,
-        _h: u32,
-        _settings: Settings,
-        _strides: [u32; 3],
-    ) -> Option<Result<FrameState, Refusal>> {
+    /// It is asked to fix all of this state but the rows done. None: it has no bands.
+    fn open(&self, _asked: &FrameState) -> Option<Result<FrameState, Refusal>> {
         None
     }
 
@@ -76,15 +70,10 @@ impl Converter for Model {
         model::frame(frame, source, y, u, v)
     }
 
-    fn open(
-        &self,
-        w: u32,
-        h: u32,
-        settings: Settings,
-        strides: [u32; 3],
-    ) -> Option<Result<FrameState, Refusal>> {
-        let [y, u, v] = strides;
-        Some(model::open(w, h, settings, y, u, v))
+    fn open(&self, asked: &FrameState) -> Option<Result<FrameState, Refusal>> {
+        let s = asked;
+        let (y, u, v) = (s.y_stride, s.u_stride, s.v_stride);
+        Some(model::open(s.w, s.h, s.window, s.settings, y, u, v))
     }
 
     fn band(&self, request: &mut BandRequest) -> Option<(FrameState, Answer)> {
@@ -99,7 +88,7 @@ impl Converter for Model {
     }
 }
 
-/// The Rust with the exact tables put in.
+/// The Rust with the exact tables put in, run on the rectangle copied out of the source.
 struct Oracle;
 
 impl Converter for Oracle {
@@ -107,7 +96,8 @@ impl Converter for Oracle {
         "oracle"
     }
 
-    /// Added to the Rust: band calls, a program, refusals 1, 3, 4, 5, 12, 13.
+    /// Added to the Rust: band calls, a program, refusals 1, 3, 4, 5, 12, 13, 14. Of a window it has
+    /// 6 and 7 by the source's size, the others by the rectangle's; `oracle::exact::frame` says how.
     fn has(&self, number: u8) -> bool {
         matches!(number, 0 | 2 | 6..=11)
     }

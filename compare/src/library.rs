@@ -2,15 +2,23 @@
 
 use crate::converter::Converter;
 use crate::request::BandRequest;
-use model::{Answer, Frame, FrameState, Refusal, Settings, TableRounding};
+use model::{Answer, Frame, FrameState, Refusal, Settings, TableRounding, Window};
 use segvartin::{FrameDescription, FrameOptions, FrameStateWith, YuvError};
 
 pub struct Library;
 
-/// The crate has calls with options and calls without, which truncate. A call that truncates goes
-/// without where the strides of U and V are both even or both odd: about half of the time.
-fn without_options(settings: &Settings, [_, u_stride, v_stride]: [u32; 3]) -> bool {
-    settings.rounding == TableRounding::Truncated && (u_stride ^ v_stride) & 1 == 0
+/// The crate has calls with options and calls without, which truncate and take the whole source. A
+/// call that does goes without where the strides of U and V are both even or both odd: about half
+/// of the time.
+fn without_options(
+    (w, h): (u32, u32),
+    window: &Window,
+    settings: &Settings,
+    [_, u_stride, v_stride]: [u32; 3],
+) -> bool {
+    *window == Window::whole(w, h)
+        && settings.rounding == TableRounding::Truncated
+        && (u_stride ^ v_stride) & 1 == 0
 }
 
 impl Converter for Library {
@@ -34,68 +42,54 @@ impl Converter for Library {
         let strides = [frame.y_stride, frame.u_stride, frame.v_stride];
         let description = description(frame.w, frame.h, &frame.settings, strides);
         let stride = frame.source_stride;
-        let answer = if without_options(&frame.settings, strides) {
+        let size = (frame.w, frame.h);
+        let answer = if without_options(size, &frame.window, &frame.settings, strides) {
             segvartin::rgbx_to_sharp_yuv(&description, source, stride, y, u, v)
         } else {
-            let options = options(&description, &frame.settings);
+            let options = options(&description, &frame.window, &frame.settings);
             segvartin::rgbx_to_sharp_yuv_with(&description, &options, source, stride, y, u, v)
         };
         answer.map_err(refusal)
     }
 
-    fn open(
-        &self,
-        w: u32,
-        h: u32,
-        settings: Settings,
-        strides: [u32; 3],
-    ) -> Option<Result<FrameState, Refusal>> {
-        let frame = description(w, h, &settings, strides);
-        let opened = if without_options(&settings, strides) {
-            segvartin::FrameState::open(frame).map(|state| (TableRounding::Truncated, state.done))
+    fn open(&self, asked: &FrameState) -> Option<Result<FrameState, Refusal>> {
+        let strides = [asked.y_stride, asked.u_stride, asked.v_stride];
+        let frame = description(asked.w, asked.h, &asked.settings, strides);
+        let size = (asked.w, asked.h);
+        let opened = if without_options(size, &asked.window, &asked.settings, strides) {
+            segvartin::FrameState::open(frame).map(|state| FrameState {
+                done: state.done,
+                ..*asked
+            })
         } else {
-            FrameStateWith::open(frame, options(&frame, &settings))
-                .map(|state| (rounding(&state.options), state.done))
+            FrameStateWith::open(frame, options(&frame, &asked.window, &asked.settings))
+                .map(|state| left(asked, &state))
         };
-        Some(opened.map_err(refusal).map(|(rounding, done)| {
-            let [y_stride, u_stride, v_stride] = strides;
-            FrameState {
-                w,
-                h,
-                settings: Settings {
-                    rounding,
-                    ..settings
-                },
-                y_stride,
-                u_stride,
-                v_stride,
-                done,
-            }
-        }))
+        Some(opened.map_err(refusal))
     }
 
     fn band(&self, request: &mut BandRequest) -> Option<(FrameState, Answer)> {
-        let mut s = request.state;
+        let s = request.state;
         let strides = [s.y_stride, s.u_stride, s.v_stride];
         let frame = description(s.w, s.h, &s.settings, strides);
         let [source, y, u, v] = &mut request.lent;
         let (rows, stride) = (request.rows, request.source_stride);
         let carried = &mut request.carried;
-        let answer = if without_options(&s.settings, strides) {
+        let (after, answer) = if without_options((s.w, s.h), &s.window, &s.settings, strides) {
             let state = segvartin::FrameState {
                 frame,
                 done: s.done,
             };
             let (after, answer) = state.band(rows, source, stride, y, u, v, carried);
-            s.done = after.done;
-            answer
+            let done = after.done;
+            (FrameState { done, ..s }, answer)
         } else {
-            let state = any_state(frame, options(&frame, &s.settings), s.done);
+            let options = options(&frame, &s.window, &s.settings);
+            let state = any_state(frame, options, s.done);
             let (after, answer) = state.band(rows, source, stride, y, u, v, carried);
-            (s.settings.rounding, s.done) = (rounding(&after.options), after.done);
-            answer
+            (left(&s, &after), answer)
         };
-        Some((s, answer.map_err(refusal)))
+        Some((after, answer.map_err(refusal)))
     }
 }
 
@@ -108,13 +102,20 @@ fn any_state(frame: FrameDescription, options: FrameOptions, done: u32) -> Frame
         matrix: segvartin::YuvStandardMatrix::Bt601,
         ..frame
     };
-    let mut state = FrameStateWith::open(accepted, options).expect("an accepted opening");
-    (state.frame, state.done) = (frame, done);
+    let opened = FrameStateWith::open(accepted, FrameOptions::of(&accepted));
+    let mut state = opened.expect("an accepted opening");
+    (state.frame, state.options, state.done) = (frame, options, done);
     state
 }
 
-fn options(frame: &FrameDescription, settings: &Settings) -> FrameOptions {
+fn options(frame: &FrameDescription, window: &Window, settings: &Settings) -> FrameOptions {
     let mut options = FrameOptions::of(frame);
+    options.window = segvartin::Window::new(
+        window.left,
+        window.top,
+        window.source_width,
+        window.source_height,
+    );
     options.rounding = match settings.rounding {
         TableRounding::Truncated => segvartin::TableRounding::Truncated,
         TableRounding::Nearest => segvartin::TableRounding::Nearest,
@@ -122,10 +123,31 @@ fn options(frame: &FrameDescription, settings: &Settings) -> FrameOptions {
     options
 }
 
-fn rounding(options: &FrameOptions) -> TableRounding {
-    match options.rounding {
-        segvartin::TableRounding::Truncated => TableRounding::Truncated,
-        segvartin::TableRounding::Nearest => TableRounding::Nearest,
+/// The state that a call with options hands back for one that it was given.
+fn left(given: &FrameState, after: &FrameStateWith) -> FrameState {
+    let segvartin::Window {
+        left,
+        top,
+        source_width,
+        source_height,
+        ..
+    } = after.options.window;
+    FrameState {
+        window: Window {
+            left,
+            top,
+            source_width,
+            source_height,
+        },
+        settings: Settings {
+            rounding: match after.options.rounding {
+                segvartin::TableRounding::Truncated => TableRounding::Truncated,
+                segvartin::TableRounding::Nearest => TableRounding::Nearest,
+            },
+            ..given.settings
+        },
+        done: after.done,
+        ..*given
     }
 }
 

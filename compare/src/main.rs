@@ -37,7 +37,8 @@ compare --vectors ROOT | --check ROOT | --mistakes | --flat
   --runs N       frames cut into bands, with refused calls between them (40000)
   --programs N   inputs of the program (20000), a fifth of them run by target/bin/frame where it is there
   --pairs N      Custom pairs whose nine weights are compared (1000000)
-  --side N       sizes to N by N (64); some are 1,920 by 1,080, some up to 16,384 long and thin
+  --side N       sizes to N by N (64); some are 1,920 by 1,080, some up to 16,384 long and thin;
+                 four of five lie in a source that is larger by up to 18 each way, or all it may be
   --seed N       seed of all of these (1)
   --list N       print N requests of each kind with their answers, compared, and do nothing else
 
@@ -46,7 +47,8 @@ A mismatch is printed as the smallest request found that shows it, in the form o
   --vectors ROOT   write the stored lists of frame calls and band sequences into the repository ROOT
   --check ROOT     say whether the lists in ROOT are what --vectors writes
   --mistakes       for each mistake near at hand the call made for it, and how many calls catch it;
-                   for each way to lose the choice of tables between calls, the same of sequences
+                   for each way to lose tables or window between calls, and for each mistake in a
+                   condition of bands, the first sequence that catches it, and how many do
   --flat           for each transfer and rounding, how many of the 256 values of a flat channel
                    come back through both tables, and how far off the others are at most";
 
@@ -210,7 +212,7 @@ fn compare<C: Case>(kind: &str, cases: u64, converters: &Converters, make: impl 
     let start = Instant::now();
     let mut answers: BTreeMap<u8, u64> = BTreeMap::new();
     let mut combinations = BTreeSet::new();
-    let (mut large, mut long) = (0, 0);
+    let (mut large, mut long, mut inside) = (0, 0, 0);
     for case in 0..cases {
         let request = make(case);
         match checked(&request, converters) {
@@ -220,6 +222,7 @@ fn compare<C: Case>(kind: &str, cases: u64, converters: &Converters, make: impl 
                 let (w, h) = request.size().filter(|_| number == 0).unwrap_or((0, 0));
                 large += u64::from((w, h) == (1_920, 1_080));
                 long += u64::from(w.max(h) == 16_384);
+                inside += u64::from(number == 0 && request.is_inside());
             }
             Err(wrong) => {
                 println!("{kind}: case {case}: {wrong}");
@@ -236,6 +239,9 @@ fn compare<C: Case>(kind: &str, cases: u64, converters: &Converters, make: impl 
         text += &format!(
             " ({combinations} of 3584 combinations, {large} of 1920 by 1080, {long} with a side of 16384)"
         );
+    }
+    if inside > 0 {
+        text += &format!(", {inside} of them inside a larger source");
     }
     if !answers.is_empty() {
         let refused = answers

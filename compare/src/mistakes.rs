@@ -29,6 +29,11 @@ pub enum Mistake {
     NearestGammaOnly,
     HalvesDown,
     ScaleDigit,
+    RightFromOutside,
+    BelowFromOutside,
+    LeftInBytes,
+    LeftLost,
+    TopLost,
 }
 
 use Mistake::*;
@@ -72,6 +77,21 @@ pub const TABLE_MISTAKES: [(Mistake, &str); 5] = [
     (ScaleDigit, "the seventh digit of Srgb's scale one lower"),
 ];
 
+/// Mistakes in where the rectangle's pixels are, and where it ends.
+pub const WINDOW_MISTAKES: [(Mistake, &str); 5] = [
+    (
+        RightFromOutside,
+        "an odd width's right neighbour from outside the rectangle",
+    ),
+    (
+        BelowFromOutside,
+        "the row below an odd height from outside the rectangle",
+    ),
+    (LeftInBytes, "left in bytes, not in pixels"),
+    (LeftLost, "left not applied"),
+    (TopLost, "top not applied in a frame call"),
+];
+
 /// The gamma entries of Rec709 whose exact values end in a half: slope × 255 × i / 65,535 is 4.5 and
 /// 13.5. No other entry of any table is at one.
 pub const EXACT_HALVES: [usize; 2] = [257, 771];
@@ -91,11 +111,23 @@ pub fn convert(mistake: Mistake, request: &FrameRequest) -> Lent {
     let rules = Rules::new(mistake, request);
     let (w, h) = (f.w as usize, f.h as usize);
     let c = settings.channels.bytes() as usize;
-    let rgb = |row: usize, pixel: usize| {
-        let row = &request.source_row(row)[pixel * c..];
-        settings.channels.offsets().map(|offset| row[offset])
+    let [stride, y_stride, u_stride, v_stride] = request.strides().map(|stride| stride as usize);
+    let window = &f.window;
+    let (left, top) = (window.left as usize, window.top as usize);
+    let (column, row) = match mistake {
+        LeftInBytes => (left, top),
+        LeftLost => (0, top),
+        TopLost => (left * c, 0),
+        _ => (left * c, top),
     };
-    let [_, y_stride, u_stride, v_stride] = request.strides().map(|stride| stride as usize);
+    let rgb = |r: usize, p: usize| {
+        let pixel = &request.lent[0][(row + r) * stride + column + p * c..];
+        settings.channels.offsets().map(|offset| pixel[offset])
+    };
+    // Where the rectangle ends: one further by a mistake, if the source has a pixel there.
+    let is_past = |mine: Mistake, end: usize, all: u32| mistake == mine && end < all as usize;
+    let right = w + usize::from(is_past(RightFromOutside, left + w, window.source_width));
+    let bottom = h + usize::from(is_past(BelowFromOutside, top + h, window.source_height));
     let mut lent = request.lent.clone();
     for (r, p) in (0..h).flat_map(|r| (0..w).map(move |p| (r, p))) {
         lent[1][r * y_stride + p] = rules.luma(rgb(r, p));
@@ -106,8 +138,8 @@ pub fn convert(mistake: Mistake, request: &FrameRequest) -> Lent {
         let p = 2 * j;
         let corrected = match settings.sampling {
             YuvChromaSubsampling::Yuv420 => {
-                let (this, below) = (2 * k, (2 * k + 1).min(h - 1));
-                if p + 1 < w {
+                let (this, below) = (2 * k, (2 * k + 1).min(bottom - 1));
+                if p + 1 < right {
                     let four = [
                         rgb(this, p),
                         rgb(this, p + 1),
@@ -120,7 +152,7 @@ pub fn convert(mistake: Mistake, request: &FrameRequest) -> Lent {
                     rules.interpolated(rules.shares([12, 4], [8, 8]), two)
                 }
             }
-            YuvChromaSubsampling::Yuv422 if p + 1 < w => {
+            YuvChromaSubsampling::Yuv422 if p + 1 < right => {
                 rules.interpolated([12, 4], [rgb(k, p), rgb(k, p + 1)])
             }
             YuvChromaSubsampling::Yuv422 if mistake == OddPixelThroughTables => {
@@ -217,10 +249,16 @@ fn mistaken_tables(mistake: Mistake, settings: &model::Settings) -> (Vec<u64>, V
                 gamma[i] -= 1;
             }
         }
-        // The two entries that 1.055010618947587 moves, as `tools/tables.py --moved` has them.
+        // The entries that 1.055010618947587 moves, two and four, as `tools/tables.py --moved` has them.
         (ScaleDigit, SharpYuvGammaTransfer::Srgb, Truncated) => {
             linear[168] -= 1;
             gamma[25_662] += 1;
+        }
+        (ScaleDigit, SharpYuvGammaTransfer::Srgb, Nearest) => {
+            for i in [147, 154, 166] {
+                linear[i] -= 1;
+            }
+            gamma[16_525] += 1;
         }
         _ => {}
     }

@@ -2,7 +2,7 @@
 
 use crate::request::{BandRequest, FrameRequest, Input, Run, Shape, shapes};
 use model::settings::{channels_of, matrix_of, range_of, rounding_of, sampling_of, transfer_of};
-use model::{Frame, FrameState, Settings, TableRounding, YuvStandardMatrix};
+use model::{Frame, FrameState, Settings, TableRounding, Window, YuvStandardMatrix};
 
 /// splitmix64.
 pub struct Random(u64);
@@ -170,18 +170,19 @@ pub fn source_bytes(random: &mut Random, length: usize) -> Vec<u8> {
     bytes
 }
 
-/// A frame that is accepted: strides wide enough, buffers exactly as long as they must be. Truncated:
-/// the stored sequences take as many numbers of their seeds as this does.
+/// A frame that is accepted: strides wide enough, buffers exactly as long as they must be. Truncated,
+/// all of its source: the stored sequences take as many numbers of their seeds as this does.
 pub fn accepted_frame(random: &mut Random, side: u32) -> FrameRequest {
     let settings = settings(random);
     let (w, h) = size(random, side);
-    let shapes = shapes(w, h, h, &settings);
+    let shapes = shapes(w, h, (w, h), &settings);
     let strides = shapes.map(|shape| shape.row as u32 + padding(random));
     let [source, y, u, v] = [0, 1, 2, 3].map(|i| strides[i] as usize * shapes[i].rows as usize);
     FrameRequest {
         frame: Frame {
             w,
             h,
+            window: Window::whole(w, h),
             settings,
             source_stride: strides[0],
             y_stride: strides[1],
@@ -197,16 +198,64 @@ pub fn accepted_frame(random: &mut Random, side: u32) -> FrameRequest {
     }
 }
 
-/// The same with either rounding.
-fn rounded_frame(random: &mut Random, side: u32) -> FrameRequest {
+/// The same with either rounding, and four of five as a rectangle of a larger source.
+fn any_frame(random: &mut Random, side: u32) -> FrameRequest {
     let mut request = accepted_frame(random, side);
     request.frame.settings.rounding = coded(random, 2, rounding_of);
+    if !random.one_in(5) {
+        put_in_source(random, &mut request);
+    }
     request
+}
+
+/// What a source has before and behind the rectangle in one direction: often nothing, now and then
+/// all that it may have. The other direction has so many rows or columns.
+fn margins(random: &mut Random, side: u32, other: u32) -> (u32, u32) {
+    let room = LARGEST_SIDE.saturating_sub(side);
+    if other <= 4 && random.one_in(50) {
+        let any = random.from(0, room);
+        let before = random.pick(&[0, 1, room / 2, room, any]).min(room);
+        return (before, room - before);
+    }
+    let mut some = |room: u32| match random.below(4) {
+        0 => 0,
+        1 => 1.min(room),
+        _ => random.from(0, room.min(9)),
+    };
+    let before = some(room);
+    (before, some(room - before))
+}
+
+const LARGEST_SIDE: u32 = 16_384;
+
+/// Puts an accepted frame that is all of its source into a larger one, of random bytes.
+pub fn put_in_source(random: &mut Random, request: &mut FrameRequest) {
+    let (w, h) = (request.frame.w, request.frame.h);
+    let (left, right) = margins(random, w, h);
+    let source_width = left + w + right;
+    let (top, bottom) = margins(random, h, source_width);
+    let window = Window {
+        left,
+        top,
+        source_width,
+        source_height: top + h + bottom,
+    };
+    set_window(random, request, window);
+}
+
+/// Gives an accepted frame another window, and a source for it with the padding that it had.
+pub fn set_window(random: &mut Random, request: &mut FrameRequest, window: Window) {
+    let padding = request.strides()[0] - request.shapes()[0].row as u32;
+    request.frame.window = window;
+    let source = request.shapes()[0];
+    request.frame.source_stride = source.row as u32 + padding;
+    let length = (source.row as usize + padding as usize) * source.rows as usize;
+    request.lent[0] = source_bytes(random, length);
 }
 
 /// Two of three are accepted, the others have one to three faults.
 pub fn frame(random: &mut Random, side: u32) -> FrameRequest {
-    let mut request = rounded_frame(random, side);
+    let mut request = any_frame(random, side);
     if random.one_in(3) {
         for _ in 0..random.from(1, 3) {
             frame_fault(random, &mut request);
@@ -216,9 +265,11 @@ pub fn frame(random: &mut Random, side: u32) -> FrameRequest {
 }
 
 fn frame_fault(random: &mut Random, request: &mut FrameRequest) {
-    match random.below(10) {
-        0 => size_fault(random, &mut request.frame.w, &mut request.frame.h),
-        1 => matrix_fault(random, &mut request.frame.settings),
+    let f = &mut request.frame;
+    match random.below(13) {
+        0 => size_fault(random, &mut f.w, &mut f.h, &mut f.window),
+        1 => matrix_fault(random, &mut f.settings),
+        2..=4 => window_fault(random, f.w, f.h, &mut f.window),
         _ => {
             let shapes = request.shapes();
             let mut strides = request.strides();
@@ -229,9 +280,36 @@ fn frame_fault(random: &mut Random, request: &mut FrameRequest) {
     }
 }
 
-fn size_fault(random: &mut Random, w: &mut u32, h: &mut u32) {
-    let side = if random.one_in(2) { w } else { h };
+/// A frame that is all of its source stays so half of the time.
+fn size_fault(random: &mut Random, w: &mut u32, h: &mut u32, window: &mut Window) {
+    let whole = *window == Window::whole(*w, *h) && random.one_in(2);
+    let side = if random.one_in(2) { &mut *w } else { &mut *h };
     *side = random.pick(&[0, 0, 16_385, 65_536, 1 << 31, u32::MAX]);
+    if whole {
+        *window = Window::whole(*w, *h);
+    }
+}
+
+/// A window that reaches past its source in one direction, by one or by much, also where left and
+/// width add up to little in 32 bits; or a source with a side of 0, too large, or of another size
+/// than the bytes lent.
+fn window_fault(random: &mut Random, w: u32, h: u32, window: &mut Window) {
+    let (first, all, side) = if random.one_in(2) {
+        (&mut window.left, &mut window.source_width, w)
+    } else {
+        (&mut window.top, &mut window.source_height, h)
+    };
+    let room = all.saturating_sub(side);
+    match random.below(8) {
+        0 | 1 => *first = room.saturating_add(1),
+        2 => *first = u32::MAX - random.from(0, 3),
+        // They add up to at most 3, or to the source's side, in 32 bits.
+        3 => *first = random.from(0, 3).wrapping_sub(side),
+        4 => *first = room.wrapping_sub(1 << random.from(16, 31)),
+        5 => *all = random.pick(&[0, 0, 16_385, 65_536, 1 << 31, u32::MAX]),
+        6 => *all = first.saturating_add(side).saturating_sub(1),
+        _ => *all = random.from(0, 16_384),
+    }
 }
 
 fn matrix_fault(random: &mut Random, settings: &mut Settings) {
@@ -283,21 +361,15 @@ fn set_length(random: &mut Random, bytes: &mut Vec<u8>, length: u64) {
 
 /// A band call on any state, also one that no list of calls leads to. Two of three are accepted.
 pub fn band(random: &mut Random, side: u32) -> BandRequest {
-    let FrameRequest { frame, mut lent } = rounded_frame(random, side);
+    let request = any_frame(random, side);
+    let opening = request.opening();
+    let FrameRequest { frame, mut lent } = request;
     let done = random.from(0, frame.h - 1);
     let rows = random.from(1, frame.h - done);
     lent[0].truncate(frame.source_stride as usize * rows as usize);
     let surplus = random.below(9) as usize;
     let mut request = BandRequest {
-        state: FrameState {
-            w: frame.w,
-            h: frame.h,
-            settings: frame.settings,
-            y_stride: frame.y_stride,
-            u_stride: frame.u_stride,
-            v_stride: frame.v_stride,
-            done,
-        },
+        state: FrameState { done, ..opening },
         rows,
         source_stride: frame.source_stride,
         lent,
@@ -313,9 +385,10 @@ pub fn band(random: &mut Random, side: u32) -> BandRequest {
 
 pub fn band_fault(random: &mut Random, request: &mut BandRequest) {
     let state = &mut request.state;
-    match random.below(12) {
-        0 => size_fault(random, &mut state.w, &mut state.h),
+    match random.below(14) {
+        0 => size_fault(random, &mut state.w, &mut state.h, &mut state.window),
         1 => matrix_fault(random, &mut state.settings),
+        6 | 7 => window_fault(random, state.w, state.h, &mut state.window),
         2 => {
             let remain = state.h.saturating_sub(state.done);
             request.rows = random.pick(&[0, remain, remain.saturating_add(1), u32::MAX]);
@@ -338,7 +411,7 @@ pub fn band_fault(random: &mut Random, request: &mut BandRequest) {
 
 /// A frame cut into bands at random, half of the time with refused calls between them.
 pub fn run(random: &mut Random, side: u32) -> Run {
-    let request = rounded_frame(random, side);
+    let request = any_frame(random, side);
     let most = if random.one_in(2) { 3 } else { request.frame.h };
     let mut bands = Vec::new();
     let mut remain = request.frame.h;

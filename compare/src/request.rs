@@ -2,10 +2,11 @@
 
 use model::settings::{chroma_width, plane_rows};
 use model::{
-    Answer, Frame, FrameState, Settings, SharpYuvGammaTransfer, TableRounding,
+    Answer, Frame, FrameState, Settings, SharpYuvGammaTransfer, TableRounding, Window,
     YuvChromaSubsampling, YuvRange, YuvSourceChannels, YuvStandardMatrix,
 };
 use std::fmt::Write;
+use std::ops::Range;
 
 /// Source, Y, U, V.
 pub type Lent = [Vec<u8>; 4];
@@ -48,9 +49,10 @@ pub struct Shape {
     pub rows: u64,
 }
 
-/// Of source, Y, U, V.
-pub fn shapes(w: u32, source_rows: u32, h: u32, settings: &Settings) -> [Shape; 4] {
+/// Of source, Y, U, V. The source is of this width, and the call is lent this many rows of it.
+pub fn shapes(w: u32, h: u32, source: (u32, u32), settings: &Settings) -> [Shape; 4] {
     let w = u64::from(w);
+    let (source_width, source_rows) = source;
     let (rows, chroma_rows) = plane_rows(settings.sampling, h);
     let chroma = Shape {
         row: chroma_width(w),
@@ -58,7 +60,7 @@ pub fn shapes(w: u32, source_rows: u32, h: u32, settings: &Settings) -> [Shape; 
     };
     [
         Shape {
-            row: w * settings.channels.bytes(),
+            row: u64::from(source_width) * settings.channels.bytes(),
             rows: u64::from(source_rows),
         },
         Shape { row: w, rows },
@@ -70,7 +72,8 @@ pub fn shapes(w: u32, source_rows: u32, h: u32, settings: &Settings) -> [Shape; 
 impl FrameRequest {
     pub fn shapes(&self) -> [Shape; 4] {
         let f = &self.frame;
-        shapes(f.w, f.h, f.h, &f.settings)
+        let source = (f.window.source_width, f.window.source_height);
+        shapes(f.w, f.h, source, &f.settings)
     }
 
     pub fn strides(&self) -> [u32; 4] {
@@ -83,17 +86,106 @@ impl FrameRequest {
         [f.source_stride, f.y_stride, f.u_stride, f.v_stride] = strides;
     }
 
-    /// Row r of the source of an accepted frame.
+    /// Another size, of a frame that is all of its source.
+    pub fn set_size(&mut self, w: u32, h: u32) {
+        let f = &mut self.frame;
+        (f.w, f.h, f.window) = (w, h, Window::whole(w, h));
+    }
+
+    /// Row r of an accepted frame, with all that its source has left and right of the rectangle.
     pub fn source_row(&self, r: usize) -> &[u8] {
+        let r = self.frame.window.top as usize + r;
         let start = r * self.frame.source_stride as usize;
         &self.lent[0][start..start + self.shapes()[0].row as usize]
+    }
+
+    /// The bytes of a source row that are pixels of the rectangle.
+    pub fn columns(&self) -> Range<usize> {
+        columns(self.frame.w, &self.frame.window, &self.frame.settings)
+    }
+
+    /// The pixels of row r of an accepted frame.
+    pub fn pixels(&self, r: usize) -> &[u8] {
+        &self.source_row(r)[self.columns()]
+    }
+
+    /// The state of the frame's opening.
+    pub fn opening(&self) -> FrameState {
+        let f = &self.frame;
+        FrameState {
+            w: f.w,
+            h: f.h,
+            window: f.window,
+            settings: f.settings,
+            y_stride: f.y_stride,
+            u_stride: f.u_stride,
+            v_stride: f.v_stride,
+            done: 0,
+        }
+    }
+
+    /// Whether the frame is all of its source.
+    pub fn is_whole(&self) -> bool {
+        self.frame.window == Window::whole(self.frame.w, self.frame.h)
+    }
+
+    /// An accepted call with other bytes wherever RULES 2.3 says that none is looked at.
+    pub fn with_others_outside(&self) -> FrameRequest {
+        let f = &self.frame;
+        let rows = f.window.top as usize..(f.window.top + f.h) as usize;
+        let c = f.settings.channels.bytes() as usize;
+        let mut other = self.clone();
+        others_outside(&mut other.lent[0], f.source_stride, rows, self.columns(), c);
+        other
+    }
+}
+
+fn columns(w: u32, window: &Window, settings: &Settings) -> Range<usize> {
+    let c = settings.channels.bytes() as usize;
+    let start = window.left as usize * c;
+    start..start + w as usize * c
+}
+
+/// Changes every byte of a source but the colours of the rectangle of these rows and columns.
+fn others_outside(
+    source: &mut [u8],
+    stride: u32,
+    rows: Range<usize>,
+    columns: Range<usize>,
+    c: usize,
+) {
+    for (i, byte) in source.iter_mut().enumerate() {
+        let (r, at) = (i / stride as usize, i % stride as usize);
+        let inside = rows.contains(&r) && columns.contains(&at);
+        if !inside || (at - columns.start) % c == 3 {
+            *byte = !*byte;
+        }
     }
 }
 
 impl BandRequest {
     pub fn shapes(&self) -> [Shape; 4] {
         let s = &self.state;
-        shapes(s.w, self.rows, s.h, &s.settings)
+        let source = (s.window.source_width, self.rows);
+        shapes(s.w, s.h, source, &s.settings)
+    }
+
+    /// The pixels of row r of an accepted band.
+    pub fn pixels(&self, r: usize) -> &[u8] {
+        let start = r * self.source_stride as usize;
+        let row = &self.lent[0][start..start + self.shapes()[0].row as usize];
+        &row[columns(self.state.w, &self.state.window, &self.state.settings)]
+    }
+
+    /// An accepted call with other bytes wherever RULES 2.3 says that none is looked at.
+    pub fn with_others_outside(&self) -> BandRequest {
+        let s = &self.state;
+        let columns = columns(s.w, &s.window, &s.settings);
+        let c = s.settings.channels.bytes() as usize;
+        let rows = 0..self.rows as usize;
+        let mut other = self.clone();
+        others_outside(&mut other.lent[0], self.source_stride, rows, columns, c);
+        other
     }
 
     pub fn strides(&self) -> [u32; 4] {
@@ -169,11 +261,33 @@ pub fn frame_combination(f: &Frame) -> String {
     format!("{} {} {}", settings_text(&settings), f.w % 2, f.h % 2)
 }
 
-/// w h settings y_stride u_stride v_stride done. Equal texts are equal states, NaN included.
+/// w h left top source_width source_height
+fn size_text(w: u32, h: u32, window: &Window) -> String {
+    let Window {
+        left,
+        top,
+        source_width,
+        source_height,
+    } = window;
+    format!("{w} {h} {left} {top} {source_width} {source_height}")
+}
+
+/// `3 x 2`, and where that is not all of its source ` at 5, 1 of 9 x 4`.
+pub fn place_text(w: u32, h: u32, window: &Window) -> String {
+    if *window == Window::whole(w, h) {
+        return format!("{w} x {h}");
+    }
+    let Window { left, top, .. } = window;
+    let source = format!("{} x {}", window.source_width, window.source_height);
+    format!("{w} x {h} at {left}, {top} of {source}")
+}
+
+/// w h window settings y_stride u_stride v_stride done. Equal texts are equal states, NaN included.
 pub fn state_text(s: &FrameState) -> String {
+    let size = size_text(s.w, s.h, &s.window);
     let settings = settings_text(&s.settings);
     let strides = format!("{} {} {}", s.y_stride, s.u_stride, s.v_stride);
-    format!("{} {} {settings} {strides} {}", s.w, s.h, s.done)
+    format!("{size} {settings} {strides} {}", s.done)
 }
 
 /// number expected received; number 0 is accepted.
@@ -190,13 +304,14 @@ fn lent_text(lent: &[Vec<u8>]) -> String {
     texts.join(" ")
 }
 
-/// frame w h settings source_stride y_stride u_stride v_stride source y u v
+/// frame w h window settings source_stride y_stride u_stride v_stride source y u v
 pub fn frame_text(request: &FrameRequest) -> String {
     let f = &request.frame;
     let settings = settings_text(&f.settings);
     let strides = request.strides().map(|stride| stride.to_string()).join(" ");
     let lent = lent_text(&request.lent);
-    format!("frame {} {} {settings} {strides} {lent}", f.w, f.h)
+    let size = size_text(f.w, f.h, &f.window);
+    format!("frame {size} {settings} {strides} {lent}")
 }
 
 /// The request = number expected received y u v: a line for a stored list.

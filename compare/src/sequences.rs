@@ -6,7 +6,7 @@ use crate::random::{self, Random};
 use crate::request::{BandRequest, FrameRequest, Lent};
 use crate::stored::repeated;
 use model::settings::{channels_of, matrix_of, range_of, sampling_of, transfer_of};
-use model::{FrameState, Settings, TableRounding, YuvChromaSubsampling, YuvStandardMatrix};
+use model::{FrameState, Settings, TableRounding, Window, YuvChromaSubsampling, YuvStandardMatrix};
 
 const SEED: u64 = 2;
 
@@ -60,15 +60,15 @@ impl BandCall {
 pub fn sequences() -> Vec<Sequence> {
     let mut list = Vec::new();
     for case in 0..48 {
-        list.push(cuts("cuts", case, settings));
+        list.push(cuts("cuts", case, settings, frame));
     }
     for case in 0..64 {
         let group = "refused between";
-        list.push(refused_between(group, case, 1, settings, &FAULTS));
+        list.push(refused_between(group, case, 1, settings, frame, &FAULTS));
     }
     for case in 0..24 {
         let group = "forged between";
-        list.push(refused_between(group, case, 2, settings, &FORGED));
+        list.push(refused_between(group, case, 2, settings, frame, &FORGED));
     }
     for case in 0..12 {
         list.push(unfinished(case));
@@ -81,16 +81,38 @@ pub fn sequences() -> Vec<Sequence> {
     }
     // Steps of 5 bring every order and every transfer with every sampling.
     for case in (68..108).step_by(5) {
-        list.push(cuts("Nearest cuts", case, nearest));
+        list.push(cuts("Nearest cuts", case, nearest, frame));
     }
     for (kind, faults) in [(4, &FAULTS[..]), (5, &FORGED[..]), (6, &OTHER_ROUNDING[..])] {
         for case in (0..20).step_by(5) {
             let group = "Nearest refused between";
-            list.push(refused_between(group, case, kind, nearest, faults));
+            list.push(refused_between(group, case, kind, nearest, frame, faults));
         }
     }
     for case in 0..4 {
         list.push(other_rounding(case));
+    }
+    // Every order and sampling in single rows, then 4:2:0 in bands of three.
+    for case in (104..112).chain(120..124) {
+        list.push(cuts("window cuts", case, either, in_source));
+    }
+    for case in [0, 1, 4, 5] {
+        let group = "window refused between";
+        list.push(refused_between(group, case, 7, either, in_source, &FAULTS));
+    }
+    for case in 0..5 {
+        let group = "other window between";
+        let faults = &OTHER_WINDOW;
+        list.push(refused_between(group, case, 8, either, in_source, faults));
+    }
+    for (case, faults) in (0..).zip(OTHER_WINDOW.chunks(MOST_CALLS - 1)) {
+        list.push(each_refused(case, faults));
+    }
+    for case in 0..4 {
+        list.push(other_window(case));
+    }
+    for case in 0..8 {
+        list.push(window_refused(case));
     }
     for sequence in &mut list {
         for buffer in &mut sequence.held {
@@ -125,6 +147,15 @@ fn nearest(random: &mut Random, case: u64) -> Settings {
     }
 }
 
+/// The same with either tables.
+fn either(random: &mut Random, case: u64) -> Settings {
+    let rounding = random.pick(&[TableRounding::Truncated, TableRounding::Nearest]);
+    Settings {
+        rounding,
+        ..settings(random, case)
+    }
+}
+
 fn other(rounding: TableRounding) -> TableRounding {
     match rounding {
         TableRounding::Truncated => TableRounding::Nearest,
@@ -138,7 +169,7 @@ fn frame(random: &mut Random, settings: Settings, h: u32) -> (FrameRequest, Held
     let w = random.from(1, 12);
     let mut request = random::accepted_frame(random, 1);
     request.frame.settings = settings;
-    (request.frame.w, request.frame.h) = (w, h);
+    request.set_size(w, h);
     let shapes = request.shapes();
     let padding = |random: &mut Random| random.from(0, 3);
     request.set_strides(shapes.map(|shape| shape.row as u32 + padding(random)));
@@ -160,20 +191,33 @@ fn frame(random: &mut Random, settings: Settings, h: u32) -> (FrameRequest, Held
     (request, [y, u, v, carried])
 }
 
-fn opening(request: &FrameRequest) -> FrameState {
-    let f = &request.frame;
+/// Another size, of a frame that is all of its source.
+fn sized(state: FrameState, w: u32, h: u32) -> FrameState {
+    let window = Window::whole(w, h);
     FrameState {
-        w: f.w,
-        h: f.h,
-        settings: f.settings,
-        y_stride: f.y_stride,
-        u_stride: f.u_stride,
-        v_stride: f.v_stride,
-        done: 0,
+        w,
+        h,
+        window,
+        ..state
     }
 }
 
-/// An accepted call: the next rows of the frame, with a source stride of its own.
+/// The same as a rectangle with something of its source on at least one side.
+fn in_source(random: &mut Random, settings: Settings, h: u32) -> (FrameRequest, Held) {
+    let (mut request, held) = frame(random, settings, h);
+    let [left, right, top, bottom] = [(); 4].map(|()| random.from(0, 4));
+    let left = left.max(1 - right.min(1));
+    let window = Window {
+        left,
+        top,
+        source_width: left + request.frame.w + right,
+        source_height: top + h + bottom,
+    };
+    random::set_window(random, &mut request, window);
+    (request, held)
+}
+
+/// An accepted call: the next rows of the frame, in the whole width of its source, with a source stride of its own.
 fn band(
     random: &mut Random,
     request: &FrameRequest,
@@ -199,7 +243,7 @@ fn band(
         why: "",
         state: FrameState {
             done,
-            ..opening(request)
+            ..request.opening()
         },
         rows,
         source_stride: (row + padding) as u32,
@@ -238,8 +282,11 @@ fn bands(random: &mut Random, request: &FrameRequest, held: &Held, rows: &[u32])
 /// The settings of a case.
 type SettingsOf = fn(&mut Random, u64) -> Settings;
 
+/// An accepted frame of a height, and what is held for it.
+type FrameOf = fn(&mut Random, Settings, u32) -> (FrameRequest, Held);
+
 /// Whole frames in bands of 1, 2, 3 or any number of rows, with no other call.
-fn cuts(group: &'static str, case: u64, settings: SettingsOf) -> Sequence {
+fn cuts(group: &'static str, case: u64, settings: SettingsOf, frame: FrameOf) -> Sequence {
     let mut random = Random::new(SEED, 1, case);
     let settings = settings(&mut random, case);
     let each = (case / 8 % 4) as u32;
@@ -249,7 +296,7 @@ fn cuts(group: &'static str, case: u64, settings: SettingsOf) -> Sequence {
     let rows = cut(&mut random, h, each, MOST_CALLS);
     Sequence {
         group,
-        opening: opening(&request),
+        opening: request.opening(),
         calls: bands(&mut random, &request, &held, &rows),
         held,
         whole: Some(request),
@@ -347,10 +394,18 @@ const FORGED: [Fault; 14] = [
         call.state.done = u32::MAX;
         call.rows = u32::MAX;
     }),
-    ("no width", |_, call| call.state.w = 0),
-    ("no height", |_, call| call.state.h = 0),
-    ("too wide", |_, call| call.state.w = 16_385),
-    ("too high", |_, call| call.state.h = u32::MAX),
+    ("no width", |_, call| {
+        call.state = sized(call.state, 0, call.state.h);
+    }),
+    ("no height", |_, call| {
+        call.state = sized(call.state, call.state.w, 0);
+    }),
+    ("too wide", |_, call| {
+        call.state = sized(call.state, 16_385, call.state.h);
+    }),
+    ("too high", |_, call| {
+        call.state = sized(call.state, call.state.w, u32::MAX);
+    }),
     ("matrix no number", |random, call| {
         let kb = random.pick(&[0.1, -0.0, f32::NAN]);
         call.state.settings.matrix = YuvStandardMatrix::Custom(f32::NAN, kb);
@@ -358,9 +413,11 @@ const FORGED: [Fault; 14] = [
     ("matrix over a half", |_, call| {
         call.state.settings.matrix = YuvStandardMatrix::Custom(-0.0, 0.5f32.next_up());
     }),
-    ("wider than the buffers", |_, call| call.state.w += 9),
+    ("wider than the buffers", |_, call| {
+        call.state = sized(call.state, call.state.w + 9, call.state.h);
+    }),
     ("higher than the buffers", |_, call| {
-        call.state.h += 8;
+        call.state = sized(call.state, call.state.w, call.state.h + 8);
         call.state.done += 1;
     }),
     ("other sampling", |_, call| {
@@ -395,6 +452,88 @@ const OTHER_ROUNDING: [Fault; 4] = [
     }),
 ];
 
+/// States that no call made: a rectangle past its source, a source that there is not, or one too
+/// large, other faults with these, and another window with a fault that refuses the call.
+const OTHER_WINDOW: [Fault; 16] = [
+    ("left one past the source", |_, call| {
+        call.state.window.left = room(call).0 + 1;
+    }),
+    ("left past the source, no row", |_, call| {
+        call.state.window.left = room(call).0 + 1;
+        call.rows = 0;
+    }),
+    ("top one past the source", |_, call| {
+        call.state.window.top = room(call).1 + 1;
+    }),
+    ("left and width that wrap", |_, call| {
+        call.state.window.left = 0u32.wrapping_sub(call.state.w);
+    }),
+    ("top and height that wrap", |_, call| {
+        call.state.window.top = 1u32.wrapping_sub(call.state.h);
+    }),
+    ("source of no width", |_, call| {
+        call.state.window.source_width = 0;
+    }),
+    ("source of no height", |_, call| {
+        call.state.window.source_height = 0;
+    }),
+    ("source too wide", |_, call| {
+        call.state.window.source_width = 16_385;
+    }),
+    ("source too high", |_, call| {
+        call.state.window.source_height = u32::MAX;
+    }),
+    ("source wider than the rows lent", |_, call| {
+        call.state.window.source_width += 9;
+    }),
+    ("source stride that of the rectangle", |_, call| {
+        let c = call.state.settings.channels.bytes() as u32;
+        call.source_stride = call.state.w * c;
+        let (_, least) = least(call, 0);
+        call.source.truncate(least);
+    }),
+    ("left past the source, matrix no number", |_, call| {
+        call.state.window.left = u32::MAX;
+        call.state.settings.matrix = YuvStandardMatrix::Custom(f32::NAN, 0.1);
+    }),
+    ("top past the source, all buffers empty", |_, call| {
+        call.state.window.top = u32::MAX;
+        call.source.clear();
+        call.lengths = [0; 4];
+    }),
+    ("other window, source one over", |_, call| {
+        call.state.window = elsewhere(call.state.w, call.state.h, &call.state.window);
+        call.source.push(7);
+    }),
+    ("other window, carried row one under", |_, call| {
+        call.state.window = elsewhere(call.state.w, call.state.h, &call.state.window);
+        call.lengths[3] = 3 * call.state.w as usize - 1;
+    }),
+    ("left past the source, the most rows done", |_, call| {
+        call.state.window.left = room(call).0 + 1;
+        call.state.done = u32::MAX;
+    }),
+];
+
+/// How far the rectangle may go to the right, and how far down.
+fn room(call: &BandCall) -> (u32, u32) {
+    let window = &call.state.window;
+    (
+        window.source_width - call.state.w,
+        window.source_height - call.state.h,
+    )
+}
+
+/// Another place in a source that is wider than w, one column aside and at its top or bottom.
+fn elsewhere(w: u32, h: u32, window: &Window) -> Window {
+    let (columns, rows) = (window.source_width - w, window.source_height - h);
+    Window {
+        left: (window.left + 1) % (columns + 1),
+        top: if window.top == 0 { rows } else { 0 },
+        ..*window
+    }
+}
+
 /// The call with the first of the faults, from one on, with which it is refused.
 fn refused(
     random: &mut Random,
@@ -420,6 +559,7 @@ fn refused_between(
     case: u64,
     kind: u64,
     settings: SettingsOf,
+    frame: FrameOf,
     faults: &[Fault],
 ) -> Sequence {
     let mut random = Random::new(SEED, 10 + kind, case);
@@ -453,7 +593,30 @@ fn refused_between(
     }
     Sequence {
         group,
-        opening: opening(&request),
+        opening: request.opening(),
+        calls,
+        held,
+        whole: Some(request),
+    }
+}
+
+/// A call with each of these faults, and then the whole frame in one band.
+fn each_refused(case: u64, faults: &[Fault]) -> Sequence {
+    let mut random = Random::new(SEED, 70, case);
+    let settings = either(&mut random, 3 * case);
+    let h = random.from(2, 9);
+    let (request, held) = in_source(&mut random, settings, h);
+    let mut calls = Vec::new();
+    for fault in faults {
+        let one = std::slice::from_ref(fault);
+        calls.push(refused(&mut random, &held, one, 0, |random| {
+            band(random, &request, &held, 0, h)
+        }));
+    }
+    calls.push(band(&mut random, &request, &held, 0, h));
+    Sequence {
+        group: "each other window",
+        opening: request.opening(),
         calls,
         held,
         whole: Some(request),
@@ -462,7 +625,7 @@ fn refused_between(
 
 /// Frames that are left after some of their rows, refused calls among them.
 fn unfinished(case: u64) -> Sequence {
-    let mut sequence = refused_between("not finished", case, 3, settings, &FAULTS);
+    let mut sequence = refused_between("not finished", case, 3, settings, frame, &FAULTS);
     let keep = 1 + sequence.calls.len() / 2;
     sequence.calls.truncate(keep);
     if sequence.calls.iter().map(|call| call.state.done).max() >= Some(sequence.opening.h) {
@@ -500,7 +663,7 @@ fn no_call_made(case: u64) -> Sequence {
     calls.push(changed);
     Sequence {
         group: "no call made",
-        opening: opening(&request),
+        opening: request.opening(),
         calls,
         held,
         whole: None,
@@ -541,7 +704,77 @@ fn other_rounding(case: u64) -> Sequence {
     }
     Sequence {
         group: "other rounding",
-        opening: opening(&request),
+        opening: request.opening(),
+        calls,
+        held,
+        whole: None,
+    }
+}
+
+/// Accepted calls on states with another place in the source, which no call made: over rows that
+/// were done, and over rows that are then done again as the opening has them.
+fn other_window(case: u64) -> Sequence {
+    let mut random = Random::new(SEED, 50, case);
+    let settings = either(&mut random, 5 * case);
+    let h = random.from(4, 9);
+    let (mut request, held) = in_source(&mut random, settings, h);
+    request.lent[0] = random.bytes(request.lent[0].len());
+    let first = random.from(2, h - 2);
+    let mut calls = Vec::new();
+    for (done, rows, why, is_other) in [
+        (0, first, "", false),
+        (0, first, "other window, rows done", true),
+        (first, h - first, "other window", true),
+        (first, h - first, "rows done again", false),
+    ] {
+        let mut call = band(&mut random, &request, &held, done, rows);
+        if is_other {
+            call.state.window = elsewhere(request.frame.w, h, &request.frame.window);
+        }
+        call.why = why;
+        calls.push(call);
+    }
+    Sequence {
+        group: "other window",
+        opening: request.opening(),
+        calls,
+        held,
+        whole: None,
+    }
+}
+
+/// Openings that are refused for their window, and two band calls on the state that comes back.
+fn window_refused(case: u64) -> Sequence {
+    let mut random = Random::new(SEED, 60, case);
+    let settings = either(&mut random, case);
+    let (request, held) = in_source(&mut random, settings, 3);
+    let mut state = request.opening();
+    let place = &mut state.window;
+    match case {
+        0 => place.left = place.source_width - state.w + 1,
+        1 => place.top = place.source_height - state.h + 1,
+        2 => place.left = 0u32.wrapping_sub(state.w),
+        3 => place.source_width = 0,
+        4 => place.source_height = 0,
+        5 => (place.left, place.source_width) = (u32::MAX, 16_385),
+        6 => {
+            place.top = u32::MAX;
+            state.settings.matrix = YuvStandardMatrix::Custom(0.1, 0.5f32.next_up());
+        }
+        _ => (place.top, state.w) = (u32::MAX, 0),
+    }
+    let mut calls = Vec::new();
+    for (rows, why) in [
+        (2, "the refused opening's state"),
+        (0, "the refused opening's state, no row"),
+    ] {
+        let mut call = band(&mut random, &request, &held, 0, 2);
+        (call.state, call.rows, call.why) = (state, rows, why);
+        calls.push(call);
+    }
+    Sequence {
+        group: "window refused",
+        opening: state,
         calls,
         held,
         whole: None,
@@ -554,28 +787,30 @@ fn opening_refused(case: u64) -> Sequence {
     let settings = settings(&mut random, case);
     let (request, held) = frame(&mut random, settings, 3);
     let mut call = band(&mut random, &request, &held, 0, 2);
-    let mut state = opening(&request);
+    let mut state = request.opening();
+    let mut size = (state.w, state.h);
     let custom = |kr, kb| YuvStandardMatrix::Custom(kr, kb);
     match case {
-        0 => state.w = 0,
-        1 => state.h = 0,
-        2 => (state.w, state.h) = (0, u32::MAX),
-        3 => state.w = 16_385,
-        4 => state.h = 16_385,
-        5 => (state.w, state.h) = (u32::MAX, u32::MAX),
+        0 => size.0 = 0,
+        1 => size.1 = 0,
+        2 => size = (0, u32::MAX),
+        3 => size.0 = 16_385,
+        4 => size.1 = 16_385,
+        5 => size = (u32::MAX, u32::MAX),
         6 => state.settings.matrix = custom(f32::NAN, 0.1),
         7 => state.settings.matrix = custom(0.1, -f32::from_bits(1)),
         8 => state.settings.matrix = custom(0.5f32.next_up(), 0.0),
         9 => state.settings.matrix = custom(-0.0, f32::INFINITY),
         10 => {
-            state.w = 16_385;
+            size.0 = 16_385;
             state.settings.matrix = custom(f32::NAN, f32::NAN);
         }
         _ => {
-            state.h = 0;
+            size.1 = 0;
             state.settings.matrix = custom(-1.0, 1.0);
         }
     }
+    state = sized(state, size.0, size.1);
     call.state = state;
     call.why = "the refused opening's state";
     Sequence {

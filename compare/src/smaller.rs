@@ -2,7 +2,7 @@
 
 use crate::request::{BandRequest, FrameRequest, Input, Lent, Run, Shape, shapes};
 use model::{
-    Settings, SharpYuvGammaTransfer, TableRounding, YuvChromaSubsampling, YuvRange,
+    Settings, SharpYuvGammaTransfer, TableRounding, Window, YuvChromaSubsampling, YuvRange,
     YuvSourceChannels, YuvStandardMatrix,
 };
 
@@ -143,37 +143,77 @@ fn blanker_lent(lent: &Lent) -> Vec<Lent> {
     list
 }
 
+/// What the source has around the rectangle, to try instead of n.
+fn less(n: u32) -> Vec<u32> {
+    let mut list = below(n);
+    if n > 0 {
+        list.insert(0, 0);
+    }
+    list
+}
+
+/// Sizes and windows to try: a smaller rectangle with as much around it, or less around it.
+fn places(w: u32, h: u32, window: &Window) -> Vec<(u32, u32, Window)> {
+    let narrower = |by: u32| Window {
+        source_width: window.source_width.saturating_sub(by),
+        ..*window
+    };
+    let lower = |by: u32| Window {
+        source_height: window.source_height.saturating_sub(by),
+        ..*window
+    };
+    let Window { left, top, .. } = *window;
+    let right = (window.source_width).saturating_sub(left.saturating_add(w));
+    let bottom = (window.source_height).saturating_sub(top.saturating_add(h));
+    let mut list = Vec::new();
+    list.extend(below(w).into_iter().map(|n| (n, h, narrower(w - n))));
+    list.extend(below(h).into_iter().map(|n| (w, n, lower(h - n))));
+    list.extend(less(right).into_iter().map(|n| (w, h, narrower(right - n))));
+    list.extend(less(bottom).into_iter().map(|n| (w, h, lower(bottom - n))));
+    for n in less(left) {
+        let window = narrower(left - n);
+        list.push((w, h, Window { left: n, ..window }));
+    }
+    for n in less(top) {
+        let window = lower(top - n);
+        list.push((w, h, Window { top: n, ..window }));
+    }
+    list
+}
+
 pub fn frames(request: &FrameRequest) -> Vec<FrameRequest> {
     let mut list = Vec::new();
     let f = request.frame;
     let (w, h) = (f.w, f.h);
-    let sizes = (below(w).into_iter().map(|w| (w, h))).chain(below(h).into_iter().map(|h| (w, h)));
-    for (w, h) in sizes {
-        let new = shapes(w, h, h, &f.settings);
+    let source = |window: &Window| (window.source_width, window.source_height);
+    for (w, h, window) in places(w, h, &f.window) {
+        let new = shapes(w, h, source(&window), &f.settings);
         for changed in reshaped_all(&request.lent, request.strides(), request.shapes(), new) {
-            list.push(frame_of(request, (w, h), changed));
+            let mut smaller = frame_of(request, changed);
+            (smaller.frame.w, smaller.frame.h) = (w, h);
+            smaller.frame.window = window;
+            list.push(smaller);
         }
     }
     for changed in tighter(&request.lent, request.strides(), request.shapes()) {
-        list.push(frame_of(request, (w, h), changed));
+        list.push(frame_of(request, changed));
     }
     for settings in plainer(&f.settings) {
-        let new = shapes(w, h, h, &settings);
+        let new = shapes(w, h, source(&f.window), &settings);
         for changed in reshaped_all(&request.lent, request.strides(), request.shapes(), new) {
-            let mut smaller = frame_of(request, (w, h), changed);
+            let mut smaller = frame_of(request, changed);
             smaller.frame.settings = settings;
             list.push(smaller);
         }
     }
     for lent in blanker_lent(&request.lent) {
-        list.push(frame_of(request, (w, h), (lent, request.strides())));
+        list.push(frame_of(request, (lent, request.strides())));
     }
     list
 }
 
-fn frame_of(request: &FrameRequest, (w, h): (u32, u32), changed: (Lent, [u32; 4])) -> FrameRequest {
+fn frame_of(request: &FrameRequest, changed: (Lent, [u32; 4])) -> FrameRequest {
     let mut smaller = request.clone();
-    (smaller.frame.w, smaller.frame.h) = (w, h);
     smaller.lent = changed.0;
     smaller.set_strides(changed.1);
     smaller
@@ -183,22 +223,26 @@ pub fn bands(request: &BandRequest) -> Vec<BandRequest> {
     let mut list = Vec::new();
     let s = request.state;
     let (w, h, done, rows) = (s.w, s.h, s.done, request.rows);
-    let mut sizes: Vec<[u32; 4]> = Vec::new();
-    sizes.extend(below(w).into_iter().map(|w| [w, h, done, rows]));
+    let with = |h: u32| Window {
+        source_height: s.window.source_height.saturating_sub(s.h - h),
+        ..s.window
+    };
     // Rows go from the frame's end, from the band, from both, or by twos from before the band.
-    sizes.extend(below(h).into_iter().map(|h| [w, h, done, rows]));
-    sizes.extend(below(rows).into_iter().map(|rows| [w, h, done, rows]));
-    sizes.extend(
-        below(rows)
-            .into_iter()
-            .map(|n| [w, h.saturating_sub(rows - n), done, n]),
-    );
-    sizes.extend((2 <= done && 2 < h).then(|| [w, h - 2, done - 2, rows]));
-    for [w, h, done, rows] in sizes {
-        let new = shapes(w, rows, h, &s.settings);
+    let mut sizes: Vec<([u32; 4], Window)> = (places(w, h, &s.window).into_iter())
+        .map(|(w, h, window)| ([w, h, done, rows], window))
+        .collect();
+    for n in below(rows) {
+        sizes.push(([w, h, done, n], s.window));
+        let h = h.saturating_sub(rows - n);
+        sizes.push(([w, h, done, n], with(h)));
+    }
+    sizes.extend((2 <= done && 2 < h).then(|| ([w, h - 2, done - 2, rows], with(h - 2))));
+    for ([w, h, done, rows], window) in sizes {
+        let new = shapes(w, h, (window.source_width, rows), &s.settings);
         for changed in reshaped_all(&request.lent, request.strides(), request.shapes(), new) {
             let mut smaller = band_of(request, changed);
             (smaller.state.w, smaller.state.h) = (w, h);
+            smaller.state.window = window;
             (smaller.state.done, smaller.rows) = (done, rows);
             let surplus = request.carried.len() as i64 - 3 * i64::from(s.w);
             let length = (3 * i64::from(w) + surplus).max(0) as usize;
@@ -210,7 +254,7 @@ pub fn bands(request: &BandRequest) -> Vec<BandRequest> {
         list.push(band_of(request, changed));
     }
     for settings in plainer(&s.settings) {
-        let new = shapes(w, rows, h, &settings);
+        let new = shapes(w, h, (s.window.source_width, rows), &settings);
         for changed in reshaped_all(&request.lent, request.strides(), request.shapes(), new) {
             let mut smaller = band_of(request, changed);
             smaller.state.settings = settings;

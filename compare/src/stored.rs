@@ -3,7 +3,7 @@
 //! it field by field.
 
 use model::settings::{channels_of, matrix_of, range_of, rounding_of, sampling_of, transfer_of};
-use model::{Settings, YuvStandardMatrix};
+use model::{Settings, Window, YuvStandardMatrix};
 
 #[derive(Default)]
 pub struct Stored(pub Vec<u8>);
@@ -48,13 +48,21 @@ impl Stored {
         ]);
     }
 
-    /// Width, height, settings, strides of Y, U, V, and last the rounding.
-    pub fn frame(&mut self, w: u32, h: u32, settings: &Settings, strides: [u32; 3]) {
+    /// Width, height, settings, strides of Y, U, V, the rounding, and last the window.
+    pub fn frame(
+        &mut self,
+        (w, h): (u32, u32),
+        window: &Window,
+        settings: &Settings,
+        strides: [u32; 3],
+    ) {
         self.numbers(&[w, h]);
         self.settings(settings);
         self.numbers(&strides);
         let rounding = code(settings.rounding, rounding_of);
         self.numbers(&[rounding.expect("a code for every rounding")]);
+        self.numbers(&[window.left, window.top]);
+        self.numbers(&[window.source_width, window.source_height]);
     }
 
     /// The number of bytes of the block, then these.

@@ -3,8 +3,9 @@
 
 use crate::calls::{Call, calls};
 use crate::check::{Converters, checked, frame_of};
-use crate::mistakes::{MISTAKES, Mistake, TABLE_MISTAKES, convert};
-use crate::request::{FrameRequest, Lent, answer_text, frame_combination, frame_text};
+use crate::conditions::{FRAME_SLIPS, of_frame_with};
+use crate::mistakes::{MISTAKES, Mistake, TABLE_MISTAKES, WINDOW_MISTAKES, convert};
+use crate::request::{FrameRequest, Lent, answer_text, frame_combination, frame_text, place_text};
 use crate::stored::{Stored, digest};
 use model::{Answer, Frame, TableRounding};
 use std::collections::{BTreeMap, BTreeSet};
@@ -95,6 +96,13 @@ fn complete(vectors: &[Vector]) -> Result<(), String> {
         let (channels, sampling) = (frame.settings.channels, frame.settings.sampling);
         format!("{channels:?} {sampling:?} {} {}", frame.w % 2, frame.h % 2)
     };
+    let windows: BTreeSet<String> = (vectors.iter())
+        .filter(|vector| number(vector) == 0 && !vector.call.request.is_whole())
+        .map(|vector| {
+            let s = &vector.call.request.frame.settings;
+            format!("{:?} {:?}", s.channels, s.sampling)
+        })
+        .collect();
     for (has, what) in [
         (
             truncated.len() == 448,
@@ -111,8 +119,14 @@ fn complete(vectors: &[Vector]) -> Result<(), String> {
         (sides(&|frame| frame.w), "every width from 1 to 40"),
         (sides(&|frame| frame.h), "every height from 1 to 40"),
         (
-            numbers.into_iter().eq([0, 2, 3, 4, 6, 7, 8, 9, 10, 11, 12]),
+            numbers
+                .into_iter()
+                .eq([0, 2, 3, 4, 6, 7, 8, 9, 10, 11, 12, 14]),
             "every answer",
+        ),
+        (
+            windows.len() == 8,
+            "a rectangle inside its source with every order and sampling",
         ),
         (short, "buffers that the replaying program can lend"),
         (vectors.len() >= 300, "300 calls"),
@@ -143,14 +157,25 @@ fn mistake_lines(vectors: &[Vector]) -> Result<Vec<String>, String> {
         ));
     }
     let mut lines = Vec::new();
-    for (mistake, name) in MISTAKES.into_iter().chain(TABLE_MISTAKES) {
-        let places = caught(mistake);
+    let mut line = |name: &str, places: Vec<usize>| {
         let made = (vectors.iter().zip(1..)).find(|(vector, _)| vector.call.why == name);
         let place = made.map_or(0, |(_, place)| place);
         if !places.contains(&place) {
             return Err(format!("no vector was made for: {name}"));
         }
         lines.push(format!("| {name} | {place} | {} |", places.len()));
+        Ok(())
+    };
+    let mistakes = MISTAKES.into_iter().chain(TABLE_MISTAKES);
+    for (mistake, name) in mistakes.chain(WINDOW_MISTAKES) {
+        line(name, caught(mistake))?;
+    }
+    for (slip, name) in FRAME_SLIPS {
+        let places = (vectors.iter().zip(1..))
+            .filter(|(vector, _)| of_frame_with(slip, &vector.call.request) != vector.answer)
+            .map(|(_, place)| place)
+            .collect();
+        line(name, places)?;
     }
     Ok(lines)
 }
@@ -162,10 +187,10 @@ fn stored(vectors: &[Vector]) -> Vec<u8> {
     stored.lengths([vectors.len()]);
     for vector in vectors {
         let request = &vector.call.request;
-        let Frame { w, h, settings, .. } = &request.frame;
+        let f = &request.frame;
         let [source_stride, strides @ ..] = request.strides();
         stored.lengths(request.lent.each_ref().map(Vec::len));
-        stored.frame(*w, *h, settings, strides);
+        stored.frame((f.w, f.h), &f.window, &f.settings, strides);
         stored.numbers(&[source_stride]);
         for buffer in &request.lent {
             stored.block(buffer);
@@ -220,12 +245,19 @@ fn index(vectors: &[Vector], bytes: usize) -> String {
     );
     for (vector, place) in vectors.iter().zip(1..) {
         let request = &vector.call.request;
-        let Frame { w, h, settings, .. } = &request.frame;
+        let Frame {
+            w,
+            h,
+            window,
+            settings,
+            ..
+        } = &request.frame;
+        let size = place_text(*w, *h, window);
         let words = |numbers: [usize; 4]| numbers.map(|n| n.to_string()).join(" ");
         let what = [vector.call.group, &vector.call.why].join(": ");
         let _ = writeln!(
             text,
-            "{place} | {} | {w} x {h} {:?} {:?} {:?} {:?} {:?} {:?} | {} | {} | {} {}",
+            "{place} | {} | {size} {:?} {:?} {:?} {:?} {:?} {:?} | {} | {} | {} {}",
             what.trim_end_matches(": "),
             settings.channels,
             settings.sampling,
@@ -264,7 +296,19 @@ pub fn write(root: &Path, converters: &Converters) -> Result<String, String> {
     Ok(format!("{} vectors written", vectors.len()))
 }
 
-/// Whether the files are those that `write` writes, and the README's table is that of the mistakes.
+/// The list's line in the README.
+fn readme_line(vectors: &[Vector]) -> String {
+    let refused = vectors.iter().filter(|vector| vector.answer.is_err());
+    let (all, refused) = (vectors.len(), refused.count());
+    format!(
+        "| `crates/replay_frames/stdin` | {all} frame calls: {} accepted, {refused} refused | \
+         `replay_frames` | `frames.txt` |",
+        all - refused,
+    )
+}
+
+/// Whether the files are those that `write` writes, and the README counts them so and has the
+/// tables of the mistakes.
 pub fn check(root: &Path, converters: &Converters) -> Result<String, String> {
     let vectors = vectors(converters)?;
     let read =
@@ -276,7 +320,9 @@ pub fn check(root: &Path, converters: &Converters) -> Result<String, String> {
     }
     let readme = "vectors/README.md";
     let text = String::from_utf8_lossy(&read(readme)?).into_owned();
-    for line in mistake_lines(&vectors)? {
+    let mut lines = mistake_lines(&vectors)?;
+    lines.push(readme_line(&vectors));
+    for line in lines {
         if !text.lines().any(|other| other == line) {
             return Err(format!("{readme} lacks the line: {line}"));
         }

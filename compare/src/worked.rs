@@ -7,7 +7,7 @@ use model::curves::{gamma_entry, linear_entry, tables};
 use model::matrix::{Weights, weights};
 use model::row::{chroma, interpolate};
 use model::{
-    Frame, Settings, SharpYuvGammaTransfer, TableRounding, YuvChromaSubsampling, YuvRange,
+    Frame, Settings, SharpYuvGammaTransfer, TableRounding, Window, YuvChromaSubsampling, YuvRange,
     YuvSourceChannels, YuvStandardMatrix,
 };
 
@@ -53,6 +53,7 @@ pub fn check(converters: &Converters) -> Result<u64, Vec<String>> {
     neighbours(&mut lines, converters);
     tens(&mut lines, converters);
     limits(&mut lines, converters);
+    windows(&mut lines, converters);
     let input = [1, 0, 1, 0, 0, 1, 1, 0, 0, 0xff, 0, 0];
     for converter in converters {
         if let Some(output) = converter.program(&input) {
@@ -73,7 +74,7 @@ pub fn painted(
     settings: Settings,
     colour: impl Fn(u32, u32) -> [u8; 3],
 ) -> FrameRequest {
-    let all = shapes(w, h, h, &settings);
+    let all = shapes(w, h, (w, h), &settings);
     let strides = all.map(|shape| shape.row as u32);
     let c = settings.channels.bytes() as usize;
     let mut lent = all.map(|shape| vec![7; (shape.row * shape.rows) as usize]);
@@ -88,6 +89,7 @@ pub fn painted(
         frame: Frame {
             w,
             h,
+            window: Window::whole(w, h),
             settings,
             source_stride: strides[0],
             y_stride: strides[1],
@@ -422,6 +424,73 @@ fn limits(lines: &mut Lines, converters: &Converters) {
             let (answer, _) = frame_of(&**converter, &request);
             let line = format!("{line}, {}", converter.name());
             lines.equal(&line, answer_text(&answer), text.to_string());
+        }
+    }
+}
+
+/// Red in a white source of 4 × 4 is found by a window of one pixel and by no other; the window must
+/// lie in the source, however left and width add up.
+fn windows(lines: &mut Lines, converters: &Converters) {
+    use YuvSourceChannels::*;
+    let (red, white) = ([76, 85, 255], [255, 128, 128]);
+    let places = || (0..4).flat_map(|top| (0..4).map(move |left| (left, top)));
+    for (channels, sampling) in [Rgb, Rgba, Bgra, Bgr]
+        .iter()
+        .flat_map(|channels| SAMPLINGS.map(|sampling| (*channels, sampling)))
+    {
+        let settings = Settings {
+            channels,
+            sampling,
+            ..bt601(YuvRange::Full)
+        };
+        let source = painted(4, 4, settings, |row, column| {
+            if (row, column) == (2, 1) {
+                [255, 0, 0]
+            } else {
+                [255; 3]
+            }
+        });
+        let seen = |window: Window| {
+            let mut request = painted(1, 1, settings, |_, _| [0; 3]);
+            request.lent[0] = source.lent[0].clone();
+            request.frame.source_stride = source.frame.source_stride;
+            request.frame.window = window;
+            request
+        };
+        let whole = Window::whole(4, 4);
+        for (converter, (left, top)) in
+            (converters.iter()).flat_map(|converter| places().map(move |place| (converter, place)))
+        {
+            let (answer, after) = frame_of(&**converter, &seen(Window { left, top, ..whole }));
+            let line = format!(
+                "window at {left}, {top}, {settings:?}, {}",
+                converter.name()
+            );
+            lines.equal(&line, answer_text(&answer), "0 0 0".to_string());
+            let should = if (left, top) == (1, 2) { red } else { white };
+            let [_, y, u, v] = &after.lent;
+            lines.equal(&line, [y[0], u[0], v[0]], should);
+        }
+        for (left, top, source_width, source_height, number) in [
+            (4, 0, 4, 4, 14),
+            (0, 4, 4, 4, 14),
+            (u32::MAX, 0, 4, 4, 14),
+            (0, u32::MAX, 4, 4, 14),
+            (0, 0, 0, 4, 14),
+            (0, 0, 4, 0, 14),
+            (u32::MAX, 0, 16_385, 4, 3),
+        ] {
+            let request = seen(Window {
+                left,
+                top,
+                source_width,
+                source_height,
+            });
+            for converter in converters.iter().filter(|converter| converter.has(number)) {
+                let (answer, _) = frame_of(&**converter, &request);
+                let line = format!("{:?}, {}", request.frame.window, converter.name());
+                lines.equal(&line, answer_text(&answer), format!("{number} 0 0"));
+            }
         }
     }
 }

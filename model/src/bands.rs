@@ -1,15 +1,19 @@
 //! A frame in several calls: RULES 8.1 and on.
 
 use crate::frame::{Plane, source_row};
-use crate::refusals::{Answer, Lent, Refusal, carried_row, memory, refuse_if, size_and_matrix};
+use crate::refusals::{
+    Answer, Lent, Refusal, carried_row, memory, refuse_if, size_matrix_and_window,
+};
 use crate::row::{Row, Rules};
 use crate::settings::{Settings, YuvChromaSubsampling, plane_rows};
+use crate::window::Window;
 
 /// What the opening fixes, and the rows done. Plain numbers, so a caller can make one up.
 #[derive(Clone, Copy, Debug, PartialEq)]
 pub struct FrameState {
     pub w: u32,
     pub h: u32,
+    pub window: Window,
     pub settings: Settings,
     pub y_stride: u32,
     pub u_stride: u32,
@@ -21,15 +25,17 @@ pub struct FrameState {
 pub fn open(
     w: u32,
     h: u32,
+    window: Window,
     settings: Settings,
     y_stride: u32,
     u_stride: u32,
     v_stride: u32,
 ) -> Result<FrameState, Refusal> {
-    size_and_matrix(w, h, &settings)?;
+    size_matrix_and_window(w, h, &settings, &window)?;
     Ok(FrameState {
         w,
         h,
+        window,
         settings,
         y_stride,
         u_stride,
@@ -59,7 +65,7 @@ impl FrameState {
         (FrameState { done, ..self }, Ok(()))
     }
 
-    /// RULES 8.2: source rows are the band's, plane rows the frame's.
+    /// RULES 8.2: source rows are the band's, of the source's whole width; plane rows the frame's.
     #[allow(clippy::too_many_arguments)]
     fn check(
         &self,
@@ -71,14 +77,14 @@ impl FrameState {
         v: &[u8],
         carried: &[u8],
     ) -> Answer {
-        size_and_matrix(self.w, self.h, &self.settings)?;
+        size_matrix_and_window(self.w, self.h, &self.settings, &self.window)?;
         // RULES 8.3: with rows done at or past h none remain.
         let remain = self.h.saturating_sub(self.done);
         refuse_if(rows == 0 || rows > remain, 5)?;
         let (plane, chroma) = plane_rows(self.settings.sampling, self.h);
         memory(
             u64::from(self.w),
-            self.settings.channels.bytes(),
+            u64::from(self.window.source_width) * self.settings.channels.bytes(),
             Lent::new(source, source_stride, u64::from(rows)),
             Lent::new(y, self.y_stride, plane),
             Lent::new(u, self.u_stride, chroma),
@@ -101,12 +107,14 @@ impl FrameState {
         let settings = &self.settings;
         let rules = Rules::new(settings);
         let (w, last) = (self.w as usize, self.h as usize - 1);
+        let left = self.window.left;
         let (first, end) = (self.done as usize, (self.done + rows) as usize);
         let luma = Plane::new(self.y_stride, w);
         let u_plane = Plane::new(self.u_stride, w.div_ceil(2));
         let v_plane = Plane::new(self.v_stride, w.div_ceil(2));
         for r in first..end {
-            let row = |r| source_row(settings, source, source_stride, w, r - first);
+            // The band's first row is the rectangle's next: top does not count here.
+            let row = |r| source_row(settings, source, source_stride, left, w, r - first);
             rules.luma(row(r), luma.row(y, r));
             match settings.sampling {
                 YuvChromaSubsampling::Yuv422 => {
@@ -134,7 +142,7 @@ impl FrameState {
         let ends = end - 1;
         if settings.sampling == YuvChromaSubsampling::Yuv420 && ends % 2 == 0 && ends != last {
             let c = settings.channels.bytes() as usize;
-            let start = (ends - first) * source_stride as usize;
+            let start = (ends - first) * source_stride as usize + left as usize * c;
             for p in 0..w {
                 let pixel = &source[start + p * c..start + p * c + 3];
                 carried[3 * p..3 * p + 3].copy_from_slice(pixel);

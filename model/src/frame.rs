@@ -1,14 +1,16 @@
 //! The frame call: RULES 7.8.
 
-use crate::refusals::{Answer, Lent, memory, size_and_matrix};
+use crate::refusals::{Answer, Lent, memory, size_matrix_and_window};
 use crate::row::{Row, Rules};
 use crate::settings::{Settings, YuvChromaSubsampling, plane_rows};
+use crate::window::Window;
 
 /// RULES 2.1. The lent bytes stand beside it.
 #[derive(Clone, Copy, Debug, PartialEq)]
 pub struct Frame {
     pub w: u32,
     pub h: u32,
+    pub window: Window,
     pub settings: Settings,
     pub source_stride: u32,
     pub y_stride: u32,
@@ -18,13 +20,14 @@ pub struct Frame {
 
 /// Converts a frame, or refuses it and writes nothing.
 pub fn frame(frame: &Frame, source: &[u8], y: &mut [u8], u: &mut [u8], v: &mut [u8]) -> Answer {
-    let settings = &frame.settings;
-    size_and_matrix(frame.w, frame.h, settings)?;
+    let (settings, window) = (&frame.settings, &frame.window);
+    size_matrix_and_window(frame.w, frame.h, settings, window)?;
     let (rows, chroma_rows) = plane_rows(settings.sampling, frame.h);
+    let source_rows = u64::from(window.source_height);
     memory(
         u64::from(frame.w),
-        settings.channels.bytes(),
-        Lent::new(source, frame.source_stride, rows),
+        u64::from(window.source_width) * settings.channels.bytes(),
+        Lent::new(source, frame.source_stride, source_rows),
         Lent::new(y, frame.y_stride, rows),
         Lent::new(u, frame.u_stride, chroma_rows),
         Lent::new(v, frame.v_stride, chroma_rows),
@@ -32,7 +35,8 @@ pub fn frame(frame: &Frame, source: &[u8], y: &mut [u8], u: &mut [u8], v: &mut [
 
     let rules = Rules::new(settings);
     let (w, h) = (frame.w as usize, frame.h as usize);
-    let row = |r| source_row(settings, source, frame.source_stride, w, r);
+    let (left, top, stride) = (window.left, window.top as usize, frame.source_stride);
+    let row = |r| source_row(settings, source, stride, left, w, top + r);
     let luma = Plane::new(frame.y_stride, w);
     let u_plane = Plane::new(frame.u_stride, w.div_ceil(2));
     let v_plane = Plane::new(frame.v_stride, w.div_ceil(2));
@@ -52,16 +56,17 @@ pub fn frame(frame: &Frame, source: &[u8], y: &mut [u8], u: &mut [u8], v: &mut [
     Ok(())
 }
 
-/// Row r of a source that was found long enough.
+/// The w pixels from column `left` on of row r of a source that was found long enough.
 pub(crate) fn source_row<'a>(
     settings: &Settings,
     source: &'a [u8],
     stride: u32,
+    left: u32,
     w: usize,
     r: usize,
 ) -> Row<'a> {
     let c = settings.channels.bytes() as usize;
-    let start = r * stride as usize;
+    let start = r * stride as usize + left as usize * c;
     Row::new(&source[start..start + w * c], c, settings.channels)
 }
 

@@ -17,6 +17,7 @@ pub mod refusals;
 pub mod row;
 pub mod settings;
 mod whole;
+mod window;
 
 pub use bands::{FrameState, open};
 pub use frame::{Frame, frame};
@@ -26,3 +27,4 @@ pub use settings::{
     Settings, SharpYuvGammaTransfer, TableRounding, YuvChromaSubsampling, YuvRange,
     YuvSourceChannels, YuvStandardMatrix,
 };
+pub use window::Window;

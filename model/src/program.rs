@@ -6,6 +6,7 @@ use crate::settings::{
     Settings, TableRounding, channels_of, chroma_height, chroma_width, matrix_of, range_of,
     sampling_of, transfer_of,
 };
+use crate::window::Window;
 
 const HEADER: usize = 9;
 
@@ -33,6 +34,8 @@ fn planes(input: &[u8]) -> Result<Vec<u8>, Refusal> {
     let call = Frame {
         w: u32::from(w),
         h: u32::from(h),
+        // The request is the whole source.
+        window: Window::whole(u32::from(w), u32::from(h)),
         settings,
         // At most 16,384 × 4.
         source_stride: (width * settings.channels.bytes()) as u32,

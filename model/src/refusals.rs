@@ -1,10 +1,12 @@
 //! The refusals: RULES 7.1 and on.
 //!
-//! The lowest number whose condition holds is answered: the conditions stand below in the order
-//! of their numbers, and `?` ends at the first that holds. So a condition may count on those
-//! before it: rows are not 0 once 2 and 5 were passed.
+//! The first condition that holds is answered: the conditions stand below in the order in which
+//! they are asked, and `?` ends at the first that holds. It is the order of their numbers, but for
+//! 14, which comes between 4 and 5. So a condition may count on those before it: rows are not 0
+//! once 2, 5 and 14 were passed.
 
 use crate::settings::{Settings, YuvStandardMatrix, chroma_width};
+use crate::window::Window;
 
 #[derive(Clone, Copy, Debug, PartialEq)]
 pub struct Refusal {
@@ -35,11 +37,19 @@ fn refuse_with(holds: bool, number: u8, expected: u64, received: u64) -> Answer 
 
 const LARGEST_SIDE: u32 = 16_384;
 
-/// 2, 3 and 4, which frame calls, openings and band calls share.
-pub(crate) fn size_and_matrix(w: u32, h: u32, settings: &Settings) -> Answer {
+/// 2, 3, 4 and 14, which frame calls, openings and band calls share. 3 is about the source's sides
+/// too; 2 is not: in a source with a side of 0 no rectangle has a place, which is 14.
+pub(crate) fn size_matrix_and_window(
+    w: u32,
+    h: u32,
+    settings: &Settings,
+    window: &Window,
+) -> Answer {
     refuse_if(w == 0 || h == 0, 2)?;
-    refuse_if(w > LARGEST_SIDE || h > LARGEST_SIDE, 3)?;
-    refuse_if(!accepted(settings.matrix), 4)
+    let sides = [w, h, window.source_width, window.source_height];
+    refuse_if(sides.iter().any(|side| *side > LARGEST_SIDE), 3)?;
+    refuse_if(!accepted(settings.matrix), 4)?;
+    refuse_if(window.is_outside(w, h), 14)
 }
 
 /// RULES 7.4. No comparison holds of NaN, and -0 compares as 0.
@@ -74,17 +84,18 @@ impl Lent {
     }
 }
 
-/// 6 to 12. The rows of the source are the frame's or the band's, those of the planes the frame's.
-pub(crate) fn memory(w: u64, c: u64, source: Lent, y: Lent, u: Lent, v: Lent) -> Answer {
+/// 6 to 12. A source row has `source_row` bytes, which are those of its whole width; the source's
+/// rows are all that it has or the band's, those of the planes the frame's.
+pub(crate) fn memory(w: u64, source_row: u64, source: Lent, y: Lent, u: Lent, v: Lent) -> Answer {
     let cw = chroma_width(w);
-    let source_minimum = source.minimum(w * c);
+    let source_minimum = source.minimum(source_row);
     refuse_with(
         source.length < source_minimum,
         6,
         source_minimum,
         source.length,
     )?;
-    refuse_with(source.stride < w * c, 7, w * c, source.stride)?;
+    refuse_with(source.stride < source_row, 7, source_row, source.stride)?;
     refuse_with(y.stride < w, 8, w * y.rows, y.stride * y.rows)?;
     refuse_with(y.length < y.minimum(w), 9, y.minimum(w), y.length)?;
     for (plane, number) in [(u, 10), (v, 11)] {

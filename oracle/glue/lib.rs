@@ -23,6 +23,17 @@ pub fn built_forward_transform(
     built_coefficients::get_built_forward_transform(13, 8, range, matrix)
 }
 
+/// The Rust's check of a source, which it makes of its own accord with the size of the frame.
+pub fn check_source(
+    source: &[u8],
+    stride: u32,
+    width: u32,
+    height: u32,
+    channels: usize,
+) -> Result<(), YuvError> {
+    yuv_error::check_rgba_destination(source, stride, width, height, channels)
+}
+
 /// The tables that two of the copies take instead of filling their own.
 #[cfg(exact_tables)]
 pub(crate) fn exact_tables(transfer: SharpYuvGammaTransfer) -> &'static model::curves::Tables {

@@ -2,7 +2,7 @@
 //! it, and prints what it does. The lists of docs/DIFFERENCES.md are this program's.
 
 use model::{
-    Frame, Settings, SharpYuvGammaTransfer, TableRounding, YuvChromaSubsampling, YuvRange,
+    Frame, Settings, SharpYuvGammaTransfer, TableRounding, Window, YuvChromaSubsampling, YuvRange,
     YuvSourceChannels, YuvStandardMatrix,
 };
 use oracle::unaltered;
@@ -24,6 +24,7 @@ fn frame(w: u32, h: u32, sampling: YuvChromaSubsampling, strides: [u32; 4]) -> F
     Frame {
         w,
         h,
+        window: Window::whole(w, h),
         settings: Settings {
             channels: YuvSourceChannels::Rgb,
             sampling,

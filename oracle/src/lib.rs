@@ -165,7 +165,7 @@ macro_rules! calls_of {
             }
 
             /// The Rust's function for this channel order and sampling, on the lent buffers. It
-            /// knows no rounding: its copy has one.
+            /// knows no rounding, its copy has one, and no window: the source is the frame.
             pub fn frame(
                 frame: &model::Frame,
                 source: &[u8],
@@ -195,6 +195,17 @@ macro_rules! calls_of {
                     transfer(frame.settings.transfer),
                 )
                 .map_err(error)
+            }
+
+            /// The Rust's check of a source of this many pixels.
+            pub fn check_source(
+                channels: model::YuvSourceChannels,
+                source: &[u8],
+                stride: u32,
+                (width, height): (u32, u32),
+            ) -> Result<(), RustError> {
+                let channels = channels.bytes() as usize;
+                $copy::check_source(source, stride, width, height, channels).map_err(error)
             }
 
             /// Whether the Rust's checks pass with V described as U is: if not, U is at fault.
@@ -278,11 +289,19 @@ calls_of!(unaltered, yuvutils_unaltered);
 calls_of!(truncated, yuvutils_truncated);
 calls_of!(nearest, yuvutils_nearest);
 
-/// The Rust over the exact tables that the frame chooses.
+/// The Rust over the exact tables that the frame chooses, on the frame's rectangle.
 pub mod exact {
     use super::{RustError, nearest, truncated};
-    use model::TableRounding;
+    use model::{TableRounding, Window};
 
+    /// Where the frame is all of its source, the Rust's own call. Else the Rust, which has no
+    /// window, is asked twice, in the order of its own checks: whether it takes the large source
+    /// (6 and 7, with that source's size), and then for the frame, with the rectangle copied out
+    /// of that source (2 and 8 to 11, with the rectangle's size).
+    ///
+    /// It has no answer where the rectangle reaches past the source: such a frame is not handed to
+    /// it. Nor has it one about the large source where the frame has no pixel: that is 2, and the
+    /// Rust then looks at no buffer.
     pub fn frame(
         frame: &model::Frame,
         source: &[u8],
@@ -294,9 +313,37 @@ pub mod exact {
             TableRounding::Truncated => truncated::frame,
             TableRounding::Nearest => nearest::frame,
         };
-        call(frame, source, y, u, v)
+        let whole = Window::whole(frame.w, frame.h);
+        if frame.window == whole {
+            return call(frame, source, y, u, v);
+        }
+        if frame.w != 0 && frame.h != 0 {
+            let size = (frame.window.source_width, frame.window.source_height);
+            let (channels, stride) = (frame.settings.channels, frame.source_stride);
+            truncated::check_source(channels, source, stride, size)?;
+        }
+        let (rectangle, source_stride) = copied_out(frame, source);
+        let frame = model::Frame {
+            window: whole,
+            source_stride,
+            ..*frame
+        };
+        call(&frame, &rectangle, y, u, v)
     }
 
-    // Neither looks at a table, so one copy will do.
+    /// The rectangle's pixels, row by row without padding, and the bytes of such a row.
+    fn copied_out(frame: &model::Frame, source: &[u8]) -> (Vec<u8>, u32) {
+        let c = frame.settings.channels.bytes() as usize;
+        let row = frame.w as usize * c;
+        let mut rectangle = Vec::new();
+        for r in 0..if row == 0 { 0 } else { frame.h as usize } {
+            let start = (frame.window.top as usize + r) * frame.source_stride as usize;
+            let start = start + frame.window.left as usize * c;
+            rectangle.extend(&source[start..start + row]);
+        }
+        (rectangle, row as u32)
+    }
+
+    // None of these looks at a table, so one copy will do.
     pub use truncated::{u_passes, weights};
 }

@@ -1,5 +1,5 @@
 //! Prints each curve table entry of the unaltered Rust, on this machine, that is not the exact
-//! one.
+//! truncated one.
 
 use std::process::Command;
 
