@@ -12,6 +12,7 @@ import re
 import struct
 import sys
 import zlib
+from collections import namedtuple
 from fractions import Fraction
 from pathlib import Path
 
@@ -258,23 +259,35 @@ def rgb_of(s, source, at):
 
 # ---- chapters 7, 8, 9
 
+Window = namedtuple('Window', 'left top W H')
+
+
+def whole(w, h):
+    """The window that is the whole source (2.6)."""
+    return Window(0, 0, w, h)
+
+
 def accepted(s):
     return s.matrix != 'Custom' or all(0 <= k <= 0.5 for k in (s.kr, s.kb))
 
 
-def size_and_matrix(s, w, h):
+def description_answer(s, w, h, window=None):
+    """2, 3, 4, 14, or None. A window that is not given is the whole source, here and below."""
+    window = window or whole(w, h)
     if w == 0 or h == 0:
         return 2, 0, 0
-    if w > 16384 or h > 16384:
+    if max(w, h, window.W, window.H) > 16384:
         return 3, 0, 0
     if not accepted(s):
         return 4, 0, 0
+    if window.left + w > window.W or window.top + h > window.H:
+        return 14, 0, 0
 
 
-def buffers(s, w, h, n, strides, lengths):
+def buffers(s, w, h, n, strides, lengths, window):
     """6 to 12, strides and lengths of source, Y, U, V."""
     cw, ch = chroma_size(s, w, h)
-    rows, row = [n, h, ch, ch], [w * s.c, w, cw, cw]
+    rows, row = [n, h, ch, ch], [window.W * s.c, w, cw, cw]
     least = [stride * (count - 1) + one for stride, count, one in zip(strides, rows, row)]
     if lengths[0] < least[0]:
         return 6, least[0], lengths[0]
@@ -290,15 +303,17 @@ def buffers(s, w, h, n, strides, lengths):
             return 12, stride * count, length
 
 
-def frame_answer(s, w, h, strides, lengths):
-    return size_and_matrix(s, w, h) or buffers(s, w, h, h, strides, lengths) or (0, 0, 0)
+def frame_answer(s, w, h, strides, lengths, window=None):
+    window = window or whole(w, h)
+    return description_answer(s, w, h, window) or buffers(s, w, h, window.H, strides, lengths, window) or (0, 0, 0)
 
 
-def band_answer(s, w, h, done, m, strides, lengths, carried):
-    found = size_and_matrix(s, w, h)
+def band_answer(s, w, h, done, m, strides, lengths, carried, window=None):
+    window = window or whole(w, h)
+    found = description_answer(s, w, h, window)
     if found is None and (m == 0 or m > max(0, h - done)):
         found = 5, 0, 0
-    found = found or buffers(s, w, h, m, strides, lengths)
+    found = found or buffers(s, w, h, m, strides, lengths, window)
     if found is None and carried < 3 * w:
         found = 13, 3 * w, carried
     return found or (0, 0, 0)
@@ -324,28 +339,33 @@ def convert(s, w, h, done, m, pixel, strides, planes):
                 plane[k * stride + j] = byte
 
 
-def frame_call(s, w, h, source, strides, planes):
+def frame_call(s, w, h, source, strides, planes, window=None):
     """Strides of source, Y, U, V. Answers three numbers."""
-    answer = frame_answer(s, w, h, strides, [len(source)] + [len(plane) for plane in planes])
+    window = window or whole(w, h)
+    answer = frame_answer(s, w, h, strides, [len(source)] + [len(plane) for plane in planes], window)
     if answer[0] == 0:
-        convert(s, w, h, 0, h, lambda x, r: rgb_of(s, source, r * strides[0] + x * s.c), strides[1:], planes)
+        convert(s, w, h, 0, h, lambda x, r: rgb_of(s, source, (window.top + r) * strides[0] + (window.left + x) * s.c), strides[1:], planes)
     return answer
 
 
-def band_call(s, w, h, done, m, source, strides, planes, carried):
+def band_call(s, w, h, done, m, source, strides, planes, carried, window=None):
     """Answers three numbers and the rows done."""
-    answer = band_answer(s, w, h, done, m, strides, [len(source)] + [len(plane) for plane in planes], len(carried))
+    window = window or whole(w, h)
+    answer = band_answer(s, w, h, done, m, strides, [len(source)] + [len(plane) for plane in planes], len(carried), window)
     if answer[0]:
         return answer, done
 
+    def place(x, r):
+        return (r - done) * strides[0] + (window.left + x) * s.c
+
     def pixel(x, r):
-        return rgb_of(s, carried, 3 * x) if r < done else rgb_of(s, source, (r - done) * strides[0] + x * s.c)
+        return rgb_of(s, carried, 3 * x) if r < done else rgb_of(s, source, place(x, r))
 
     convert(s, w, h, done, m, pixel, strides[1:], planes)
     last = done + m - 1
     if s.sampling == '4:2:0' and last % 2 == 0 and last != h - 1:
         for x in range(w):
-            at = (m - 1) * strides[0] + x * s.c
+            at = place(x, last)
             carried[3 * x:3 * x + 3] = source[at:at + 3]
     return answer, done + m
 
@@ -393,6 +413,14 @@ def signed(value):
 def product_sum(rgb, triple, more):
     terms = ' + '.join(f'{a} × {signed(b)}' for a, b in zip(rgb, triple))
     return f'{terms} + {more}'
+
+
+def plane_text(planes):
+    return ', '.join(f'{name} {hexes(plane)}' for name, plane in zip('YUV', planes))
+
+
+def window_text(window):
+    return ', '.join(f'{name} {value}' for name, value in window._asdict().items())
 
 
 def answer_line(what, answer):
@@ -444,6 +472,8 @@ def _():
     yield f'source: {h} rows of {w * s.c} bytes, rows start at bytes 0 and {strides[0]}'
     yield f'Y: {h} rows of {w} bytes, rows start at bytes 0 and {strides[1]}'
     yield f'U: {ch} row of {cw} bytes; V: {ch} row of {cw} bytes'
+    window = Window(5, 1, 8, 6)
+    yield f'the same with {window_text(window)}, source stride 25: {window.H} source rows of {window.W * s.c} bytes, which start at bytes 0, 25 and so on; Y, U, V as before'
 
 
 @example('2.2')
@@ -453,6 +483,10 @@ def _():
         at = r * stride + x * c
         red, green, blue = (at + place for place in places)
         yield f'{order}, stride {stride}: pixel {x} of row {r} starts at byte {r} × {stride} + {x} × {c} = {at}; R is byte {red}, G byte {green}, B byte {blue}'
+    left, top, x, r, stride = 3, 1, 2, 1, 20
+    at = (top + r) * stride + (left + x) * 3
+    yield (f'Rgb, stride {stride}, left {left}, top {top}: pixel {x} of row {r} of the frame is pixel {left + x} of row {top + r} of the source '
+           f'and starts at byte ({top} + {r}) × {stride} + ({left} + {x}) × 3 = {at}')
 
 
 def one_pixel(rgb, **settings):
@@ -467,11 +501,14 @@ def one_pixel(rgb, **settings):
 
 @example('2.3')
 def _():
-    for data, stride in (([200, 100, 50, 0, 0], 5), ([200, 100, 50, 255, 9], 5)):
+    for data, stride, window in (([200, 100, 50, 0, 0], 5, None), ([200, 100, 50, 255, 9], 5, None), ([1, 2, 3, 4, 200, 100, 50, 0] + [5] * 8, 8, Window(1, 0, 2, 2)),
+                                 ([255] * 4 + [200, 100, 50, 7] + [0] * 8, 8, Window(1, 0, 2, 2))):
         s = Settings('Rgba')
         planes = [bytearray(1) for _ in range(3)]
-        answer = frame_call(s, 1, 1, data, [stride, 1, 1, 1], planes)
-        yield f'1 × 1, Rgba, Bt601, Limited, Srgb, 4:2:0, stride {stride}, source {numbers(data)}: answer {answer[0]}, Y {planes[0][0]}, U {planes[1][0]}, V {planes[2][0]}'
+        answer = frame_call(s, 1, 1, data, [stride, 1, 1, 1], planes, window)
+        where = f'{window_text(window)}, ' if window else ''
+        yield (f'1 × 1, {where}Rgba, Bt601, Limited, Srgb, 4:2:0, stride {stride}, source {numbers(data)}: '
+               f'answer {answer[0]}, Y {planes[0][0]}, U {planes[1][0]}, V {planes[2][0]}')
 
 
 @example('2.4')
@@ -496,6 +533,63 @@ def _():
     for j in range(2):
         colour = chroma_colour(s, 3, 1, lambda x, r: row[x], j, 0)
         yield f'chroma place j {j}, k 0: colour {numbers(colour)}, U byte {j} is its Cb {planes[1][j]}, V byte {j} its Cr {planes[2][j]}'
+
+
+SMALL = [[(255, 0, 0), (0, 255, 0)], [(0, 0, 255), (255, 255, 255)], [(9, 120, 60), (200, 10, 77)]]
+
+
+def surrounded(s, rows, window, rgb, first=0, count=None):
+    """Rows of a source, from row `first` on, without padding: a rectangle of colours in its window, and one colour in all other pixels."""
+    data = bytearray()
+    for r in range(first, first + (window.H if count is None else count)):
+        for x in range(window.W):
+            inside = 0 <= r - window.top < len(rows) and 0 <= x - window.left < len(rows[0])
+            pixel = bytearray([0, 0, 0, 170][:s.c])
+            for place, value in zip(s.places, rows[r - window.top][x - window.left] if inside else rgb):
+                pixel[place] = value
+            data += pixel
+    return data
+
+
+def tight_planes(s, w, h):
+    cw, ch = chroma_size(s, w, h)
+    return [w, cw, cw], [bytearray(w * h), bytearray(cw * ch), bytearray(cw * ch)]
+
+
+def window_planes(s, rows, window, rgb):
+    """The planes of a frame call, without padding."""
+    w, h = len(rows[0]), len(rows)
+    strides, planes = tight_planes(s, w, h)
+    assert frame_call(s, w, h, surrounded(s, rows, window, rgb), [window.W * s.c] + strides, planes, window) == (0, 0, 0)
+    return planes
+
+
+def rows_text(rows):
+    return '; '.join(f'row {r} ' + ', '.join(numbers(rgb) for rgb in row) for r, row in enumerate(rows))
+
+
+@example('2.6')
+def _():
+    rows = [[(10, 0, 255), (20, 0, 0), (255, 255, 0)], [(30, 0, 0), (40, 255, 0), (0, 0, 255)], [(9, 120, 60), (200, 10, 77), (50, 60, 70)]]
+    w, h, window, outside = 3, 3, Window(1, 1, 5, 5), (255, 0, 0)
+    yield f'w {w}, h {h}, {window_text(window)}, Rgb, Bt601, Full, Srgb, source stride {3 * window.W}; planes without padding, in hexadecimal'
+    yield f'frame: {rows_text(rows)}; every other pixel of the source {numbers(outside)}'
+    for sampling in CODES['sampling']:
+        s = Settings('Rgb', sampling, 'Full').weigh()
+        planes = window_planes(s, rows, window, outside)
+        assert planes == window_planes(s, rows, window, (0, 255, 0)) == window_planes(s, rows, whole(w, h), None)
+        yield f'{sampling}: {plane_text(planes)}'
+
+        def pixel(x, r):
+            return rows[r][x] if x < w and r < h else outside
+
+        for j, k in ((1, 0), (0, 1), (1, 1)) if sampling == '4:2:0' else ((1, 0),):
+            right, wrong = chroma_colour(s, w, h, pixel, j, k), chroma_colour(s, w + 1, h + 1, pixel, j, k)
+            assert chroma(s, right) == (planes[1][2 * k + j], planes[2][2 * k + j]) != chroma(s, wrong)
+            yield (f'  chroma place j {j}, k {k}: colour {numbers(right)}, U and V {hexes(chroma(s, right))}; '
+                   f'wrong, with pixels outside the frame: colour {numbers(wrong)}, {hexes(chroma(s, wrong))}')
+    yield 'every other pixel 0 255 0 in place of 255 0 0: the same planes in both samplings'
+    yield f'the frame copied out, {window_text(whole(w, h))}, source stride {3 * w}: the same planes in both samplings'
 
 
 @example('3.1')
@@ -814,6 +908,11 @@ def _():
     yield answer_line('w 0', frame_answer(s, 0, 3, [0] * 4, [0] * 4))
     yield answer_line('w 3 (6, 7, 8, 9, 10 and 11 hold)', frame_answer(s, 3, 3, [0] * 4, [0] * 4))
     yield answer_line('w 3, all buffers long enough (7, 8, 10, 11 and 12 hold)', frame_answer(s, 3, 3, [0] * 4, [9] * 4))
+    window = Window(1, 0, 3, 3)
+    yield answer_line(f'w 3, {window_text(window)} (14, 6, 7, 8, 9, 10 and 11 hold)', frame_answer(s, 3, 3, [0] * 4, [0] * 4, window))
+    custom = Settings('Rgb', matrix='Custom', kr=1.0, kb=0.0)
+    yield answer_line('the same, Custom, kr 1, kb 0 (4 holds too)', frame_answer(custom, 3, 3, [0] * 4, [0] * 4, window))
+    yield answer_line('w 3, the same window, band call with m 0 (14 and 5 hold, and more)', band_answer(s, 3, 3, 0, 0, [0] * 4, [0] * 4, 0, window))
 
 
 @example('7.2')
@@ -827,21 +926,24 @@ def _():
 def _():
     s = Settings()
     for w, h in ((0, 1), (0, 16385), (16384, 1), (16385, 1), (1, 4294967295)):
-        found = size_and_matrix(s, w, h)
+        found = description_answer(s, w, h)
         yield f'w {w}, h {h}: ' + (str(found[0]) if found else 'neither')
+    for w, window in ((1, Window(0, 0, 16384, 16384)), (1, Window(0, 0, 16385, 1)), (1, Window(0, 0, 1, 4294967295)), (0, Window(0, 0, 0, 1)), (1, Window(0, 0, 0, 1))):
+        found = description_answer(s, w, 1, window)
+        yield f'w {w}, h 1, {window_text(window)}: ' + (str(found[0]) if found else 'neither') + (', neither 2 nor 3' if found and found[0] == 14 else '')
 
 
 @example('7.4')
 def _():
     for text in ('00000000', '80000000', '3F000000', '3F000001', '00000001', '80000001', '7FC00000', '7F800000', 'BF000000'):
         k = of_bits(text)
-        found = size_and_matrix(Settings(matrix='Custom', kr=k, kb=0.0), 1, 1)
+        found = description_answer(Settings(matrix='Custom', kr=k, kb=0.0), 1, 1)
         yield f'kr {text} ({k:.9g}), kb 00000000: {"4" if found else "accepted"}'.replace('-', '−')
 
 
-def frame_lines(cases):
+def frame_lines(cases, window=None):
     for text, s, w, h, strides, lengths in cases:
-        answer = frame_answer(s, w, h, strides, lengths)
+        answer = frame_answer(s, w, h, strides, lengths, window)
         yield answer_line(f'{text}, strides {numbers(strides)}, lengths {numbers(lengths)}', answer)
 
 
@@ -851,6 +953,10 @@ def _():
     yield 'w 4, h 2, Rgb, 4:2:0; strides and lengths of source, Y, U, V'
     yield from frame_lines(((text, s, 4, 2, strides, (length, 8, 2, 2)) for text, strides, length in (
         ('one byte under', (16, 4, 2, 2), 27), ('stride too small', (11, 4, 2, 2), 23), ('both', (11, 4, 2, 2), 22), ('neither', (16, 4, 2, 2), 32))))
+    window = Window(1, 2, 6, 5)
+    yield f'the same with {window_text(window)}'
+    yield from frame_lines(((text, s, 4, 2, strides, (length, 8, 2, 2)) for text, strides, length in (
+        ('one byte under', (20, 4, 2, 2), 97), ('stride too small', (17, 4, 2, 2), 86), ('both', (17, 4, 2, 2), 85), ('neither', (20, 4, 2, 2), 100))), window)
 
 
 @example('7.6')
@@ -871,6 +977,10 @@ def _():
     yield from frame_lines(((text, s, 5, 3, strides, lengths) for text, strides, lengths in (
         ('Y at its least', (15, 8, 3, 3), (45, 21, 6, 6)), ('Y whole', (15, 8, 3, 3), (45, 24, 6, 6)), ('Y a row longer', (15, 8, 3, 3), (45, 32, 6, 6)),
         ('source and V longer', (15, 8, 3, 3), (46, 24, 6, 7)), ('V longer', (15, 8, 3, 3), (45, 24, 6, 7)))))
+    window = Window(0, 1, 6, 4)
+    yield f'the same with {window_text(window)}'
+    yield from frame_lines(((text, s, 5, 3, strides, lengths) for text, strides, lengths in (
+        ('source of its last row only as far as W × c', (20, 5, 3, 3), (78, 15, 6, 6)), ('source whole', (20, 5, 3, 3), (80, 15, 6, 6)))), window)
 
 
 @example('7.8')
@@ -881,19 +991,33 @@ def _():
         yield f'{name} {numbers(rgb)}, 1 × 1, Bt601 {s.range_}, Srgb, {s.sampling}: 0; Y U V {numbers(one_pixel(rgb, **settings))}'
 
 
+@example('7.9')
+def _():
+    s = Settings()
+    for w, h, window in ((3, 2, Window(2, 2, 5, 4)), (3, 2, Window(3, 2, 5, 4)), (3, 2, Window(2, 3, 5, 4)), (16384, 16384, Window(0, 0, 16384, 16384)),
+                         (1, 1, Window(16384, 0, 16384, 1)), (1, 1, Window(4294967295, 0, 16384, 1)), (1, 1, Window(0, 4294967295, 1, 16384)),
+                         (1, 1, Window(0, 0, 0, 1)), (1, 1, Window(0, 0, 1, 0)), (0, 1, Window(4294967295, 0, 0, 1)), (1, 1, Window(1, 0, 16384, 16385))):
+        found = description_answer(s, w, h, window)
+        sums = f'left + w {window.left + w}, top + h {window.top + h}'
+        yield f'w {w}, h {h}, {window_text(window)}: {sums}: ' + (str(found[0]) if found else 'not 14')
+
+
 @example('8.1')
 def _():
     s = Settings()
     for w, h, strides in ((4, 5, (4, 2, 2)), (4, 5, (0, 0, 0)), (0, 5, (4, 2, 2)), (4, 16385, (4, 2, 2))):
-        found = size_and_matrix(s, w, h)
+        found = description_answer(s, w, h)
         yield f'w {w}, h {h}, plane strides {numbers(strides)}: ' + (f'refused {found[0]}' if found else 'accepted') + ', 0 rows done'
+    for window in (Window(1, 2, 6, 8), Window(3, 2, 6, 8), Window(1, 2, 6, 16385)):
+        found = description_answer(s, 4, 5, window)
+        yield f'w 4, h 5, {window_text(window)}, plane strides 4 2 2: ' + (f'refused {found[0]}' if found else 'accepted') + ', 0 rows done'
 
 
 BAND = Settings('Rgb', range_='Full')
 
 
-def band_line(text, s, w, h, done, m, strides, lengths, carried):
-    return answer_line(text, band_answer(s, w, h, done, m, strides, lengths, carried))
+def band_line(text, s, w, h, done, m, strides, lengths, carried, window=None):
+    return answer_line(text, band_answer(s, w, h, done, m, strides, lengths, carried, window))
 
 
 @example('8.2')
@@ -901,6 +1025,14 @@ def _():
     yield 'state: w 4, h 5, Rgb, 4:2:0, plane strides 4, 2, 2; planes of 20, 6, 6 bytes; carried row of 12 bytes'
     for done, m, stride, length in ((0, 2, 12, 24), (2, 2, 16, 32), (4, 1, 12, 12), (2, 2, 12, 60), (0, 2, 12, 23)):
         yield band_line(f'{done} rows done, m {m}, source stride {stride}, source of {length} bytes', BAND, 4, 5, done, m, (stride, 4, 2, 2), (length, 20, 6, 6), 12)
+    for window, cases in ((Window(1, 2, 6, 8), ((0, 2, 18, 36), (0, 2, 18, 35), (0, 2, 12, 24), (2, 2, 17, 35), (2, 2, 18, 54), (4, 1, 20, 20))),
+                          (Window(3, 2, 6, 8), ((0, 0, 18, 0),))):
+        yield f'the same state with {window_text(window)}'
+        for done, m, stride, length in cases:
+            both = ' (14 and 5 hold)' if m == 0 else ''
+            yield band_line(f'{done} rows done, m {m}, source stride {stride}, source of {length} bytes{both}', BAND, 4, 5, done, m,
+                            (stride, 4, 2, 2), (length, 20, 6, 6), 12, window)
+    yield 'left 1, top 2, source stride 18, 2 rows done: pixel 3 of row 3 of the frame starts at byte (3 − 2) × 18 + (1 + 3) × 3 = ' + str((3 - 2) * 18 + (1 + 3) * 3)
 
 
 @example('8.3')
@@ -932,15 +1064,12 @@ def _():
             yield f'h {h}, {sampling}: chroma rows finished after 0 to {h} rows: ' + numbers(finished(s, h, n) for n in range(h + 1))
 
 
-SMALL = [[(255, 0, 0), (0, 255, 0)], [(0, 0, 255), (255, 255, 255)], [(9, 120, 60), (200, 10, 77)]]
-
-
-def small_bands(s, cut, source_of):
+def small_bands(s, cut, source_of, window=None):
     planes = [bytearray(b'\xee' * n) for n in (6, chroma_size(s, 2, 3)[1], chroma_size(s, 2, 3)[1])]
     carried, done = bytearray(b'\xcc' * 7), 0
     for m in cut:
         source = source_of(done, m)
-        answer, done = band_call(s, 2, 3, done, m, source, [len(source) // m, 2, 1, 1], planes, carried)
+        answer, done = band_call(s, 2, 3, done, m, source, [len(source) // m, 2, 1, 1], planes, carried, window)
         assert answer[0] == 0
         yield m, done, planes, carried
 
@@ -950,7 +1079,16 @@ def small_source(done, m):
 
 
 def small_text():
-    return 'Rgb, Bt601, Full, Srgb, 4:2:0, 2 × 3 pixels: ' + '; '.join(f'row {r} ' + ', '.join(numbers(rgb) for rgb in row) for r, row in enumerate(SMALL))
+    return f'Rgb, Bt601, Full, Srgb, 4:2:0, 2 × 3 pixels: {rows_text(SMALL)}'
+
+
+SMALL_WINDOW = Window(1, 3, 4, 7)  # one for the frame of 8.7
+AROUND = (119, 119, 119)
+
+
+def small_window_source(s):
+    """The source rows of a band, for that window."""
+    return lambda done, m: surrounded(s, SMALL, SMALL_WINDOW, AROUND, SMALL_WINDOW.top + done, m)
 
 
 @example('8.7')
@@ -959,15 +1097,20 @@ def _():
     yield small_text()
     yield 'plane strides 2, 1, 1; source strides 6 in the first band and 7 in the second; planes all EE and carried row all CC before; bytes in hexadecimal'
     for m, done, planes, carried in small_bands(s, (1, 2), small_source):
-        yield f'band of {m}, {done} rows done after it: Y {hexes(planes[0])}, U {hexes(planes[1])}, V {hexes(planes[2])}, carried row {hexes(carried)}'
+        yield f'band of {m}, {done} rows done after it: {plane_text(planes)}, carried row {hexes(carried)}'
     planes = [bytearray(6), bytearray(2), bytearray(2)]
     assert frame_call(s, 2, 3, small_source(0, 3), [6, 2, 1, 1], planes)[0] == 0
-    yield f'one frame call: Y {hexes(planes[0])}, U {hexes(planes[1])}, V {hexes(planes[2])}'
+    yield f'one frame call: {plane_text(planes)}'
+    source_of = small_window_source(s)
+    yield f'the same frame, {window_text(SMALL_WINDOW)}, source stride {3 * SMALL_WINDOW.W}, every byte outside the frame 77'
+    for m, done, planes, carried in small_bands(s, (1, 2), source_of, SMALL_WINDOW):
+        yield f'band of {m}, source {hexes(source_of(done - m, m))}: {plane_text(planes)}, carried row {hexes(carried)}'
+    assert planes == window_planes(s, SMALL, SMALL_WINDOW, AROUND)
     s = Settings('Rgb', '4:2:0', 'Full', rounding='Nearest')
     *_, (_, _, planes, _) = small_bands(s, (1, 2), small_source)
     whole = [bytearray(6), bytearray(2), bytearray(2)]
     assert frame_call(s, 2, 3, small_source(0, 3), [6, 2, 1, 1], whole)[0] == 0 and whole == planes
-    yield f'Nearest, the same two bands or one frame call: Y {hexes(planes[0])}, U {hexes(planes[1])}, V {hexes(planes[2])}'
+    yield f'Nearest, the same two bands or one frame call: {plane_text(planes)}'
 
 
 @example('8.8')
@@ -976,17 +1119,15 @@ def _():
         s = Settings(order, sampling, 'Full')
 
         def source_of(done, m):
-            data = bytearray()
-            for row in SMALL[done:done + m]:
-                for rgb in row:
-                    pixel = bytearray([0, 0, 0, 170][:s.c])
-                    for place, value in zip(s.places, rgb):
-                        pixel[place] = value
-                    data += pixel
-            return data
+            return surrounded(s, SMALL, whole(2, 3), None, done, m)
 
         *_, (m, done, planes, carried) = small_bands(s, cut, source_of)
         yield f'{order}, {sampling}, the frame of 8.7, first band of {m}, its last row of bytes {hexes(source_of(m - 1, 1))}: carried row of 7 bytes CC becomes {hexes(carried)}'
+    s = Settings('Rgb', '4:2:0', 'Full')
+    source_of = small_window_source(s)
+    *_, (m, done, planes, carried) = small_bands(s, (1,), source_of, SMALL_WINDOW)
+    yield (f'Rgb, 4:2:0, the frame of 8.7 in its window, first band of {m}, its last row of bytes {hexes(source_of(m - 1, 1))}: '
+           f'carried row of 7 bytes CC becomes {hexes(carried)}')
 
 
 @example('8.9')
@@ -999,7 +1140,8 @@ def _():
         source = small_source(0, 3)[6 * done:][:length]
         source += b'\x00' * (length - len(source))
         answer, done = band_call(s, 2, 3, done, m, source, [6, 2, 1, 1], planes, carried)
-        yield f'{text}: {answer[0]}, {done} rows done; Y {hexes(planes[0])}, U {hexes(planes[1])}, V {hexes(planes[2])}'
+        yield f'{text}: {answer[0]}, {done} rows done; {plane_text(planes)}'
+    yield f'one frame call of the same rows, {window_text(SMALL_WINDOW)}: {plane_text(window_planes(s, SMALL, SMALL_WINDOW, AROUND))}'
 
 
 def request(w, h, codes, source):
@@ -1040,8 +1182,12 @@ def codes_of(description):
     return (*description[2:7], description[10] if len(description) > 10 else 0)
 
 
+def window_of(description):
+    return Window(*description[11:]) if len(description) == 15 else whole(*description[:2])
+
+
 def is_malformed(call, given):
-    if len(given) - BEFORE[call] not in (10, 11):
+    if len(given) - BEFORE[call] not in (10, 11, 15):
         return True
     counts = [len(values) + (setting == 'matrix') for setting, values in CODES.items()]
     return any(code >= count for code, count in zip(codes_of(given[BEFORE[call]:]), counts))
@@ -1049,10 +1195,11 @@ def is_malformed(call, given):
 
 @example('10.1')
 def _():
-    for description in (DESCRIPTION, DESCRIPTION + (0,), DESCRIPTION + (1,)):
+    for more in ((), (0,), (0, 0, 0, 4, 5), (1,), (1, 3, 7, 1920, 1080)):
+        description = DESCRIPTION + more
         w, h = description[:2]
         values = ', '.join(values[code] for code, values in zip(codes_of(description), CODES.values()))
-        yield f'{numbers(description)}: w {w}, h {h}, {values}, plane strides 4, 2, 2'
+        yield f'{numbers(description)}: w {w}, h {h}, {values}, plane strides 4, 2, 2, {window_text(window_of(description))}'
 
 
 @example('10.2')
@@ -1061,21 +1208,29 @@ def _():
         return DESCRIPTION[:place] + (code,) + DESCRIPTION[place + 1:]
     for call, given in (('frame', (12,) + DESCRIPTION), ('frame', (12,) + DESCRIPTION + (1,)), ('frame', DESCRIPTION), ('frame', (12,) + DESCRIPTION + (1, 0)),
                         ('opening', changed(5, 7)), ('opening', changed(5, 6)), ('opening', (0, 5, 4) + DESCRIPTION[3:]), ('opening', DESCRIPTION + (1,)),
-                        ('opening', DESCRIPTION + (2,)), ('opening', DESCRIPTION + (0, 0)), ('band', (0, 2, 12) + DESCRIPTION + (2,))):
+                        ('opening', DESCRIPTION + (2,)), ('opening', DESCRIPTION + (0, 0)), ('band', (0, 2, 12) + DESCRIPTION + (2,)),
+                        ('frame', (18,) + DESCRIPTION + (0, 1, 2, 6, 8)), ('frame', (18,) + DESCRIPTION + (0, 1, 2, 6)), ('frame', (18,) + DESCRIPTION + (0, 1, 2, 6, 8, 0)),
+                        ('opening', DESCRIPTION + (0, 1, 2, 6, 8)), ('opening', DESCRIPTION + (1, 2, 6, 8)), ('opening', DESCRIPTION + (2, 1, 2, 6, 8)),
+                        ('band', (0, 2, 18) + DESCRIPTION + (0, 1, 2, 6, 8)), ('band', (0, 2, 18) + DESCRIPTION + (0, 1, 2))):
         yield f'{call}, {len(given)} numbers {numbers(given)}: ' + ('1' if is_malformed(call, given) else 'not 1')
 
 
 @example('10.3')
 def _():
-    def band(given, carried):
+    def band(given, carried, length=24):
         done, m, stride = given[:3]
-        answer = (1, 0, 0) if is_malformed('band', given) else band_answer(BAND, 4, 5, done, m, (stride, 4, 2, 2), (24, 20, 6, 6), carried)
+        answer = (1, 0, 0)
+        if not is_malformed('band', given):
+            answer = band_answer(BAND, 4, 5, done, m, (stride, 4, 2, 2), (length, 20, 6, 6), carried, window_of(given[3:]))
         return f'returns {answer[0]}, tells {answer[1]}, {answer[2]}, {done if answer[0] else done + m}'
     given = (2, 2, 12) + DESCRIPTION
     yield f'band, numbers {numbers(given)}, source of 24 bytes, planes of 20, 6, 6, carried row of 12: {band(given, 12)}'
     yield f'the same, carried row of 11: {band(given, 11)}'
     yield f'the same with 1 behind, Nearest, carried row of 12: {band(given + (1,), 12)}'
     yield f'the same with 2 behind: {band(given + (2,), 12)}'
+    for more in ((0, 1, 2, 6, 8), (0, 3, 2, 6, 8)):
+        given = (2, 2, 18) + DESCRIPTION + more
+        yield f'band, numbers {numbers(given)}, source of 36 bytes, planes of 20, 6, 6, carried row of 12: {band(given, 12, 36)}'
 
 
 # ---- appendix A

@@ -53,7 +53,8 @@ static uint32_t check_request(uint64_t length, struct reference_description *fra
     frame->kr_bits = 0;
     frame->kb_bits = 0;
     frame->transfer = request[8];
-    frame->rounding = REFERENCE_TRUNCATED; /* RULES 9.1: a request has no code of it */
+    frame->rounding = REFERENCE_TRUNCATED; /* RULES 9.1: a request has no code of it, and no window */
+    reference_whole_source(frame);
     if (frame->channel_order >= REFERENCE_CHANNEL_ORDERS || frame->sampling >= REFERENCE_SAMPLINGS ||
         frame->range >= REFERENCE_RANGES || frame->matrix >= REFERENCE_CUSTOM || frame->transfer >= REFERENCE_TRANSFERS) {
         return REFERENCE_BAD_CODE;

@@ -55,13 +55,14 @@ enum {
     REFERENCE_ROUNDINGS = 2
 };
 
-/* RULES 7.1: numbers of an answer. */
+/* RULES 7.1: numbers of an answer, in the order in which they are asked. */
 enum {
     REFERENCE_ACCEPTED = 0,
     REFERENCE_BAD_CODE = 1,      /* RULES 9.2, 10.2 */
     REFERENCE_EMPTY = 2,         /* RULES 7.3 */
     REFERENCE_TOO_LARGE = 3,     /* RULES 7.3 */
     REFERENCE_BAD_MATRIX = 4,    /* RULES 7.4 */
+    REFERENCE_BAD_WINDOW = 14,   /* RULES 7.9 */
     REFERENCE_BAD_ROWS = 5,      /* RULES 8.3 */
     REFERENCE_SOURCE_LENGTH = 6, /* RULES 7.5 */
     REFERENCE_SOURCE_STRIDE = 7, /* RULES 7.5 */
@@ -73,7 +74,7 @@ enum {
     REFERENCE_SHORT_CARRIED = 13 /* RULES 8.4 */
 };
 
-/* RULES 7.3: largest width and height. */
+/* RULES 7.3: largest width and height, of a frame and of its source. */
 #define REFERENCE_LARGEST_SIDE 16384u
 
 /* RULES 3.4, 3.5: both tables of each rounding and transfer, by their codes. */
@@ -97,9 +98,13 @@ struct reference_description {
     uint32_t u_stride;
     uint32_t v_stride;
     uint32_t rounding;
+    uint32_t left; /* RULES 2.6: the window, in pixels */
+    uint32_t top;
+    uint32_t source_width;
+    uint32_t source_height;
 };
 
-/* RULES 2.1: rows of pixels, which are only read. */
+/* RULES 2.1: rows of pixels, which are only read: all rows of the source, or those of a band (RULES 8.2). */
 struct reference_source {
     const uint8_t *bytes;
     uint64_t length;
@@ -145,6 +150,9 @@ uint32_t reference_pixel_bytes(uint32_t channel_order);
 /* RULES 1.5: size of a chroma plane. */
 uint32_t reference_chroma_width(uint32_t width);
 uint32_t reference_chroma_height(uint32_t height, uint32_t sampling);
+
+/* RULES 2.6: makes the whole source the window of a frame whose width and height are set. */
+void reference_whole_source(struct reference_description *frame);
 
 /* RULES 3.4, 3.5: makes all tables. Once, before the first frame or band call. */
 void reference_make_tables(struct reference_tables *tables);

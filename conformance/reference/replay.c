@@ -66,6 +66,10 @@ static void read_description(struct reference_description *frame)
     frame->u_stride = read_number();
     frame->v_stride = read_number();
     frame->rounding = read_number();
+    frame->left = read_number();
+    frame->top = read_number();
+    frame->source_width = read_number();
+    frame->source_height = read_number();
 }
 
 /* LISTS: fills a buffer from the next block; byte i is byte i mod n of the block, which is empty for an empty buffer only. */

@@ -43,7 +43,7 @@ static void expect_answer(const char *rule, long place, uint32_t number, uint64_
     expect(rule, place, (long long)received, (long long)got.received);
 }
 
-/* A description without Custom and with plane strides; Truncated. */
+/* A description without Custom and with plane strides; Truncated, the window the whole source. */
 static struct reference_description describe(uint32_t width, uint32_t height, uint32_t order, uint32_t sampling, uint32_t range,
                                              uint32_t matrix, uint32_t transfer, const uint32_t *strides)
 {
@@ -62,7 +62,17 @@ static struct reference_description describe(uint32_t width, uint32_t height, ui
     frame.u_stride = strides[1];
     frame.v_stride = strides[2];
     frame.rounding = REFERENCE_TRUNCATED;
+    reference_whole_source(&frame);
     return frame;
+}
+
+/* RULES 2.6: gives a frame another window: left, top, width and height of the source. */
+static void set_window(struct reference_description *frame, const uint32_t *window)
+{
+    frame->left = window[0];
+    frame->top = window[1];
+    frame->source_width = window[2];
+    frame->source_height = window[3];
 }
 
 /* Leading digits and count of digits of a big number, as the examples of 3.4 and 3.5 print them. */
@@ -1080,6 +1090,354 @@ static void test_every_split(uint32_t rounding)
     }
 }
 
+/* RULES 8: a frame that comes in bands, with buffers of its own. */
+struct banded {
+    struct reference_state state;
+    uint8_t planes[3][64];
+    uint8_t carried[16];
+};
+
+/* RULES 8.1: opens a frame over planes of EE and a carried row of CC. */
+static struct reference_answer open_banded(struct banded *banded, const struct reference_description *frame)
+{
+    memset(banded->planes, 0xEE, sizeof banded->planes);
+    memset(banded->carried, 0xCC, sizeof banded->carried);
+    return reference_open(frame, &banded->state);
+}
+
+/* RULES 8.2: a band call; the planes have whole rows, and of the carried row no more is lent than the frame needs. */
+static struct reference_answer call_band(struct banded *banded, uint32_t rows, const uint8_t *bytes, uint64_t length,
+                                         uint32_t stride)
+{
+    const struct reference_description *frame = &banded->state.frame;
+    uint32_t chroma_rows = reference_chroma_height(frame->height, frame->sampling);
+    struct reference_source source;
+    struct reference_planes planes;
+    struct reference_buffer carried;
+
+    source.bytes = bytes;
+    source.length = length;
+    source.stride = stride;
+    planes.y.bytes = banded->planes[0];
+    planes.y.length = (uint64_t)frame->y_stride * frame->height;
+    planes.u.bytes = banded->planes[1];
+    planes.u.length = (uint64_t)frame->u_stride * chroma_rows;
+    planes.v.bytes = banded->planes[2];
+    planes.v.length = (uint64_t)frame->v_stride * chroma_rows;
+    carried.bytes = banded->carried;
+    carried.length = (uint64_t)frame->width * 3;
+    return reference_band(&tables, &banded->state, rows, &source, &planes, &carried);
+}
+
+/* RULES 7.1, 7.3, 7.9, 8.1: what a description with a window decides, in each of the three calls. */
+static void test_windows(void)
+{
+    static const struct {
+        uint32_t width;
+        uint32_t height;
+        uint32_t window[4];
+        uint32_t number;
+    } wanted[] = {
+        {1, 1, {0, 0, 16384, 16384}, 0},
+        {1, 1, {0, 0, 16385, 1}, 3},
+        {1, 1, {0, 0, 1, 4294967295u}, 3},
+        {0, 1, {0, 0, 0, 1}, 2},
+        {1, 1, {0, 0, 0, 1}, 14},
+        {3, 2, {2, 2, 5, 4}, 0},
+        {3, 2, {3, 2, 5, 4}, 14},
+        {3, 2, {2, 3, 5, 4}, 14},
+        {16384, 16384, {0, 0, 16384, 16384}, 0},
+        {1, 1, {16384, 0, 16384, 1}, 14},
+        {1, 1, {4294967295u, 0, 16384, 1}, 14},
+        {1, 1, {0, 4294967295u, 1, 16384}, 14},
+        {1, 1, {0, 0, 1, 0}, 14},
+        {0, 1, {4294967295u, 0, 0, 1}, 2},
+        {1, 1, {1, 0, 16384, 16385}, 3},
+        {4, 5, {1, 2, 6, 8}, 0},
+        {4, 5, {3, 2, 6, 8}, 14},
+        {4, 5, {1, 2, 6, 16385}, 3},
+        {3, 3, {1, 0, 3, 3}, 14},
+    };
+    static const uint32_t strides[3] = {0, 0, 0};
+    static const uint64_t lengths[4] = {0, 0, 0, 0};
+    struct banded banded;
+    size_t place;
+
+    for (place = 0; place < sizeof wanted / sizeof wanted[0]; place++) {
+        struct reference_description frame = describe(wanted[place].width, wanted[place].height, REFERENCE_RGB, REFERENCE_420,
+                                                      REFERENCE_LIMITED, REFERENCE_BT601, REFERENCE_SRGB, strides);
+
+        set_window(&frame, wanted[place].window);
+        expect_answer("8.1", (long)place, wanted[place].number, 0, 0, open_banded(&banded, &frame));
+        expect("8.1", (long)place, 0, banded.state.rows_done);
+        expect("8.1", (long)place, frame.left, banded.state.frame.left);
+        expect("8.1", (long)place, frame.top, banded.state.frame.top);
+        expect("8.1", (long)place, frame.source_width, banded.state.frame.source_width);
+        expect("8.1", (long)place, frame.source_height, banded.state.frame.source_height);
+        /* a band of no rows: 5 where the state is fit, and not before 14 */
+        expect_answer("7.1", (long)place, wanted[place].number == 0 ? 5 : wanted[place].number, 0, 0,
+                      call_band(&banded, 0, source_bytes, 0, 0));
+        if (wanted[place].number != 0) {
+            expect_answer("7.9", (long)place, wanted[place].number, 0, 0, call_frame(&frame, 0, lengths));
+            frame.matrix = REFERENCE_CUSTOM; /* 4 comes before 14, and after 2 and 3 */
+            frame.kr_bits = 0x3F800000u;
+            expect_answer("7.1", (long)place, wanted[place].number == 14 ? 4 : wanted[place].number, 0, 0,
+                          call_frame(&frame, 0, lengths));
+            frame.rounding = REFERENCE_ROUNDINGS; /* and 1 before all */
+            expect_answer("7.1", (long)place, 1, 0, 0, call_frame(&frame, 0, lengths));
+        }
+    }
+}
+
+/* RULES 7.5, 7.7, 8.2: lengths and strides of a source that is larger than the frame. */
+static void test_window_lengths(void)
+{
+    static const struct {
+        uint32_t width;
+        uint32_t height;
+        uint32_t window[4];
+        uint32_t strides[4]; /* source, Y, U, V */
+        uint64_t lengths[4];
+        uint32_t number;
+        uint64_t expected;
+        uint64_t received;
+    } frames[] = {
+        {4, 2, {1, 2, 6, 5}, {20, 4, 2, 2}, {97, 8, 2, 2}, 6, 98, 97},
+        {4, 2, {1, 2, 6, 5}, {17, 4, 2, 2}, {86, 8, 2, 2}, 7, 18, 17},
+        {4, 2, {1, 2, 6, 5}, {17, 4, 2, 2}, {85, 8, 2, 2}, 6, 86, 85},
+        {4, 2, {1, 2, 6, 5}, {20, 4, 2, 2}, {100, 8, 2, 2}, 0, 0, 0},
+        {5, 3, {0, 1, 6, 4}, {20, 5, 3, 3}, {78, 15, 6, 6}, 12, 80, 78},
+        {5, 3, {0, 1, 6, 4}, {20, 5, 3, 3}, {80, 15, 6, 6}, 0, 0, 0},
+    };
+    static const struct {
+        uint32_t done;
+        uint32_t rows;
+        uint32_t stride;
+        uint64_t length;
+        uint32_t number;
+        uint64_t expected;
+        uint64_t received;
+    } bands[] = {
+        {0, 2, 18, 36, 0, 0, 0},   {0, 2, 18, 35, 6, 36, 35},  {0, 2, 12, 24, 6, 30, 24},
+        {2, 2, 17, 35, 7, 18, 17}, {2, 2, 18, 54, 12, 36, 54}, {4, 1, 20, 20, 0, 0, 0},
+    };
+    static const uint32_t strides[3] = {4, 2, 2};
+    static const uint32_t window[4] = {1, 2, 6, 8};
+    struct reference_description frame;
+    struct banded banded;
+    size_t place;
+
+    for (place = 0; place < sizeof frames / sizeof frames[0]; place++) {
+        frame = describe(frames[place].width, frames[place].height, REFERENCE_RGB, REFERENCE_420, REFERENCE_LIMITED,
+                         REFERENCE_BT601, REFERENCE_SRGB, frames[place].strides + 1);
+        set_window(&frame, frames[place].window);
+        expect_answer("7.5", (long)place, frames[place].number, frames[place].expected, frames[place].received,
+                      call_frame(&frame, frames[place].strides[0], frames[place].lengths));
+    }
+    frame = describe(4, 5, REFERENCE_RGB, REFERENCE_420, REFERENCE_FULL, REFERENCE_BT601, REFERENCE_SRGB, strides);
+    set_window(&frame, window);
+    for (place = 0; place < sizeof bands / sizeof bands[0]; place++) {
+        open_banded(&banded, &frame);
+        banded.state.rows_done = bands[place].done;
+        expect_answer("8.2", (long)place, bands[place].number, bands[place].expected, bands[place].received,
+                      call_band(&banded, bands[place].rows, source_bytes, bands[place].length, bands[place].stride));
+    }
+}
+
+/* RULES 2.6: an odd rectangle, from an odd column and row on, in red and in green surroundings. */
+static void test_odd_window(void)
+{
+    enum { SIDE = 3, LARGE_SIDE = 5, ROW = LARGE_SIDE * 3 };
+    static const uint8_t pixels[SIDE][SIDE * 3] = {
+        {10, 0, 255, 20, 0, 0, 255, 255, 0},
+        {30, 0, 0, 40, 255, 0, 0, 0, 255},
+        {9, 120, 60, 200, 10, 77, 50, 60, 70},
+    };
+    static const uint8_t y[9] = {0x20, 0x06, 0xE2, 0x09, 0xA2, 0x1D, 0x50, 0x4A, 0x3A};
+    static const uint8_t u[REFERENCE_SAMPLINGS][6] = {{0xC8, 0x54, 0x6B, 0x87}, {0xEE, 0x00, 0x4E, 0xFF, 0x6B, 0x87}};
+    static const uint8_t v[REFERENCE_SAMPLINGS][6] = {{0x5C, 0x87, 0x84, 0x7A}, {0x74, 0x95, 0x57, 0x6B, 0x84, 0x7A}};
+    static const uint32_t strides[3] = {3, 2, 2};
+    static const uint32_t window[4] = {1, 1, LARGE_SIDE, LARGE_SIDE};
+    uint32_t sampling;
+    unsigned surroundings;
+    size_t place;
+
+    for (sampling = 0; sampling < REFERENCE_SAMPLINGS; sampling++) {
+        for (surroundings = 0; surroundings < 2; surroundings++) {
+            struct reference_description frame =
+                describe(SIDE, SIDE, REFERENCE_RGB, sampling, REFERENCE_FULL, REFERENCE_BT601, REFERENCE_SRGB, strides);
+            uint64_t lengths[4] = {ROW * LARGE_SIDE, 9, 0, 0};
+
+            lengths[2] = 2 * (uint64_t)reference_chroma_height(SIDE, sampling);
+            lengths[3] = lengths[2];
+            for (place = 0; place < ROW * LARGE_SIDE; place++) {
+                source_bytes[place] = place % 3 == surroundings ? 255 : 0;
+            }
+            for (place = 0; place < SIDE; place++) {
+                memcpy(source_bytes + (place + 1) * ROW + 3, pixels[place], sizeof pixels[place]);
+            }
+            set_window(&frame, window);
+            expect_answer("2.6", (long)sampling, 0, 0, 0, call_frame(&frame, ROW, lengths));
+            expect_bytes("2.6 Y", y, plane_bytes[0], (size_t)lengths[1]);
+            expect_bytes("2.6 U", u[sampling], plane_bytes[1], (size_t)lengths[2]);
+            expect_bytes("2.6 V", v[sampling], plane_bytes[2], (size_t)lengths[3]);
+        }
+    }
+}
+
+/* RULES 8.7, 8.8: the frame of 8.7 in a window, in two bands. */
+static void test_window_bands(void)
+{
+    static const uint8_t rows[3][12] = {
+        {0x77, 0x77, 0x77, 0xFF, 0x00, 0x00, 0x00, 0xFF, 0x00, 0x77, 0x77, 0x77},
+        {0x77, 0x77, 0x77, 0x00, 0x00, 0xFF, 0xFF, 0xFF, 0xFF, 0x77, 0x77, 0x77},
+        {0x77, 0x77, 0x77, 0x09, 0x78, 0x3C, 0xC8, 0x0A, 0x4D, 0x77, 0x77, 0x77},
+    };
+    static const uint8_t y[2][6] = {{0x4C, 0x96, 0xEE, 0xEE, 0xEE, 0xEE}, {0x4C, 0x96, 0x1D, 0xFF, 0x50, 0x4A}};
+    static const uint8_t u[2][2] = {{0xEE, 0xEE}, {0x74, 0x6B}};
+    static const uint8_t v[2][2] = {{0xEE, 0xEE}, {0xA3, 0x84}};
+    static const uint8_t carried[7] = {0xFF, 0x00, 0x00, 0x00, 0xFF, 0x00, 0xCC};
+    static const uint32_t strides[3] = {2, 1, 1};
+    static const uint32_t window[4] = {1, 3, 4, 7};
+    struct reference_description frame =
+        describe(2, 3, REFERENCE_RGB, REFERENCE_420, REFERENCE_FULL, REFERENCE_BT601, REFERENCE_SRGB, strides);
+    struct banded banded;
+    uint32_t band;
+
+    set_window(&frame, window);
+    expect_answer("8.7", 0, 0, 0, 0, open_banded(&banded, &frame));
+    for (band = 0; band < 2; band++) {
+        expect_answer("8.7", (long)band, 0, 0, 0, call_band(&banded, band + 1, rows[band], (band + 1) * sizeof rows[0], 12));
+        expect_bytes("8.7 Y", y[band], banded.planes[0], sizeof y[band]);
+        expect_bytes("8.7 U", u[band], banded.planes[1], sizeof u[band]);
+        expect_bytes("8.7 V", v[band], banded.planes[2], sizeof v[band]);
+        expect_bytes("8.8", carried, banded.carried, sizeof carried);
+    }
+}
+
+/* RULES 2.6: a source of 5 × 5 pixels, each row with a byte of padding. */
+enum { LARGE_WIDTH = 5, LARGE_HEIGHT = 5, LARGE_STRIDE = LARGE_WIDTH * 4 + 1, LARGE_BYTES = LARGE_STRIDE * LARGE_HEIGHT };
+
+/* RULES 2.3: whether a byte of that source enters a formula. */
+static int is_looked_at(const struct reference_description *frame, uint32_t byte)
+{
+    uint32_t pixel_bytes = reference_pixel_bytes(frame->channel_order);
+    uint32_t row = byte / LARGE_STRIDE;
+    uint32_t column = byte % LARGE_STRIDE / pixel_bytes;
+
+    return row >= frame->top && row < frame->top + frame->height && column >= frame->left &&
+           column < frame->left + frame->width && byte % LARGE_STRIDE % pixel_bytes < 3;
+}
+
+/* RULES 2.3, 2.6, 8.9: one window: frame call and every split into bands do what they do on the rectangle copied out. */
+static void test_window(const struct reference_description *frame)
+{
+    uint32_t row = frame->width * reference_pixel_bytes(frame->channel_order);
+    uint32_t chroma_rows = reference_chroma_height(frame->height, frame->sampling);
+    struct reference_description copied = *frame;
+    uint8_t large[2][LARGE_BYTES]; /* the second differs in every byte that is not looked at */
+    uint8_t copy[LARGE_BYTES];
+    uint8_t whole[3][64];
+    uint64_t lengths[4];
+    uint32_t noise = 1;
+    uint32_t byte;
+    uint32_t r;
+    unsigned source;
+    unsigned cuts;
+
+    reference_whole_source(&copied);
+    for (byte = 0; byte < LARGE_BYTES; byte++) {
+        noise = noise * 1664525u + 1013904223u;
+        large[0][byte] = (uint8_t)(noise >> 24);
+        large[1][byte] = (uint8_t)(is_looked_at(frame, byte) ? large[0][byte] : large[0][byte] ^ 0xFFu);
+    }
+    for (r = 0; r < frame->height; r++) {
+        memcpy(copy + (size_t)r * row,
+               large[0] + (size_t)(frame->top + r) * LARGE_STRIDE + (size_t)frame->left * (row / frame->width), row);
+    }
+    lengths[0] = (uint64_t)row * frame->height;
+    lengths[1] = (uint64_t)frame->y_stride * frame->height;
+    lengths[2] = (uint64_t)frame->u_stride * chroma_rows;
+    lengths[3] = (uint64_t)frame->v_stride * chroma_rows;
+    memcpy(source_bytes, copy, (size_t)lengths[0]);
+    expect_answer("2.6", 0, 0, 0, 0, call_frame(&copied, row, lengths));
+    memcpy(whole, plane_bytes, sizeof whole);
+    lengths[0] = LARGE_BYTES;
+    for (source = 0; source < 2; source++) {
+        memcpy(source_bytes, large[source], LARGE_BYTES);
+        expect_answer("2.6", (long)source, 0, 0, 0, call_frame(frame, LARGE_STRIDE, lengths));
+        expect("2.6 planes", (long)source, 0, memcmp(whole, plane_bytes, sizeof whole));
+    }
+    for (cuts = 0; cuts < 1u << (frame->height - 1); cuts++) {
+        struct banded of_copy;
+        struct banded of_large[2];
+        uint32_t first = 0;
+
+        expect_answer("8.1", (long)cuts, 0, 0, 0, open_banded(&of_copy, &copied));
+        for (source = 0; source < 2; source++) {
+            expect_answer("8.1", (long)cuts, 0, 0, 0, open_banded(&of_large[source], frame));
+        }
+        for (r = 0; r < frame->height; r++) {
+            uint32_t rows = r + 1 - first;
+
+            if (r < frame->height - 1 && (cuts >> r & 1u) == 0) {
+                continue;
+            }
+            expect_answer("8.2", (long)cuts, 0, 0, 0,
+                          call_band(&of_copy, rows, copy + (size_t)first * row, (uint64_t)rows * row, row));
+            for (source = 0; source < 2; source++) {
+                expect_answer("8.2", (long)cuts, 0, 0, 0,
+                              call_band(&of_large[source], rows, large[source] + (size_t)(frame->top + first) * LARGE_STRIDE,
+                                        (uint64_t)rows * LARGE_STRIDE, LARGE_STRIDE));
+                expect("8.5", (long)cuts, r + 1, of_large[source].state.rows_done);
+                expect("8.7", (long)cuts, 0, memcmp(of_copy.planes, of_large[source].planes, sizeof of_copy.planes));
+                expect("8.8", (long)cuts, 0, memcmp(of_copy.carried, of_large[source].carried, sizeof of_copy.carried));
+            }
+            first = r + 1;
+        }
+        expect("8.9", (long)cuts, 0, memcmp(whole, of_copy.planes, sizeof whole));
+    }
+}
+
+/* RULES 2.6, 7.9: every window of that source and those that reach past it by a pixel or two, in all orders and samplings. */
+static void test_every_window(void)
+{
+    static const uint32_t strides[3] = {6, 4, 5};
+    struct banded banded;
+    uint32_t order;
+    uint32_t sampling;
+    uint32_t left;
+    uint32_t top;
+    uint32_t width;
+    uint32_t height;
+
+    for (left = 0; left <= LARGE_WIDTH + 1; left++) {
+        for (top = 0; top <= LARGE_HEIGHT + 1; top++) {
+            for (width = 1; width <= LARGE_WIDTH + 1; width++) {
+                for (height = 1; height <= LARGE_HEIGHT + 1; height++) {
+                    struct reference_description frame =
+                        describe(width, height, REFERENCE_RGB, REFERENCE_420, REFERENCE_LIMITED, REFERENCE_BT709,
+                                 REFERENCE_SRGB, strides);
+                    uint32_t window[4] = {0, 0, LARGE_WIDTH, LARGE_HEIGHT};
+                    int inside = left + width <= LARGE_WIDTH && top + height <= LARGE_HEIGHT;
+
+                    window[0] = left;
+                    window[1] = top;
+                    set_window(&frame, window);
+                    expect_answer("7.9", (long)left, inside ? 0 : 14, 0, 0, open_banded(&banded, &frame));
+                    for (order = 0; inside && order < REFERENCE_CHANNEL_ORDERS; order++) {
+                        for (sampling = 0; sampling < REFERENCE_SAMPLINGS; sampling++) {
+                            frame.channel_order = order;
+                            frame.sampling = sampling;
+                            test_window(&frame);
+                        }
+                    }
+                }
+            }
+        }
+    }
+}
+
 /* All examples, one chapter after the other. */
 int main(void)
 {
@@ -1103,6 +1461,11 @@ int main(void)
     test_bands();
     test_every_split(REFERENCE_TRUNCATED);
     test_every_split(REFERENCE_NEAREST);
+    test_windows();
+    test_window_lengths();
+    test_odd_window();
+    test_window_bands();
+    test_every_window();
     printf("%lu comparisons, %lu differ\n", asked, differing);
     return differing == 0 ? EXIT_SUCCESS : EXIT_FAILURE;
 }
