@@ -65,8 +65,8 @@ pub record Demand1 : Type 0 where
       → Answered (rulesOfBand k) (numbersTold (k .number) (k .told)) (Kept k (doneTold (k .told)))
 
 -- ---- 2. Frames of 1 to 16,384 pixels a side, anywhere in a source of at most 16,384 a side in whole rows, with any channel order, sampling, range,
--- transfer, rounding and accepted matrix: every byte of the planes is the one that the rules name, which is that of the Rust over our stated curve tables; each table entry is the curve's, by
--- the rounding; and padding is untouched.
+-- transfer, rounding and accepted matrix: every byte of the planes is the one that the rules name, which is that of the Rust over our stated curve
+-- tables; each table entry is the curve's, by the rounding; and padding is untouched.
 
 -- RULES 7.5, 7.6, 7.7: so many whole rows of n bytes
 pub record WholeRows (n rows stride : ℕ) (buffer : List ℕ) : Type 0 where
