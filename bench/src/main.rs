@@ -124,6 +124,12 @@ impl Frame {
         segvartin::rgbx_to_sharp_yuv_with(&frame, &options, &large.source, stride, &mut self.y, &mut self.u, &mut self.v).unwrap();
     }
 
+    /// One call on the same pixels in rows that are further apart.
+    fn padded(&mut self, source: &[u8]) {
+        let (frame, stride) = (self.description(), (source.len() / self.height) as u32);
+        segvartin::rgbx_to_sharp_yuv(&frame, source, stride, &mut self.y, &mut self.u, &mut self.v).unwrap();
+    }
+
     /// The same frame in bands of so many rows.
     fn bands(&mut self, rows: usize) {
         let stride = self.stride();
@@ -203,19 +209,27 @@ fn roundings(frame: &mut Frame, turns: usize) -> [f64; 2] {
     least(frame, turns, [&Frame::ours, &Frame::nearest])
 }
 
-/// The times of a call on a rectangle copied out beforehand, of one on the same rectangle as a window, and of the copying.
-fn windows(sampling: usize) -> [f64; 3] {
+/// The times of a call on a rectangle copied out beforehand, of one on the same rectangle as a window, of one on it in rows as far apart as the
+/// window's, without a window, and of the copying.
+fn windows(sampling: usize) -> [f64; 4] {
     let large = Frame::new(Content::Noise, 3840, 2160, 0, sampling);
     let mut frame = Frame::new(Content::Noise, 1920, 1080, 0, sampling);
     frame.window(&large);
     let window = frame.planes();
     frame.copy_out(&large);
-    frame.ours();
-    assert!(frame.planes() == window, "a window leaves other planes than its rectangle copied out");
-    // the copying in turns of its own: just before a call it would leave the rectangle in the cache for it
+    let mut padded = vec![0; large.stride() * frame.height];
+    for (row, from) in padded.chunks_mut(large.stride()).zip(frame.source.chunks(frame.stride())) {
+        row[..from.len()].copy_from_slice(from);
+    }
+    for form in [&Frame::ours as &dyn Fn(&mut Frame), &|f| f.padded(&padded)] {
+        form(&mut frame);
+        assert!(frame.planes() == window, "a window leaves other planes than its rectangle copied out");
+    }
+    // the others in turns of their own: the copying just before a call would leave the rectangle in the cache for it
     let [copied, window] = least(&mut frame, TURNS, [&Frame::ours, &|f| f.window(&large)]);
+    let [_, padded] = least(&mut frame, TURNS, [&Frame::ours, &|f| f.padded(&padded)]);
     let [copying] = least(&mut frame, TURNS, [&|f: &mut Frame| f.copy_out(&large)]);
-    [copied, window, copying]
+    [copied, window, padded, copying]
 }
 
 /// Whether every figure is within its bar.
@@ -274,11 +288,11 @@ fn main() {
 
     // The call has nowhere to copy to: no heap, and a stack below 96 KiB (tests/c/stack.c). Had it copied, it would be over by the last column.
     println!("\na window of 1,920 x 1,080 in 3,840 x 2,160, Rgb, noise, ms, and over its rectangle copied out beforehand; bar: {MOST_OVER_COPIED} %");
-    println!("{:<8}{:>11}{:>9}{:>9}{:>13}", "chroma", "copied out", "window", "over", "the copying");
+    println!("{:<8}{:>11}{:>9}{:>9}{:>25}{:>13}", "chroma", "copied out", "window", "over", "as far apart, no window", "the copying");
     for sampling in 0..2 {
-        let [copied, window, copying] = windows(sampling);
+        let [copied, window, padded, copying] = windows(sampling);
         let said = bars.hold(window <= copied * (1. + MOST_OVER_COPIED / 100.));
-        println!("{:<8}{copied:>11.2}{window:>9.2}{:>7.1} %{copying:>13.2}{said}", SAMPLINGS[sampling], (window / copied - 1.) * 100.);
+        println!("{:<8}{copied:>11.2}{window:>9.2}{:>7.1} %{padded:>25.2}{copying:>13.2}{said}", SAMPLINGS[sampling], (window / copied - 1.) * 100.);
     }
 
     println!("\nother sizes, Rgb, noise, ns a pixel; least of so many turns");

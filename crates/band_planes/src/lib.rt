@@ -188,11 +188,12 @@ pub fn sharpen_band(
     let transfer = settings.transfer;
     let rounding = settings.rounding;
     let t = built_coefficients::search_forward_transform(range, matrix);
+    let rows = tables::conversion_of(frame, t);
     let linear = sharp_gamma::linear_map_table(transfer, rounding);
-    let gamma = sharp_gamma::gamma_map_table(transfer, rounding);
+    let mut gamma = [0u8; 65536];
+    sharp_gamma::gamma_map_table(transfer, rounding, &mut gamma);
     let mut sums = [0u64; 1536];
     tables::sum_tables(frame, t, &linear, &mut sums);
-    let rows = tables::conversion_of(frame, t);
     let work = Work {
         rows,
         done: band.done as usize,

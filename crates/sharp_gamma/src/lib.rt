@@ -3,6 +3,8 @@
 mod nearest; // the constants of each rounding, made by tools/tables.py
 mod truncated;
 
+ghost use mathlib.Core.Path.{_≡_};
+ghost use lib.ListN.{length};
 ghost use Rattle.sharp_gamma.specs.Entry.{TableOf, linearEntry, gammaEntry};
 ghost use Rattle.sharp_gamma.specs.FirstIndices.{FirstIndices};
 
@@ -48,11 +50,16 @@ pub fn linear_map_table(transfer: SharpYuvGammaTransfer, rounding: TableRounding
 
 // The byte for each linear value. 65,536 numbers are too many for a constant; but the byte rises
 // with the value, so the table is runs of equal bytes, and 256 first indices say where each starts.
-pub fn gamma_map_table(transfer: SharpYuvGammaTransfer, rounding: TableRounding) -> [u8; 65536]
-    ensures { λ r. ⌜ TableOf 65536 (gammaEntry transfer rounding) r ⌝ }
+// It is filled where it stands: returned by value it could be copied, 64 KiB once a call.
+pub fn gamma_map_table(
+    transfer: SharpYuvGammaTransfer,
+    rounding: TableRounding,
+    table: &mut [u8; 65536],
+)
+    requires { ⌜ length (now table) ≡ 65536 ⌝ }
+    ensures { λ _. ⌜ TableOf 65536 (gammaEntry transfer rounding) (now (table .exit)) ⌝ }
 {
     let first = first_index_table(transfer, rounding);
-    let mut table = [255u8; 65536]; // the run of 255 is the last: it stands from the start
     let mut i: usize = 0;
     for k in 0..255u8 {
         let end = first[k as usize + 1] as usize;
@@ -61,7 +68,10 @@ pub fn gamma_map_table(transfer: SharpYuvGammaTransfer, rounding: TableRounding)
             i += 1;
         }
     }
-    table
+    while i < 65536 {
+        table[i] = 255;
+        i += 1;
+    }
 }
 
 // For each byte k the first index whose gamma entry is at least k.

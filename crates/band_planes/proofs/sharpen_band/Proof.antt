@@ -33,24 +33,31 @@ module _ (t : tie.After-search-forward-transform) where
 abbrev bandBy : Band → Conversion → Band
 bandBy b rows = record { frame = rows .frame; done = b .done; rows = b .rows; stride = b .stride }
 
+conversion-of-requires : tie.Need-conversion-of-requires
+conversion-of-requires c κs = weighed c
+
+gamma-map-table-requires : tie.Need-gamma-map-table-requires
+gamma-map-table-requires c κs = length-replicate {A = ℕ} 65536 0
+
 sum-tables-requires : tie.Need-sum-tables-requires
 sum-tables-requires c κs =
-    let g = c .before .before in
-    (weighed (g .before .before), (g .before .linear-map-table .ensures, length-replicate {A = ℕ} 1536 0))
+    let l = c .before .before .before .before in
+    (weighed (l .before .before), (l .linear-map-table .ensures, length-replicate {A = ℕ} 1536 0))
 
-conversion-of-requires : tie.Need-conversion-of-requires
-conversion-of-requires c κs = weighed (c .before .before .before .before .before)
+abbrev Converted : tie.After-sum-tables → tie.After-conversion-of
+Converted c = c .before .before .before .before .before .before
 
 rows-of-requires : tie.Need-rows-of-requires
 rows-of-requires c κs =
-    let k = c .before .before .before .before .before .before .before .before in
-    let tables = k .before in
+    let tables = c .before .before .before .before .before .before .before .before in
     let g = tables .before .before .before in
-    let q = Start (g .before .before) in
+    let k = Converted tables in
+    let t = k .before in
+    let q = Start t in
     let a = q .args in
     let e = k .conversion-of .ensures in (
-      subst⁻¹ (λ (rows : Conversion). Prepared rows (tables .sum-tables .last .1 .1 .1 .0) (g .gamma-map-table .result)) e (record {
-        summed = record { converts = record { cb = refl; cr = refl; shape = shape (g .before .before) }; tables = tables .sum-tables .ensures };
+      subst⁻¹ (λ (rows : Conversion). Prepared rows (tables .sum-tables .last .1 .1 .1 .0) (g .gamma-map-table .last .1 .1 .0)) e (record {
+        summed = record { converts = record { cb = refl; cr = refl; shape = shape t }; tables = tables .sum-tables .ensures };
         corrects = g .gamma-map-table .ensures;
       }),
       (
@@ -63,8 +70,8 @@ rows-of-requires c κs =
 returns : tie.Need-returns
 returns c =
     let r = c .before .before .before .before .before .before in
-    let k = r .before .before .before .before .before .before .before .before .before in
-    let a = Start (k .before .before .before .before .before .before) .args in
+    let k = Converted (r .before .before .before .before .before .before .before .before .before) in
+    let a = Start (k .before) .args in
     subst (λ (rows : Conversion). Sharpened (rows .frame) (a .band .done) (a .band .done + a .band .rows)
     (bandImage (bandBy (a .band) rows) (a .source .now) (a .carried .now)) (a .y .now) (a .u .now) (a .v .now)
     (r .rows-of .last .1 .1 .1 .0) (r .rows-of .last .1 .1 .1 .1 .0) (r .rows-of .last .1 .1 .1 .1 .1 .0)) (k .conversion-of .ensures) (r .rows-of .ensures)
@@ -74,10 +81,10 @@ sharpen-band-spec =
     tie.close
     (tie.spec
     (λ c κs. search needs)
-    (λ c κs. search needs)
-    (λ c κs. search needs)
-    sum-tables-requires
     conversion-of-requires
+    (λ c κs. search needs)
+    gamma-map-table-requires
+    sum-tables-requires
     (λ c. search needs)
     (λ c. search needs)
     (λ c. search needs)

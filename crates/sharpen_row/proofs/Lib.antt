@@ -1,0 +1,2 @@
+-- Laws that the proofs of functions cite.
+pub mod Ahead
