@@ -804,6 +804,42 @@ def _():
             yield f'  {name:<4} {bits(x)} × 46000000 = {bits(y)}, exactly {exact(y)}: {signed(half_away(y))}'
 
 
+def exact_weights(range_, kr, kb):
+    """The nine of rule 4.6, each a fraction."""
+    ry, ruv = RANGES[range_][1:3]
+    kr, kb = Fraction(kr), Fraction(kb)
+    kg, top = 1 - kr - kb, Fraction(8192 * ruv, 510)
+    return [8192 * k * ry / 255 for k in (kr, kg, kb)] + [-top * kr / (1 - kb), -top * kg / (1 - kb), top, top, -top * kg / (1 - kr), -top * kb / (1 - kr)]
+
+
+def decimal(x, places=8):
+    digits = str(half_away(abs(x) * 10 ** places)).rjust(places + 1, '0')
+    return ('−' if x < 0 else '') + digits[:-places] + '.' + digits[-places:]
+
+
+def held(range_, kr, kb):
+    """The pair's weights and exact weights, which the bounds of rule 4.6 part."""
+    bounds = {name: Fraction(row[1 + list(RANGES).index(range_)]) for row in table('4.6') for name in row[0].split(', ')}
+    found, exact_ = weights('Custom', range_, kr, kb), exact_weights(range_, kr, kb)
+    assert all(abs(a - b) <= bounds[name] for name, a, b in zip(NAMES, found, exact_))
+    return dict(zip(NAMES, zip(found, exact_))), found
+
+
+@example('4.6')
+def _():
+    for range_, name, kr, kb in (('Limited', 'yr', '3EECC526', '3ED7A1BC'), ('Limited', 'yg', '3BF7AA40', '38F0D000'), ('Full', 'yg', '3E800001', '3D80E004'),
+                                 ('Limited', 'cr_b', '3EFFC8A7', '3EF9B253'), ('Limited', 'cb_g', '38A26FFF', '3EFF421B'), ('Full', 'cb_g', '3880AFFF', '3EFF100B')):
+        kr, kb = of_bits(kr), of_bits(kb)
+        weight, exact_ = held(range_, kr, kb)[0][name]
+        other = half_away(exact_)
+        assert other != weight
+        yield f'{pair_text(kr, kb)}, {range_}: {name} {signed(weight)}, exact {decimal(exact_)}: {decimal(abs(weight - exact_))} away; wrong, the exact one rounded: {signed(other)}'
+    for range_, pair, triple, what in (('Limited', (0.014, 0.014), 0, 'luma'), ('Limited', (0.0, 0.015), 0, 'luma'), ('Full', (0.001, 0.002), 0, 'luma'),
+                                       ('Full', (0.003, 0.003), 0, 'luma'), ('Limited', (0.001, 0.201), 1, 'Cb')):
+        kr, kb = map(f32, pair)
+        yield f'{pair_text(kr, kb)}, {range_}: {what} weights add to {signed(sum(held(range_, kr, kb)[1][3 * triple:3 * triple + 3]))}'
+
+
 @example('5.1')
 def _():
     cases = (('Bt601', 'Full', (255, 0, 0)), ('Bt601', 'Limited', (0, 255, 0)), ('Bt601', 'Limited', (0, 0, 0)), ('Bt601', 'Limited', (255, 255, 255)),
@@ -899,6 +935,41 @@ def _():
     colour = chroma_colour(s, 3, 1, lambda x, r: row[x], 1, 0)
     wrong = tuple(s.gamma[(16 * s.linear[value] + 8) // 16] for value in row[2])
     yield f'j 1, k 0: chroma colour {numbers(colour)}; through the tables it would be {numbers(wrong)}, which is wrong'
+
+
+def grey_planes(s, rows, window=None, around=None):
+    """The planes of a frame of greys, in a window with one colour around it."""
+    planes = window_planes(s, [[(grey,) * 3 for grey in row] for row in rows], window or whole(len(rows[0]), len(rows)), around)
+    expected = {0: 16, 255: 235} if s.range_ == 'Limited' else dict(zip(range(256), range(256)))
+    assert set(planes[1] + planes[2]) == {128} and all(byte == expected.get(grey, byte) for byte, grey in zip(planes[0], sum(rows, [])))
+    return planes
+
+
+@example('6.5')
+def _():
+    yield 'Srgb; planes without padding, in hexadecimal'
+    rows = [[0, 255, 255], [255, 0, 0], [0, 255, 0]]
+    yield 'Bt601, Limited, 3 × 3 pixels, black and white, by their greys: ' + '; '.join(f'row {r} {numbers(row)}' for r, row in enumerate(rows))
+    for sampling in CODES['sampling']:
+        s = Settings(sampling=sampling).weigh()
+        colour = chroma_colour(s, 3, 3, lambda x, r: (rows[r][x],) * 3, 0, 0)
+        yield f'  {sampling}: {plane_text(grey_planes(s, rows))}; chroma place j 0, k 0: colour {numbers(colour)}'
+    row = [0, 10, 128, 255]
+    yield f'4:2:0, 4 × 1 pixels, greys {numbers(row)}; what the weights of luma, cb and cr add to'
+    for matrix, range_, *pair in (('Bt601', 'Full'), ('Smpte240', 'Full'), ('Custom', 'Full', f32(0.5), 2.0 ** -14), ('Bt2020', 'Limited'),
+                                  ('Custom', 'Limited', f32(0.014), f32(0.014)), ('Custom', 'Limited', f32(0.001), f32(0.448))):
+        s = Settings('Rgb', '4:2:0', range_, matrix, 'Srgb', 'Truncated', *pair).weigh()
+        sums = numbers(sum(s.w[first:first + 3]) for first in (0, 3, 6))
+        yield f'  {pair_text(*pair) if pair else matrix}, {range_}: {sums}; {plane_text(grey_planes(s, [row]))}'
+    total = chroma_sum(s, (255,) * 3, 6)
+    yield f'  the last, Cr of 255 255 255: {product_sum((255,) * 3, s.w[6:], "128 × 8192 + 4095")} = {total}; floor({total} / 8192) = {total // 8192}'
+    s, grey, window, red = Settings(range_='Full').weigh(), 128, Window(0, 0, 2, 1), (255, 0, 0)
+    wrong = chroma(s, chroma_colour(s, 2, 1, lambda x, r: ((grey,) * 3, red)[x], 0, 0))
+    yield f'Bt601, Full, 4:2:0, source {numbers((grey,) * 3)}, {numbers(red)}, w 1, h 1, {window_text(window)}'
+    yield f'  {plane_text(grey_planes(s, [[grey]], window, red))}; wrong, with the red pixel: U and V {hexes(wrong)}'
+    of = {matrix: [luma(Settings(matrix=matrix).weigh(), (grey,) * 3) for grey in range(256)] for matrix in ('Bt601', 'Bt2020')}
+    grey = next(grey for grey in range(256) if of['Bt601'][grey] != of['Bt2020'][grey])
+    yield f'grey {grey}, Limited: ' + ', '.join(f'{matrix} luma {lumas[grey]}' for matrix, lumas in of.items())
 
 
 @example('7.1')

@@ -671,7 +671,7 @@ static void test_chroma_colours(void)
     }
 }
 
-static uint8_t source_bytes[128];
+static uint8_t source_bytes[256];
 static uint8_t plane_bytes[3][64];
 
 /* RULES 7.8: a frame call on these buffers, of which the given lengths are lent. */
@@ -1438,6 +1438,280 @@ static void test_every_window(void)
     }
 }
 
+/* RULES 6.5: numbers below a bound of at most 2^24, without order but the same in each run. */
+static uint32_t below(uint32_t bound)
+{
+    static uint32_t state = 1;
+
+    state = state * 1664525u + 1013904223u;
+    return (uint32_t)(((uint64_t)(state >> 8) * bound) >> 24);
+}
+
+/* RULES 7.4: bits of a kr or kb that is accepted: an edge, a half of 4.5 or next to it, a decimal, any number, any bits. */
+static uint32_t accepted_bits(void)
+{
+    static const uint32_t edges[] = {0, 0x80000000u, 1, 0x007FFFFFu, 0x00800000u, 0x3EFFFFFFu, 0x3F000000u};
+    uint32_t bits;
+
+    switch (below(5)) {
+    case 0:
+        return edges[below(sizeof edges / sizeof edges[0])];
+    case 1: /* an odd number of 16,384ths, whose luma weight of full range is a half before it is rounded */
+        return round_to_binary32(0, 2 * (uint64_t)below(4096) + 1, -14) + below(3) - 1;
+    case 2:
+        return divide(round_to_binary32(0, below(501), 0), round_to_binary32(0, 1000, 0));
+    case 3:
+        return round_to_binary32(0, below(0x1000000u), -25);
+    default:
+        bits = below(0x3F01u) << 16 | below(0x10000u);
+        return bits > bits_half ? bits_half : bits;
+    }
+}
+
+/* RULES 6.5: of an accepted pair, what its weights add to, and chroma and luma of every grey. */
+static void test_grey_weights(void)
+{
+    static const int32_t luma_sums[REFERENCE_RANGES][2] = {{7034, 7036}, {8191, 8193}};
+    static const uint32_t strides[3] = {1, 1, 1};
+    struct reference_description frame =
+        describe(1, 1, REFERENCE_RGB, REFERENCE_420, 0, REFERENCE_CUSTOM, REFERENCE_SRGB, strides);
+    long place;
+
+    for (place = 0; place < 20000; place++) {
+        frame.kr_bits = accepted_bits();
+        frame.kb_bits = accepted_bits();
+        for (frame.range = 0; frame.range < REFERENCE_RANGES; frame.range++) {
+            const struct range *range = &ranges[frame.range];
+            struct reference_weights w;
+            int32_t luma_sum;
+            int32_t cb_sum;
+            int32_t cr_sum;
+            long wrong = 0;
+            unsigned grey;
+
+            reference_make_weights(&frame, &w);
+            luma_sum = w.luma[0] + w.luma[1] + w.luma[2];
+            cb_sum = w.cb[0] + w.cb[1] + w.cb[2];
+            cr_sum = w.cr[0] + w.cr[1] + w.cr[2];
+            expect("6.5 luma sum", place, 1, luma_sum >= luma_sums[frame.range][0] && luma_sum <= luma_sums[frame.range][1]);
+            expect("6.5 cb sum", place, 1, cb_sum >= -1 && cb_sum <= 1);
+            expect("6.5 cr sum", place, 1, cr_sum >= -1 && cr_sum <= 1);
+            for (grey = 0; grey < 256; grey++) {
+                uint8_t colour[3];
+
+                memset(colour, (int)grey, sizeof colour);
+                wrong += chroma(w.cb, range, colour) != 128 || chroma(w.cr, range, colour) != 128 ||
+                         (frame.range == REFERENCE_FULL && luma(w.luma, range, colour) != grey) ||
+                         (frame.range == REFERENCE_LIMITED && grey == 0 && luma(w.luma, range, colour) != 16) ||
+                         (frame.range == REFERENCE_LIMITED && grey == 255 && luma(w.luma, range, colour) != 235);
+            }
+            expect("6.5 greys", place, 0, wrong);
+        }
+    }
+}
+
+/* RULES 6.5: the greys of a frame, by row and column. */
+enum { GREY_SIDE = 5 };
+
+/* RULES 6.5, 8.6: the rows of the planes that are finished after n grey rows. */
+static void expect_grey(long place, const struct reference_description *frame, uint32_t n, uint8_t greys[GREY_SIDE][GREY_SIDE],
+                        uint8_t planes[3][64])
+{
+    uint32_t columns = reference_chroma_width(frame->width);
+    uint32_t chroma_rows = finished_chroma_rows(frame, n);
+    uint32_t r;
+    uint32_t x;
+
+    for (r = 0; r < n; r++) {
+        for (x = 0; x < frame->width; x++) {
+            uint8_t grey = greys[r][x];
+            uint8_t y = planes[0][r * frame->y_stride + x];
+
+            if (frame->range == REFERENCE_FULL) {
+                expect("6.5 Y", place, grey, y);
+            } else if (grey == 0 || grey == 255) {
+                expect("6.5 Y", place, grey == 0 ? 16 : 235, y);
+            }
+        }
+    }
+    for (r = 0; r < chroma_rows; r++) {
+        for (x = 0; x < columns; x++) {
+            expect("6.5 U", place, 128, planes[1][r * frame->u_stride + x]);
+            expect("6.5 V", place, 128, planes[2][r * frame->v_stride + x]);
+        }
+    }
+}
+
+/* RULES 6.5: any pixel of one grey in a buffer, by its first byte: the three colour bytes in every channel order. */
+static uint8_t paint_grey(uint8_t *pixel)
+{
+    uint32_t choice = below(4);
+    uint8_t grey = (uint8_t)(choice == 0 ? 0u : choice == 1 ? 255u : below(256));
+
+    memset(pixel, grey, 3);
+    return grey;
+}
+
+/*
+ * RULES 6.5: a frame of greys in a source of other colours, in one call, and in bands whose rows are coloured from some row on.
+ * Sizes, strides, window, greys and cuts are any; so are kr and kb.
+ */
+static void test_grey_frame(long place, struct reference_description *frame)
+{
+    uint32_t pixel_bytes = reference_pixel_bytes(frame->channel_order);
+    uint32_t source_stride;
+    uint32_t chroma_rows;
+    uint32_t grey_rows;
+    uint8_t greys[GREY_SIDE][GREY_SIDE];
+    struct banded banded;
+    uint64_t lengths[4];
+    uint32_t r;
+    uint32_t x;
+
+    frame->width = 1 + below(GREY_SIDE);
+    frame->height = 1 + below(GREY_SIDE);
+    frame->left = below(2);
+    frame->top = below(2);
+    frame->source_width = frame->left + frame->width + below(2);
+    frame->source_height = frame->top + frame->height + below(2);
+    frame->y_stride = frame->width + below(3);
+    frame->u_stride = reference_chroma_width(frame->width) + below(3);
+    frame->v_stride = reference_chroma_width(frame->width) + below(3);
+    frame->kr_bits = accepted_bits();
+    frame->kb_bits = accepted_bits();
+    chroma_rows = reference_chroma_height(frame->height, frame->sampling);
+    source_stride = frame->source_width * pixel_bytes + below(2);
+    lengths[0] = (uint64_t)source_stride * frame->source_height;
+    lengths[1] = (uint64_t)frame->y_stride * frame->height;
+    lengths[2] = (uint64_t)frame->u_stride * chroma_rows;
+    lengths[3] = (uint64_t)frame->v_stride * chroma_rows;
+    for (x = 0; x < sizeof source_bytes; x++) {
+        source_bytes[x] = (uint8_t)below(256);
+    }
+    for (r = 0; r < frame->height; r++) {
+        for (x = 0; x < frame->width; x++) {
+            greys[r][x] = paint_grey(source_bytes + (size_t)(frame->top + r) * source_stride +
+                                     (size_t)(frame->left + x) * pixel_bytes);
+        }
+    }
+    expect_answer("6.5", place, 0, 0, 0, call_frame(frame, source_stride, lengths));
+    expect_grey(place, frame, frame->height, greys, plane_bytes);
+
+    grey_rows = below(frame->height + 1);
+    for (x = (frame->top + grey_rows) * source_stride; x < sizeof source_bytes; x++) {
+        source_bytes[x] = (uint8_t)below(256);
+    }
+    expect_answer("6.5", place, 0, 0, 0, open_banded(&banded, frame));
+    while (banded.state.rows_done < frame->height) {
+        uint32_t done = banded.state.rows_done;
+        uint32_t rows = 1 + below(frame->height - done);
+
+        expect_answer("6.5", place, 0, 0, 0,
+                      call_band(&banded, rows, source_bytes + (size_t)(frame->top + done) * source_stride,
+                                (uint64_t)rows * source_stride, source_stride));
+        expect_grey(place, frame, done + rows < grey_rows ? done + rows : grey_rows, greys, banded.planes);
+    }
+}
+
+/* RULES 6.5: such frames in every combination of settings. */
+static void test_grey_frames(void)
+{
+    enum { EACH = 5 };
+    static const uint32_t strides[3] = {1, 1, 1};
+    uint32_t settings;
+    uint32_t again;
+
+    for (settings = 0; settings < 4u * 2 * 2 * 7 * 4 * 2; settings++) {
+        struct reference_description frame =
+            describe(1, 1, settings % 4, settings / 4 % 2, settings / 8 % 2, settings / 16 % 7, settings / 112 % 4, strides);
+
+        frame.rounding = settings / 448;
+        for (again = 0; again < EACH; again++) {
+            test_grey_frame((long)settings, &frame);
+        }
+    }
+}
+
+/* RULES 6.5: the worked frames; planes without padding. */
+static void test_worked_greys(void)
+{
+    static const uint8_t greys[9] = {0, 255, 255, 255, 0, 0, 0, 255, 0};
+    static const uint8_t y[9] = {0x10, 0xEB, 0xEB, 0xEB, 0x10, 0x10, 0x10, 0xEB, 0x10};
+    static const uint8_t row[4] = {0, 10, 128, 255};
+    static const uint8_t limited[4] = {0x10, 0x19, 0x7E, 0xEB};
+    static const uint8_t no_tint[6] = {0x80, 0x80, 0x80, 0x80, 0x80, 0x80};
+    static const uint8_t grey_and_red[6] = {128, 128, 128, 255, 0, 0};
+    static const struct {
+        uint32_t matrix;
+        uint32_t range;
+        uint32_t kr;
+        uint32_t kb;
+        int32_t sums[3];
+    } wanted[] = {
+        {REFERENCE_BT601, REFERENCE_FULL, 0, 0, {8192, 0, 0}},
+        {REFERENCE_SMPTE240, REFERENCE_FULL, 0, 0, {8193, 0, 0}},
+        {REFERENCE_CUSTOM, REFERENCE_FULL, 0x3F000000u, 0x38800000u, {8193, 0, -1}},
+        {REFERENCE_BT2020, REFERENCE_LIMITED, 0, 0, {7035, 0, 0}},
+        {REFERENCE_CUSTOM, REFERENCE_LIMITED, 0x3C656042u, 0x3C656042u, {7034, 0, 0}},
+        {REFERENCE_CUSTOM, REFERENCE_LIMITED, 0x3A83126Fu, 0x3EE56042u, {7036, -1, -1}},
+    };
+    static const uint32_t strides_of_3[3] = {3, 2, 2};
+    static const uint32_t strides_of_4[3] = {4, 2, 2};
+    static const uint32_t strides_of_1[3] = {1, 1, 1};
+    static const uint32_t window[4] = {0, 0, 2, 1};
+    uint64_t lengths[4] = {27, 9, 4, 4};
+    struct reference_description frame;
+    size_t place;
+    uint32_t sampling;
+
+    for (sampling = 0; sampling < REFERENCE_SAMPLINGS; sampling++) {
+        frame = describe(3, 3, REFERENCE_RGB, sampling, REFERENCE_LIMITED, REFERENCE_BT601, REFERENCE_SRGB, strides_of_3);
+        for (place = 0; place < sizeof greys; place++) {
+            memset(source_bytes + 3 * place, greys[place], 3);
+        }
+        lengths[2] = 2 * (uint64_t)reference_chroma_height(3, sampling);
+        lengths[3] = lengths[2];
+        expect_answer("6.5", (long)sampling, 0, 0, 0, call_frame(&frame, 9, lengths));
+        expect_bytes("6.5 Y", y, plane_bytes[0], sizeof y);
+        expect_bytes("6.5 U", no_tint, plane_bytes[1], (size_t)lengths[2]);
+        expect_bytes("6.5 V", no_tint, plane_bytes[2], (size_t)lengths[3]);
+    }
+    for (place = 0; place < sizeof row; place++) {
+        memset(source_bytes + 3 * place, row[place], 3);
+    }
+    lengths[0] = 12;
+    lengths[1] = 4;
+    lengths[2] = 2;
+    lengths[3] = 2;
+    for (place = 0; place < sizeof wanted / sizeof wanted[0]; place++) {
+        struct reference_weights w;
+
+        frame = describe(4, 1, REFERENCE_RGB, REFERENCE_420, wanted[place].range, wanted[place].matrix, REFERENCE_SRGB,
+                         strides_of_4);
+        frame.kr_bits = wanted[place].kr;
+        frame.kb_bits = wanted[place].kb;
+        reference_make_weights(&frame, &w);
+        expect("6.5 luma sum", (long)place, wanted[place].sums[0], w.luma[0] + w.luma[1] + w.luma[2]);
+        expect("6.5 cb sum", (long)place, wanted[place].sums[1], w.cb[0] + w.cb[1] + w.cb[2]);
+        expect("6.5 cr sum", (long)place, wanted[place].sums[2], w.cr[0] + w.cr[1] + w.cr[2]);
+        expect_answer("6.5", (long)place, 0, 0, 0, call_frame(&frame, 12, lengths));
+        expect_bytes("6.5 Y", frame.range == REFERENCE_FULL ? row : limited, plane_bytes[0], sizeof row);
+        expect_bytes("6.5 U", no_tint, plane_bytes[1], 2);
+        expect_bytes("6.5 V", no_tint, plane_bytes[2], 2);
+    }
+    frame = describe(1, 1, REFERENCE_RGB, REFERENCE_420, REFERENCE_FULL, REFERENCE_BT601, REFERENCE_SRGB, strides_of_1);
+    set_window(&frame, window);
+    memcpy(source_bytes, grey_and_red, sizeof grey_and_red);
+    lengths[0] = 6;
+    lengths[1] = 1;
+    lengths[2] = 1;
+    lengths[3] = 1;
+    expect_answer("6.5", 10, 0, 0, 0, call_frame(&frame, 6, lengths));
+    expect_bytes("6.5 Y", no_tint, plane_bytes[0], 1);
+    expect_bytes("6.5 U", no_tint, plane_bytes[1], 1);
+    expect_bytes("6.5 V", no_tint, plane_bytes[2], 1);
+}
+
 /* All examples, one chapter after the other. */
 int main(void)
 {
@@ -1466,6 +1740,9 @@ int main(void)
     test_odd_window();
     test_window_bands();
     test_every_window();
+    test_worked_greys();
+    test_grey_weights();
+    test_grey_frames();
     printf("%lu comparisons, %lu differ\n", asked, differing);
     return differing == 0 ? EXIT_SUCCESS : EXIT_FAILURE;
 }
