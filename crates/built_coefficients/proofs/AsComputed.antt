@@ -7,24 +7,13 @@ use lib.Dec.{T}
 use lib.Ieee.{ofBits, ofInt, neg, mul, div, sub}
 use Rattle.yuv_support.specs.declared.YuvRange.{YuvRange}
 use Rattle.yuv_support.specs.declared.YuvRange.the-variants.{Limited, Full}
-use Rattle.yuv_support.specs.declared.YuvBias.{YuvBias}
 use Rattle.yuv_support.specs.declared.YuvStandardMatrix.{YuvStandardMatrix}
 use Rattle.yuv_support.specs.declared.YuvStandardMatrix.the-variants.{Bt601, Bt709, Bt2020, Smpte240, «Bt470_6», Fcc, Custom}
-use Rattle.yuv_support.specs.Matrix.{inHalf, accepted, krKb}
+use Rattle.yuv_support.specs.Matrix.{inHalf, accepted}
 use Rattle.yuv_support.proofs.Accepted.{accepted-pair}
 use Rattle.forward_transform.specs.Rounding.{roundHalfAway}
 use Rattle.forward_transform.specs.Transform.{computedWeights}
-use Rattle.built_coefficients.specs.Built.{forwardTransform}
-
--- the pair whose weights a matrix has
-abbrev pub pairOf : YuvStandardMatrix → YuvBias
-pairOf Bt601 = krKb Bt601
-pairOf Bt709 = krKb Bt709
-pairOf Bt2020 = krKb Bt2020
-pairOf Smpte240 = record { kr = krKb Smpte240 .kb; kb = krKb Smpte240 .kr }
-pairOf «Bt470_6» = krKb «Bt470_6»
-pairOf Fcc = krKb Fcc
-pairOf (Custom kr kb) = krKb (Custom kr kb)
+use Rattle.built_coefficients.specs.Built.{forwardTransform, pairOf}
 
 pub as-computed : (range : YuvRange) (matrix : YuvStandardMatrix) → forwardTransform range matrix ≡ computedWeights range (pairOf matrix)
 unfolding forwardTransform ofBits ofInt neg mul div sub roundHalfAway

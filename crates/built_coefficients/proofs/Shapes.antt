@@ -9,8 +9,8 @@ use Rattle.yuv_support.specs.Matrix.{accepted}
 use Rattle.forward_transform.specs.declared.CbCrForwardTransformI32.{CbCrForwardTransformI32}
 use Rattle.forward_transform.specs.Shape.{Shape}
 use Rattle.forward_transform.proofs.Computed.{computed-shape}
-use Rattle.built_coefficients.specs.Built.{forwardTransform}
-use Rattle.built_coefficients.proofs.AsComputed.{pairOf, as-computed, pair-accepted}
+use Rattle.built_coefficients.specs.Built.{forwardTransform, pairOf}
+use Rattle.built_coefficients.proofs.AsComputed.{as-computed, pair-accepted}
 
 pub forward-shape : (range : YuvRange) (matrix : YuvStandardMatrix) → T (accepted matrix) → Shape range (forwardTransform range matrix)
 forward-shape range matrix h =

@@ -5,6 +5,7 @@ use Prim.Native.Nat.{ℕ}
 use lib.IntN.{ℤ, pos, negℤ}
 use Rattle.yuv_support.specs.declared.YuvRange.{YuvRange}
 use Rattle.yuv_support.specs.declared.YuvRange.the-variants.{Limited, Full}
+use Rattle.yuv_support.specs.declared.YuvBias.{YuvBias}
 use Rattle.yuv_support.specs.declared.YuvStandardMatrix.{YuvStandardMatrix}
 use Rattle.yuv_support.specs.declared.YuvStandardMatrix.the-variants.{Bt601, Bt709, Bt2020, Smpte240, «Bt470_6», Fcc, Custom}
 use Rattle.yuv_support.specs.Matrix.{krKb}
@@ -87,3 +88,14 @@ orComputed Nothing computed = computed
 -- RULES 4.1, 4.3: Custom is always worked out
 unfoldable pub forwardTransform : YuvRange → YuvStandardMatrix → CbCrForwardTransformI32
 forwardTransform range matrix = orComputed (builtTransform range matrix) (computedWeights range (krKb matrix))
+
+-- RULES 4.1, 4.3: the pair whose computed weights a matrix has. It is the matrix's own, but the sets stored for Smpte240 are those of its kr and kb
+-- exchanged.
+abbrev pub pairOf : YuvStandardMatrix → YuvBias
+pairOf Bt601 = krKb Bt601
+pairOf Bt709 = krKb Bt709
+pairOf Bt2020 = krKb Bt2020
+pairOf Smpte240 = record { kr = krKb Smpte240 .kb; kb = krKb Smpte240 .kr }
+pairOf «Bt470_6» = krKb «Bt470_6»
+pairOf Fcc = krKb Fcc
+pairOf (Custom kr kb) = krKb (Custom kr kb)

@@ -95,7 +95,7 @@ taken-last a m n k h =
     ap (λ (z : ℤ). z +ℤ pos k) (+ℤ-assoc (pos a) (negℤ (pos m)) (negℤ (pos n)) ∙ +ℤ-comm (pos a) (negℤ (pos m) +ℤ negℤ (pos n)))
     ∙ taken-first m n a k h
 
-byte-times : (v n : ℕ) → v < 256 → v * n ≤ 255 * n
+pub byte-times : (v n : ℕ) → v < 256 → v * n ≤ 255 * n
 byte-times v n h = mul-le-mul-right n (omega arith)
 
 -- n is at most 255 times the sum s of the luma weights

@@ -4,12 +4,13 @@
 -- Assumes nothing.
 use mathlib.Core.Path.{_≡_, refl, sym, ap, _∙_}
 use mathlib.Core.Bool.{Bool, true, false, not}
-use Prim.Native.Nat.{ℕ, _+_, _-_, _*_, _/_, _^_, _≤_, _<_}
-use native.Mathlib.Nat.{le-of-mul-le-mul-right, div-mul-le-self, lt-div-mul-add, div-lt-iff-lt-mul, mul-le-mul, mul-le-mul-right}
+use Prim.Native.Nat.{ℕ, _+_, _-_, _*_, _/_, _^_, _≤_, _<_, min}
+use native.Mathlib.Nat.{le-of-suc-le-suc, le-of-mul-le-mul-right, div-mul-le-self, lt-div-mul-add, div-lt-iff-lt-mul, mul-le-mul, mul-le-mul-right}
 use native.Mathlib.Omega.{arith}
 use lib.IntN.{pos, negsuc, negℤ}
 use lib.Dec.{T, lit≤}
-use lib.Ieee.{Float, unlike, neg, ofBits, ofInt, mul, div}
+use lib.Pow.{pow-add}
+use lib.Ieee.{Float, neg, ofBits, ofInt, mul, div}
 use Rattle.yuv_support.specs.declared.YuvRange.{YuvRange}
 use Rattle.yuv_support.specs.declared.YuvRange.the-variants.{Limited, Full}
 use Rattle.yuv_support.specs.Range.{yuvRange}
@@ -17,10 +18,10 @@ use Rattle.forward_transform.specs.Rounding.{roundHalfAway, signed}
 use Rattle.forward_transform.specs.Transform.{_*f_, _/f_, f32, half, weight}
 use Rattle.forward_transform.specs.Small.{smallWeight}
 use Rattle.forward_transform.specs.Shape.{lumaLeast, lumaMost, chromaTop}
-use Rattle.forward_transform.proofs.Units.{perOne, Between, step}
-use Rattle.forward_transform.proofs.Operations.{times, over, times-positive}
+use Rattle.forward_transform.proofs.Units.{perOne, Between, wider}
+use Rattle.forward_transform.proofs.Operations.{times, over, times-positive, times-negative}
 use Rattle.forward_transform.proofs.Weight.{Weighed, weighed}
-use Rattle.forward_transform.proofs.Pair.{Number}
+use Rattle.forward_transform.proofs.Pair.{Number, Divisor}
 
 pub range≤ : (range : YuvRange) → (yuvRange range .«range_y» ≤ 255) × (yuvRange range .«range_uv» ≤ 255)
 range≤ Limited = (lit≤ tt, lit≤ tt)
@@ -44,21 +45,22 @@ resign {x} {s} t w h =
     zero-sign false true = refl
     zero-sign false false = refl
 
-not-negative : {x : Float} {n lo hi : ℕ} (s : Bool) → Weighed x s n lo hi → (T s → n * hi ≤ 255 * 2 ^ 21) → Weighed x false n lo hi
-not-negative true w h = resign false w (h tt)
-not-negative false w h = w
+module _ {x : Float} {n lo hi : ℕ} where
+  not-negative : (s : Bool) → Weighed x s n lo hi → (T s → n * hi ≤ 255 * 2 ^ 21) → Weighed x false n lo hi
+  not-negative true w h = resign false w (h tt)
+  not-negative false w h = w
 
-not-positive : {x : Float} {n lo hi : ℕ} (s : Bool) → Weighed x (not s) n lo hi → (T s → n * hi ≤ 255 * 2 ^ 21) → Weighed x true n lo hi
-not-positive true w h = resign true w (h tt)
-not-positive false w h = w
+  not-positive : (s : Bool) → Weighed x (not s) n lo hi → (T s → n * hi ≤ 255 * 2 ^ 21) → Weighed x true n lo hi
+  not-positive true w h = resign true w (h tt)
+  not-positive false w h = w
 
 -- ---- luma
 pub luma : {x : Float} (k : Number x) (n : ℕ) → n ≤ 255 → Weighed (x *f f32 n /f f32 255) false n (k .least) (k .most)
-luma k n n≤ = not-negative (k .sign) (weighed (k .size) (omega (arith, k .top)) n n≤) (λ t. omega (arith, mul-le-mul n≤ (k .nothing t)))
+luma k n n≤ = not-negative (k .sign) (weighed (k .size) (k .top) n n≤) (λ t. omega (arith, mul-le-mul n≤ (k .nothing t)))
 
 pub luma-weights-sum : (range : YuvRange) {x y z : Float} {a b c a' b' c' : ℕ} → let n = yuvRange range .«range_y» in
     (u : Weighed x false n a a') (v : Weighed y false n b b') (w : Weighed z false n c c')
-    → perOne ≤ a + b + c + 2 ^ 19 → a' + b' + c' ≤ perOne + 2 ^ 19 + 2
+    → perOne ≤ a + b + c + 2 ^ 19 → a' + b' + c' ≤ perOne + 2 ^ 19
     → (lumaLeast range ≤ u .size + v .size + w .size) × (u .size + v .size + w .size ≤ lumaMost range)
 luma-weights-sum Limited u v w l h = (omega (arith, u .least, v .least, w .least), omega (arith, u .most, v .most, w .most))
 luma-weights-sum Full u v w l h = (omega (arith, u .least, v .least, w .least), omega (arith, u .most, v .most, w .most))
@@ -70,59 +72,58 @@ unfolding ofInt ofBits mul div roundHalfAway
 chroma-top Limited = (refl, tt)
 chroma-top Full = (refl, tt)
 
--- ---- chroma: minus a half of x, over a d that is a half at least, but for the roundings
-pub record Divisor (d : Float) (lo hi : ℕ) : Type 0 where
-  pub size : Between d false lo hi
-  pub half : perOne ≤ 2 * lo + 2 ^ 19
-  pub half' : perOne ≤ 2 * hi
-
-minus-half : Between (neg half) true (2 ^ 39) (2 ^ 39)
+-- ---- chroma: minus a half of x
+pub minus-half : Between (neg half) true (2 ^ 39) (2 ^ 39)
 unfolding ofBits neg
 minus-half = record { mantissa = 1; exponent = negsuc 0; is = refl; size = (lit≤ tt, lit≤ tt) }
 
-times-negative : (s : Bool) → unlike true s ≡ not s
-times-negative true = refl
-times-negative false = refl
-
--- the quotient lies from least to most: half the number's ends over the divisor's
-record Ratio (x d : Float) (s : Bool) (lo hi dl dh : ℕ) : Type 0 where
-  least : ℕ
-  most : ℕ
-  size : Between (neg half *f x /f d) (not s) least most
-  top : most ≤ perOne + 2 ^ 22
-  low : lo * perOne ≤ (2 * least + 2 ^ 20) * dh
-  high : 2 * (most * dl) ≤ hi * perOne + 2 ^ 20 * dl
-
-ratio : {x d : Float} {dl dh : ℕ} (k : Number x) → Divisor d dl dh → Ratio x d (k .sign) (k .least) (k .most) dl dh
-ratio {x} {d} {dl} {dh} k v =
-    let s = k .sign in
+halved : {x : Float} (k : Number x) → Between (neg half *f x) (not (k .sign)) (k .least / 2 - 2 ^ 14) ((k .most + 1) / 2 + 2 ^ 14)
+halved k =
+    let t = k .top in
     let al = k .least / 2 in
-    let ah = k .most / 2 + 1 in
-    let y = times minus-half (k .size) (not s) (times-negative s) 0 al ah (lit≤ tt) (omega (arith, k .top)) (omega arith) (omega arith) in
-    let yl = al - step 0 in
-    let yh = ah + step 0 in
-    let l = v .half in
-    let h = v .half' in
-    let dl> : 0 < dl = omega arith in
-    let dh> : 0 < dh = omega arith in
-    let ql = yl * perOne / dh in
-    let qh = yh * perOne / dl + 1 in
-    let ql≤ = div-mul-le-self (yl * perOne) dh in
-    let ql> = lt-div-mul-add {a = yl * perOne} {b = dh} dh> in
-    let qh≤ = div-mul-le-self (yh * perOne) dl in
-    let qh> = lt-div-mul-add {a = yh * perOne} {b = dl} dl> in
-    let qh< : yh * perOne / dl < perOne + 2 ^ 21 = div-lt-iff-lt-mul dl> .1 (omega (arith, k .top)) in
-    let back : ql ≤ ql - step 1 + step 1 = omega arith in
+    let ah = (k .most + 1) / 2 in
+    wider _ _
+    (times minus-half (k .size) (not (k .sign)) (times-negative (k .sign)) 14 (2 ^ 23) al ah (lit≤ tt) (lit≤ tt) (omega arith) (omega arith) (omega arith))
+    (omega arith) (omega arith)
+
+-- ---- chroma: over d
+-- Where minus the half of x lies from lo to hi units, and d from dl to dh, the quotient lies from least to most, at most 2 ^ (j + 25).
+pub record Ratio (x d : Float) (s : Bool) (lo hi dl dh j : ℕ) : Type 0 where
+  pub least : ℕ
+  pub most : ℕ
+  pub size : Between (neg half *f x /f d) s least most
+  pub top : most ≤ 2 ^ 25 * 2 ^ j
+  pub low : lo * perOne ≤ (least + 2 ^ j + 1) * dh
+  pub high : most * dl ≤ hi * perOne + (2 ^ j + 1) * dl
+
+pub ratio : {x d : Float} {s : Bool} {lo hi dl dh : ℕ} → Between (neg half *f x) s lo hi → Divisor d dl dh
+    → (j : ℕ) → j ≤ 15 → hi * perOne ≤ 2 ^ 25 * 2 ^ j * dl → Ratio x d s lo hi dl dh j
+ratio {s = s} {lo = lo} {hi = hi} {dl = dl} {dh = dh} y v j j≤ top =
+    let dl> : 0 < dl = omega (arith, v .half) in
+    let dh> : 0 < dh = omega (arith, v .half') in
+    let ql = lo * perOne / dh in
+    let qh = (hi * perOne + (dl - 1)) / dl in
+    let ql≤ = div-mul-le-self (lo * perOne) dh in
+    let ql> = lt-div-mul-add {a = lo * perOne} {b = dh} dh> in
+    let qh≤ = div-mul-le-self (hi * perOne + (dl - 1)) dl in
+    let qh> = lt-div-mul-add {a = hi * perOne + (dl - 1)} {b = dl} dl> in
+    let qh< : qh ≤ 2 ^ 25 * 2 ^ j = le-of-suc-le-suc (div-lt-iff-lt-mul dl> .1 (omega arith)) in
+    let e = pow-add 2 j 2 in
+    let back : ql ≤ ql - 2 ^ j + 2 ^ j = omega arith in
+    let most≤ : min (qh + 2 ^ j) (2 ^ 23 * 2 ^ (j + 2)) ≤ qh + 2 ^ j = omega arith in
     record {
-      least = ql - step 1;
-      most = qh + step 1;
-      size = over y (v .size) (not s) (times-positive (not s)) 1 ql qh (lit≤ tt) (omega arith) dl> ql≤ (omega arith);
+      least = ql - 2 ^ j;
+      most = min (qh + 2 ^ j) (2 ^ 23 * 2 ^ (j + 2));
+      size = over y (v .size) s (times-positive s) j (2 ^ 23) ql qh (omega arith) (lit≤ tt) (omega arith) dl> ql≤ (omega arith);
       top = omega arith;
       low = omega (arith, mul-le-mul-right dh back);
-      high = omega arith;
+      high = omega (arith, mul-le-mul-right dl most≤);
     }
 
-chroma : {x d : Float} {dl dh : ℕ} (k : Number x) (v : Divisor d dl dh) (r : Ratio x d (k .sign) (k .least) (k .most) dl dh) (n : ℕ) → n ≤ 255
+abbrev HalfOf : (x d : Float) → Number x → ℕ → ℕ → Type 0
+HalfOf x d k dl dh = Ratio x d (not (k .sign)) (k .least / 2 - 2 ^ 14) ((k .most + 1) / 2 + 2 ^ 14) dl dh 15
+
+chroma : {x d : Float} {dl dh : ℕ} (k : Number x) (v : Divisor d dl dh) (r : HalfOf x d k dl dh) (n : ℕ) → n ≤ 255
     → Weighed (neg half *f x /f d *f f32 n /f f32 255) true n (r .least) (r .most)
 chroma {dl = dl} k v r n n≤ = not-positive (k .sign) (weighed (r .size) (r .top) n n≤) (λ t. mul-le-mul n≤ (next t))
   where
@@ -130,10 +131,25 @@ chroma {dl = dl} k v r n n≤ = not-positive (k .sign) (weighed (r .size) (r .to
     next t = le-of-mul-le-mul-right {m = r .most} {n = 2 ^ 21} {k = dl} (omega (arith, r .high, k .nothing t, v .half)) (omega (arith, v .half))
 
 chroma-weights-sum : (range : YuvRange) {x y : Float} {a b a' b' : ℕ} → let n = yuvRange range .«range_uv» in
-    (u : Weighed x true n a a') (v : Weighed y true n b b') → perOne ≤ 2 * (a + b) + 2 ^ 23 → 2 * (a' + b') ≤ perOne + 2 ^ 23
+    (u : Weighed x true n a a') (v : Weighed y true n b b') → perOne ≤ 2 * (a + b) + 2 ^ 23 → 2 * (a' + b') ≤ perOne + 2 ^ 24
     → (chromaTop range ≤ u .size + v .size + 1) × (u .size + v .size ≤ chromaTop range + 1)
 chroma-weights-sum Limited u v l h = (omega (arith, u .least, v .least), omega (arith, u .most, v .most))
 chroma-weights-sum Full u v l h = (omega (arith, u .least, v .least), omega (arith, u .most, v .most))
+
+-- two halves, from lo and lo' to hi and hi', whose doubles a and a', or b and b', add to the divisor but for 2 ^ 20
+low-sum : (lo lo' a a' least least' dh : ℕ) → lo * perOne ≤ (least + 2 ^ 15 + 1) * dh → lo' * perOne ≤ (least' + 2 ^ 15 + 1) * dh
+    → a ≤ 2 * lo + 2 ^ 16 → a' ≤ 2 * lo' + 2 ^ 16 → dh ≤ a + a' + 2 ^ 20 → perOne ≤ 2 * dh → perOne ≤ 2 * (least + least') + 2 ^ 23
+low-sum lo lo' a a' least least' dh x y p q sum large =
+    let h : perOne * dh ≤ (2 * (least + least') + 2 ^ 23) * dh = omega arith in
+    le-of-mul-le-mul-right h (omega arith)
+
+high-sum : (hi hi' b b' most most' dl : ℕ) → most * dl ≤ hi * perOne + (2 ^ 15 + 1) * dl → most' * dl ≤ hi' * perOne + (2 ^ 15 + 1) * dl
+    → 2 * hi ≤ b + 2 ^ 16 → 2 * hi' ≤ b' + 2 ^ 16 → b + b' ≤ dl + 2 ^ 20 → perOne ≤ 4 * dl → 2 * (most + most') ≤ perOne + 2 ^ 24
+high-sum hi hi' b b' most most' dl x y p q sum large =
+    let m : 2 * (most * dl) + 2 * (most' * dl) ≤ (b + b' + 2 ^ 17) * perOne + (2 ^ 17 + 4) * dl = omega (arith, x, y, p, q) in
+    let n : (b + b' + 2 ^ 17) * perOne ≤ (dl + 2 ^ 21) * perOne = mul-le-mul-right perOne (omega (arith, sum)) in
+    let h : 2 * (most + most') * dl ≤ (perOne + 2 ^ 24) * dl = omega (arith, m, n, large) in
+    le-of-mul-le-mul-right h (omega arith)
 
 -- the two negative weights, of x and of y over d, in one range
 abbrev Coefficient : YuvRange → Float → Float → Float
@@ -153,13 +169,13 @@ pub negatives : (range : YuvRange) {x y d : Float} {dl dh : ℕ} (k : Number x) 
     → dh ≤ k .least + k' .least + 2 ^ 20 → k .most + k' .most ≤ dl + 2 ^ 20 → Negatives range x y d
 negatives range {dl = dl} {dh = dh} k k' v l h =
     let n = yuvRange range .«range_uv» in
-    let r = ratio k v in
-    let r' = ratio k' v in
+    let r = ratio (halved k) v 15 (lit≤ tt) (omega (arith, v .half)) in
+    let r' = ratio (halved k') v 15 (lit≤ tt) (omega (arith, v .half)) in
     let w = chroma k v r n (range≤ range .1) in
     let w' = chroma k' v r' n (range≤ range .1) in
-    let l' : perOne * dh ≤ (2 * (r .least + r' .least) + 2 ^ 23) * dh = omega (arith, r .low, r' .low, v .half') in
-    let h' : 2 * (r .most + r' .most) * dl ≤ (perOne + 2 ^ 23) * dl = omega (arith, r .high, r' .high, v .half) in
-    let sum = chroma-weights-sum range w w' (le-of-mul-le-mul-right l' (omega (arith, v .half'))) (le-of-mul-le-mul-right h' (omega (arith, v .half))) in
+    let l' = low-sum _ _ (k .least) (k' .least) _ _ dh (r .low) (r' .low) (omega arith) (omega arith) l (v .half') in
+    let h' = high-sum _ _ (k .most) (k' .most) _ _ dl (r .high) (r' .high) (omega arith) (omega arith) h (omega (arith, v .half)) in
+    let sum = chroma-weights-sum range w w' l' h' in
     record {
       first = w .size;
       second = w' .size;

@@ -7,26 +7,19 @@ use native.Mathlib.Nat.{le-of-mul-le-mul-right, mul-le-mul, mul-le-mul-right}
 use native.Mathlib.Omega.{arith}
 use lib.IntN.{pos}
 use lib.Dec.{T, le→leb, lit≤, lit<}
-use lib.Ieee.{Float, nan, inf, fin, binary32, round, ofInt, ofBits}
-use lib.Ieee.Exact.{HasValue}
+use lib.Ieee.{Float, binary32, round, ofInt, ofBits}
 use lib.Ieee.Back.{round-whole}
 use Rattle.forward_transform.specs.Rounding.{nearestWhole, signed, roundHalfAway}
 use Rattle.forward_transform.specs.Transform.{_*f_, _/f_, f32, scale, weight}
 use Rattle.forward_transform.specs.Small.{smallWeight, small}
 use Rattle.forward_transform.proofs.Rounding.{nearest-near}
-use Rattle.forward_transform.proofs.Units.{perOne, In, Between, num, den, den-pos, step}
+use Rattle.forward_transform.proofs.Units.{perOne, In, Between, num, den, den-pos, valued}
 use Rattle.forward_transform.proofs.Operations.{times, over, times-positive}
 
 -- ---- the constants
-exact : (x : Float) (n : ℕ) → HasValue x false n 1 → Between x false (n * perOne) (n * perOne)
-exact nan n v = absurd v
-exact (inf s) n v = absurd v
-exact (fin t m e) n v =
-    record { mantissa = m; exponent = e; is = ap (λ (b : Bool). fin b m e) (v .0); size = (omega (arith, v .1), omega (arith, v .1)) }
-
-whole : (n : ℕ) → n ≤ 2 ^ 24 → Between (f32 n) false (n * perOne) (n * perOne)
+pub whole : (n : ℕ) → n ≤ 2 ^ 24 → Between (f32 n) false (n * perOne) (n * perOne)
 unfolding ofInt
-whole n h = exact (round binary32 false n 1) n (round-whole binary32 false n h)
+whole n h = valued (round binary32 false n 1) false n 1 (n * perOne) (n * perOne) (lit< tt) (round-whole binary32 false n h) (omega arith, omega arith)
 
 scale-is : Between scale false (8192 * perOne) (8192 * perOne)
 unfolding ofBits
@@ -67,15 +60,14 @@ of-scaled x {s} {a} {b} z top n lo hi l h =
       most = omega (arith, r);
     }
 
-pub weighed : {x : Float} {s : Bool} {lo hi : ℕ} → Between x s lo hi → hi ≤ perOne + 2 ^ 22 → (n : ℕ) → n ≤ 255
-    → Weighed (x *f f32 n /f f32 255) s n lo hi
+pub weighed : {x : Float} {s : Bool} {lo hi : ℕ} → Between x s lo hi → hi ≤ perOne → (n : ℕ) → n ≤ 255 → Weighed (x *f f32 n /f f32 255) s n lo hi
 weighed {x} {s} {lo} {hi} b h n n≤ =
-    let top : n * hi ≤ 255 * (perOne + 2 ^ 22) = mul-le-mul n≤ h in
-    let p = times b (whole n (omega arith)) s (times-positive s) 8 (n * lo) (n * hi) (lit≤ tt) (omega arith) (omega arith) (omega arith) in
-    let ql = (n * lo - step 8) / 255 in
-    let qh = (n * hi + step 8) / 255 + 1 in
-    let q = over p (whole 255 (lit≤ tt)) s (times-positive s) 1 ql qh (lit≤ tt) (omega arith) (lit< tt) (omega arith) (omega arith) in
-    let zl = 8192 * (ql - step 1) in
-    let zh = 8192 * (qh + step 1) in
-    let z = times q scale-is s (times-positive s) 14 zl zh (lit≤ tt) (omega arith) (omega arith) (omega arith) in
+    let top : n * hi ≤ 255 * perOne = mul-le-mul n≤ h in
+    let p = times b (whole n (omega arith)) s (times-positive s) 23 (2 ^ 23) (n * lo) (n * hi) (lit≤ tt) (lit≤ tt) (omega arith) (omega arith) (omega arith) in
+    let ql = (n * lo - 2 ^ 23) / 255 in
+    let qh = (n * hi + 2 ^ 23) / 255 + 1 in
+    let q = over p (whole 255 (lit≤ tt)) s (times-positive s) 16 (2 ^ 23) ql qh (lit≤ tt) (lit≤ tt) (omega arith) (lit< tt) (omega arith) (omega arith) in
+    let zl = 8192 * (ql - 2 ^ 16) in
+    let zh = 8192 * (qh + 2 ^ 16) in
+    let z = times q scale-is s (times-positive s) 29 (2 ^ 23) zl zh (lit≤ tt) (lit≤ tt) (omega arith) (omega arith) (omega arith) in
     of-scaled (x *f f32 n /f f32 255) z (omega arith) n lo hi (omega arith) (omega arith)
