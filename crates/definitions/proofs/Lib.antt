@@ -8,6 +8,7 @@ pub mod SameRows
 pub mod SameImages
 pub mod Bands
 pub mod Windows
+pub mod Pixel
 pub mod Inputs
 pub mod Flat
 pub mod Worked

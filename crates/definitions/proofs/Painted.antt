@@ -73,3 +73,7 @@ painted-join n k {f} {g} {d} {e} {part} inside agree size p q =
 -- the same bytes, by another name
 pub painted-like : {n : ℕ} {f g : ℕ → ℕ} {d e : List ℕ} → ((k : ℕ) → k < n → f k ≡ g k) → Painted n f d e → Painted n g d e
 painted-like s p = painted (p .size) (λ k h. painted-at p k h ∙ s k h) (painted-other p)
+
+-- what was painted is painted over
+pub painted-over : {n : ℕ} {f g : ℕ → ℕ} {d e e′ : List ℕ} → Painted n f d e → Painted n g e e′ → Painted n g d e′
+painted-over p q = painted (q .size ∙ p .size) (painted-at q) (λ k h. painted-other q k h ∙ painted-other p k h)

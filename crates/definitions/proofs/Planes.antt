@@ -7,9 +7,9 @@ use mathlib.Core.List.{List, _++_}
 use native.Mathlib.Nat.{mul-add-mod-self-right, mod-eq-of-lt, div-eq-of-lt-le, div-add-mod', add-mul, one-mul}
 use native.Mathlib.Omega.{arith}
 use native.Mathlib.Decide.{decLt}
-use borrow.Author.Tests.{ltb-true, ltb-false, lt-ltb, le-ltb, leb-true, leb-false}
+use borrow.Author.Tests.{ltb-true, ltb-false, lt-ltb, le-ltb, leb-true, leb-false, eqb-true, eqb-false}
 use borrow.Rule.Slice.PartMut.{putMid, same-len-mid}
-use lib.Dec.{ltb, leb}
+use lib.Dec.{ltb, leb, eqb}
 use lib.ListN.{length, getD, take, drop, length-take, length-drop, List·getD-append}
 use lib.Seq.{getD-append-add, getD-take, getD-drop, length-take-le, ext-getD}
 use Rattle.definitions.specs.Painted.{Painted}
@@ -17,6 +17,13 @@ use Rattle.definitions.specs.Plane.{written, PlaneIs, RowsEqual}
 
 pub below? : {P : Type 0} (a b : ℕ) → (a < b → P) → (b ≤ a → P) → P
 below? a b f g = elim (decLt a b) [ yes h ↦ f h | no h ↦ g (omega arith) ]
+
+pub equal? : {P : Type 0} (a b : ℕ) → (a ≡ b → P) → ((a ≡ b → ⊥) → P) → P
+equal? {P} a b f g = go (eqb a b) refl
+  where
+    go : (t : Bool) → eqb a b ≡ t → P
+    go true e = f (eqb-true a b e)
+    go false e = g (eqb-false a b e)
 
 -- ---- which bytes are written
 

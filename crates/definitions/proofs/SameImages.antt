@@ -12,7 +12,7 @@ use Rattle.definitions.specs.Pixel.{cbOf, crOf}
 use Rattle.definitions.specs.Row.{ofColour, cbRow, crRow}
 use Rattle.definitions.specs.Image.{Image, chromaInput, cbAt, crAt, chromaSize, finishedOf}
 use Rattle.definitions.specs.Bands.{Sharpened}
-use Rattle.definitions.proofs.SameRows.{SameColours, colour-same, luma-same, input420-same, input422-same}
+use Rattle.definitions.proofs.SameRows.{SameColours, Alike, colour-same, luma-same, input420-alike, input422-alike}
 use Rattle.definitions.proofs.Planes.{below?, plane-like}
 use Rattle.definitions.proofs.Finished.{firstRow, belowRow, between}
 
@@ -23,17 +23,16 @@ module _ (d : FrameDescription) (a b : Image) where
   abbrev below : ℕ → ℕ
   below k = belowRow (d .settings .sampling) (d .height) k
 
-  input-same : (m : YuvChromaSubsampling) (k : ℕ) → SameColours (d .width) (a (firstRow m k)) (b (firstRow m k))
-      → SameColours (d .width) (a (belowRow m (d .height) k)) (b (belowRow m (d .height) k))
-      → (j i : ℕ) → j < chromaSize d → i < 3 → chromaInput m d a k j i ≡ chromaInput m d b k j i
-  input-same Yuv420 k e f = input420-same d _ _ _ _ e f
-  input-same Yuv422 k e f = input422-same d _ _ e
+  pub input-alike : (m : YuvChromaSubsampling) (k j i i′ : ℕ) → j < chromaSize d → Alike (d .width) i i′ (a (firstRow m k)) (b (firstRow m k))
+      → Alike (d .width) i i′ (a (belowRow m (d .height) k)) (b (belowRow m (d .height) k)) → chromaInput m d a k j i ≡ chromaInput m d b k j i′
+  input-alike Yuv420 k j i i′ h e f = input420-alike d _ _ _ _ j i i′ e f h
+  input-alike Yuv422 k j i i′ h e f = input422-alike d _ _ j i i′ e h
 
   -- chroma byte j of row k, by the cb or the cr of a colour
   chroma-same : (f : ℕ → ℕ → ℕ → ℕ) (k j : ℕ) → j < chromaSize d → SameColours (d .width) (a (first k)) (b (first k))
       → SameColours (d .width) (a (below k)) (b (below k))
       → ofColour (d .settings) f (chromaInput (d .settings .sampling) d a k j) ≡ ofColour (d .settings) f (chromaInput (d .settings .sampling) d b k j)
-  chroma-same f k j l x y = colour-same (d .settings) f _ _ (λ i. input-same (d .settings .sampling) k x y j i l)
+  chroma-same f k j l x y = colour-same (d .settings) f _ _ (λ i m. input-alike (d .settings .sampling) k j i i l (λ p h. x p i h m) (λ p h. y p i h m))
 
 -- what two images have in common for the rows from `done` up to `end`
 pub record SameSeen (d : FrameDescription) (done end : ℕ) (a b : Image) : Type 0 where

@@ -20,6 +20,10 @@ use Rattle.definitions.specs.Row.{Pixels, ofColour, lumaRow, input420, i
 abbrev pub SameColours : (w : ℕ) → (a b : Pixels) → Type 0
 SameColours w a b = (x i : ℕ) → x < w → i < 3 → a x i ≡ b x i
 
+-- byte i of a pixel of one row is byte i′ of that of the other, in each of w pixels
+abbrev pub Alike : (w i i′ : ℕ) → (a b : Pixels) → Type 0
+Alike w i i′ a b = (x : ℕ) → x < w → a x i ≡ b x i′
+
 offsets : (c : YuvSourceChannels) → (rOffset c < 3) × (gOffset c < 3) × (bOffset c < 3)
 offsets Rgb = (lit< tt, lit< tt, lit< tt)
 offsets Rgba = (lit< tt, lit< tt, lit< tt)
@@ -37,27 +41,20 @@ module _ (d : FrameDescription) where
   unfolding lumaRow
   luma-same a b same x h = colour-same (d .settings) (lumaOf (d .settings)) (a x) (b x) (λ i l. same x i h l)
 
-  -- the chroma input, byte i of pixel j
-  pub input420-same : (a b below below′ : Pixels) → SameColours (d .width) a b → SameColours (d .width) below below′ → (j i : ℕ)
-      → j < chromaWidth (d .width) → i < 3
-      → input420 d a below j i ≡ input420 d b below′ j i
+  -- the chroma input j, by byte i of the pixels of one row, or by byte i′ of those of another
+  pub input420-alike : (a b below below′ : Pixels) (j i i′ : ℕ) → Alike (d .width) i i′ a b → Alike (d .width) i i′ below below′ → j < chromaWidth (d .width)
+      → input420 d a below j i ≡ input420 d b below′ j i′
   unfolding input420
-  input420-same a b below below′ e f j i h l = go (ltb (2 * j + 1) (d .width)) refl
+  input420-alike a b below below′ j i i′ e f h = go (ltb (2 * j + 1) (d .width)) refl
     where
-      go : (t : Bool) → ltb (2 * j + 1) (d .width) ≡ t → input420 d a below j i ≡ input420 d b below′ j i
-      go true r = let k : 2 * j + 1 < d .width = ltb-true _ _ r in rw (
-        e (2 * j) i (omega arith) l,
-        e (2 * j + 1) i k l,
-        f (2 * j) i (omega arith) l,
-        f
-            (2 * j + 1) i k l,
-      )
-      go false r = rw (r, e (2 * j) i (omega arith) l, f (2 * j) i (omega arith) l)
+      go : (t : Bool) → ltb (2 * j + 1) (d .width) ≡ t → input420 d a below j i ≡ input420 d b below′ j i′
+      go true r = let k : 2 * j + 1 < d .width = ltb-true _ _ r in rw (e (2 * j) (omega arith), e (2 * j + 1) k, f (2 * j) (omega arith), f (2 * j + 1) k)
+      go false r = rw (r, e (2 * j) (omega arith), f (2 * j) (omega arith))
 
-  pub input422-same : (a b : Pixels) → SameColours (d .width) a b → (j i : ℕ) → j < chromaWidth (d .width) → i < 3 → input422 d a j i ≡ input422 d b j i
+  pub input422-alike : (a b : Pixels) (j i i′ : ℕ) → Alike (d .width) i i′ a b → j < chromaWidth (d .width) → input422 d a j i ≡ input422 d b j i′
   unfolding input422
-  input422-same a b e j i h l = go (ltb (2 * j + 1) (d .width)) refl
+  input422-alike a b j i i′ e h = go (ltb (2 * j + 1) (d .width)) refl
     where
-      go : (t : Bool) → ltb (2 * j + 1) (d .width) ≡ t → input422 d a j i ≡ input422 d b j i
-      go true r = rw (e (2 * j) i (omega arith) l, e (2 * j + 1) i (ltb-true _ _ r) l)
-      go false r = rw (r, e (2 * j) i (omega arith) l)
+      go : (t : Bool) → ltb (2 * j + 1) (d .width) ≡ t → input422 d a j i ≡ input422 d b j i′
+      go true r = rw (e (2 * j) (omega arith), e (2 * j + 1) (ltb-true _ _ r))
+      go false r = rw (r, e (2 * j) (omega arith))

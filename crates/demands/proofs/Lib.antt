@@ -1,2 +1,3 @@
 -- The proofs of the demands.
 pub mod Demands
+pub mod Grey

@@ -1,17 +1,19 @@
--- The three demands, one after the other. Each cites definitions alone: the promises of the calls (`FramePost`, `OpenPost`, `BandPost`,
--- `RequestPost`, `Begins`, `FrameKept`, `OpenKept`, `BandKept`, the very predicates of their `ensures`), which hold of every call whatever it is
--- given, and the rules, rows, planes and curves that they speak of. Their proofs are `demand-1`, `demand-2` and `demand-3` of proofs/Demands.antt.
+-- The three demands, one after the other, and what else is claimed of all calls. Each cites definitions alone: the promises of the calls
+-- (`FramePost`, `OpenPost`, `BandPost`, `RequestPost`, `Begins`, `FrameKept`, `OpenKept`, `BandKept`, the very predicates of their `ensures`), which
+-- hold of every call whatever it is given, and the rules, rows, planes and curves that they speak of. Their proofs are `demand-1`, `demand-2` and
+-- `demand-3` of proofs/Demands.antt and `grey` of proofs/Grey.antt.
 -- Assumes nothing.
 use Prim.Native.Nat.{ℕ, _+_, _*_, _≤_, _<_}
 use mathlib.Core.Path.{_≡_}
 use mathlib.Core.Bool.{true}
-use mathlib.Core.List.{List}
+use mathlib.Core.List.{List, []}
 use mathlib.Core.Logic.{_↔_}
 use lib.Dec.{T}
-use lib.ListN.{length, getD, take}
+use lib.ListN.{length, getD, take, drop}
+use Rattle.yuv_support.specs.declared.YuvRange.the-variants.{Limited}
 use Rattle.yuv_support.specs.Matrix.{accepted}
 use Rattle.yuv_error.specs.declared.YuvAnswer.the-variants.{Finished}
-use Rattle.yuv_error.specs.Numbers.{Numbers, numbersOf}
+use Rattle.yuv_error.specs.Numbers.{Numbers, numbers, numbersOf}
 use Rattle.yuv_error.specs.Rules.{Rule}
 use Rattle.yuv_error.specs.Lowest.{Lowest}
 use Rattle.sharp_gamma.specs.declared.SharpYuvGammaTransfer.{SharpYuvGammaTransfer}
@@ -20,20 +22,23 @@ use Rattle.sharp_gamma.specs.Curve.{curveOf, underCurve, underInverse}
 use Rattle.sharp_gamma.specs.declared.TableRounding.{TableRounding}
 use Rattle.sharp_gamma.specs.Entry.{place, linearEntry, gammaEntry}
 use Rattle.definitions.specs.declared.FrameDescription.{FrameDescription}
-use Rattle.definitions.specs.Image.{sourceRowSize, chromaSize, chromaRows, lumaAt, cbAt, crAt}
+use Rattle.definitions.specs.Row.{pixelsOf}
+use Rattle.definitions.specs.Image.{Image, pixelSize, sourceRowSize, chromaSize, chromaRows, frameImage, lumaAt, cbAt, crAt}
 use Rattle.yuv_error.specs.Lent.{openingRules}
 use Rattle.sharp_rgba_to_yuv.specs.FrameCall.{FrameCall, rulesOf as frameRules, imageOf, FramePost, Unwritten}
 use Rattle.band_calls.specs.declared.FrameAnswer.{FrameAnswer}
 use Rattle.band_calls.specs.BandCall.{OpenPost, BandCall, rulesOf as bandRules, BandPost, Untouched}
-use Rattle.band_lists.specs.BandLists.{OthersEqual, noRows, tallyOf, none, firstCall, lastCall, Chained, After}
+use Rattle.band_lists.specs.BandLists.{OthersEqual, Fresh, AllMet, Tally, noRows, tallyOf, Accepted, none, call, firstCall, lastCall, Chained, After}
 use Rattle.band_lists.specs.BandLists as calls
 use Rattle.frame_request.specs.declared.Response.{Response}
-use Rattle.frame_request.specs.Request.{frameOf, requestRules, outputSize, answerAt, responseNumbers, RequestPost}
+use Rattle.frame_request.specs.Request.{frameOf, sourceStride, requestRules, lumaSize, outputSize, answerAt, responseNumbers, RequestPost}
 use Rattle.frame_request.specs.Reply.{firstBytes, refusalLine, reply as replyTo, Begins}
 use Rattle.segvartin.specs.Calls.{ExportedFrame, rulesOfFrame, FrameKept}
 use Rattle.segvartin.specs.Calls.{ExportedOpening, frameOfOpening, rulesOfOpening, OpenKept}
 use Rattle.segvartin.specs.Calls.{ExportedBand, rulesOfBand, Kept, BandKept}
 use Rattle.segvartin.specs.Lists.{numbersTold, doneTold, openedState, asFrame, asBands, AllKept, RefusedKept}
+use Rattle.exact_weights.specs.Near.{MatrixNear}
+use Rattle.grey.specs.Grey.{greyOf, GreyRows, LumaOfGrey, GreyPlanes}
 
 -- ---- 1. Every call answers finished work or one numbered refusal, for all sizes, strides, buffers and settings; a refusal writes no byte.
 
@@ -123,3 +128,51 @@ pub record Demand3 : Type 0 where
   -- and their accepted frame calls are among the frame calls that it speaks of
   pub linked-frames : (k : ExportedFrame) → FrameKept k → k .number ≡ 0
       → (asFrame k .answer ≡ Finished) × FramePost (asFrame k)
+
+-- ---- Grey stays grey: where R = G = B in each pixel of the rectangle, every finished chroma byte is 128, and in full range each finished luma byte is
+-- that pixel's grey; in limited range that of black is 16 and that of white 235. For every accepted call, window, transfer, rounding and matrix.
+
+-- RULES 6.5: the image of the rows of a tally, which are those of the rectangle
+abbrev pub tallyImage : FrameDescription → Tally → Image
+tallyImage d t r = pixelsOf (pixelSize d) (getD (t .rows) r [])
+
+-- RULES 6.5: the planes as the last accepted band call left them; no claim where none was accepted
+abbrev pub GreyAfter : FrameDescription → Tally → Accepted → Type 0
+GreyAfter d t none = Unit {0}
+GreyAfter d t (call j) = GreyPlanes d (t .n) (tallyImage d t) (j .y′) (j .u′) (j .v′)
+
+-- RULES 6.5
+abbrev pub GreyBands : FrameDescription → List BandCall → Type 0
+GreyBands d calls = let t = tallyOf d noRows calls in GreyRows d (t .n) (tallyImage d t) → GreyAfter d t (lastCall none calls)
+
+-- RULES 6.5
+abbrev pub GreyFrame : FrameCall → Type 0
+GreyFrame k = GreyRows (k .frame) (k .frame .height) (imageOf k) → GreyPlanes (k .frame) (k .frame .height) (imageOf k) (k .y′) (k .u′) (k .v′)
+
+-- RULES 6.5: the bytes that answer a request of the program, luma first
+abbrev pub GreyAnswer : (d : FrameDescription) → Image → (answer : ℕ → ℕ) → Type 0
+GreyAnswer d image answer =
+    ((r x : ℕ) → r < d .height → x < d .width → LumaOfGrey (d .settings .range) (greyOf (d .settings) (image r x)) (answer (r * d .width + x)))
+    × ((p : ℕ) → lumaSize d ≤ p → p < outputSize d → answer p ≡ 128)
+
+-- RULES 6.5
+pub record Grey : Type 0 where
+  pub frames : (k : FrameCall) → FramePost k → k .answer ≡ Finished → GreyFrame k
+  -- every list of band calls, under demand 3's proviso
+  pub bands : (d : FrameDescription) (opening : FrameAnswer) (calls : List BandCall)
+      → Fresh d opening → AllMet calls → Chained (opening .state) none calls → GreyBands d calls
+  -- the same for who links the library
+  pub linked-frames : (k : ExportedFrame) → FrameKept k → k .number ≡ 0 → GreyFrame (asFrame k)
+  pub linked-bands : (o : ExportedOpening) (bands : List ExportedBand) → OpenKept o → o .number ≡ 0 → AllKept bands
+      → Chained (openedState o) none (asBands bands) → GreyBands (frameOfOpening o) (asBands bands)
+  -- black and white in one frame of limited range, in every accepted matrix
+  pub black-and-white : (k : FrameCall) → FramePost k → k .answer ≡ Finished → k .frame .settings .range ≡ Limited
+      → GreyRows (k .frame) (k .frame .height) (imageOf k) → (r x : ℕ) → r < k .frame .height → x < k .frame .width
+      → let v = greyOf (k .frame .settings) (imageOf k r x) in let luma = getD (k .y′) (r * k .frame .«y_stride» + x) 0 in
+      (v ≡ 0 → luma ≡ 16) × (v ≡ 255 → luma ≡ 235)
+  -- and for the program, by the bytes that demand 1 says it writes
+  pub requests : (input : List ℕ) → Lowest (requestRules input) (numbers 0 0 0) → let d = frameOf input in
+      let image = frameImage d (sourceStride d) (drop 9 input) in
+      GreyRows d (d .height) image → GreyAnswer d image (answerAt input)
+  -- what it rests on: how near the nine weights, and the sum of each triple, are to exact ones, for every accepted matrix and every Custom pair
+  pub weights : MatrixNear

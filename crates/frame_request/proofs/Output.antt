@@ -59,17 +59,17 @@ painted-put n m f d e part size room byte p =
 -- ---- the output
 
 module _ (d : FrameDescription) (image : Image) where
-  luma-byte : (p : ℕ) → p < lumaSize d → outputAt d image p ≡ byteIn (lumaAt d image) (d .width) p
+  pub luma-byte : (p : ℕ) → p < lumaSize d → outputAt d image p ≡ byteIn (lumaAt d image) (d .width) p
   unfolding outputAt
   luma-byte p l = rw (lt-ltb p (lumaSize d) l)
 
-  cb-byte : (q : ℕ) → q < chromaSize d → outputAt d image (lumaSize d + q) ≡ byteIn (cbAt d image) (chromaWidth (d .width)) q
+  pub cb-byte : (q : ℕ) → q < chromaSize d → outputAt d image (lumaSize d + q) ≡ byteIn (cbAt d image) (chromaWidth (d .width)) q
   unfolding outputAt
   cb-byte q l =
       let at : lumaSize d + q - lumaSize d ≡ q = omega arith in
       rw (le-ltb (lumaSize d + q) (lumaSize d) (omega arith), lt-ltb (lumaSize d + q) (lumaSize d + chromaSize d) (omega arith), at)
 
-  cr-byte : (q : ℕ) → q < chromaSize d
+  pub cr-byte : (q : ℕ) → q < chromaSize d
       → outputAt d image (lumaSize d + chromaSize d + q) ≡ byteIn (crAt d image) (chromaWidth (d .width)) q
   unfolding outputAt
   cr-byte q l =

@@ -5,7 +5,6 @@
 use mathlib.Core.Path.{_≡_, refl, sym, ap, _∙_}
 use Prim.Native.Nat.{ℕ, zero, suc, _+_, _*_, _/_, _≤_, _<_}
 use native.Mathlib.Omega.{arith}
-use borrow.Author.Tests.{le-ltb}
 use lib.Dec.{lit<, lit≤}
 use lib.IntN.{ℤ, pos, negℤ, natAbs, _+ℤ_, _*ℤ_, +ℤ-assoc, +ℤ-comm}
 use Rattle.yuv_support.specs.declared.YuvSourceChannels.{YuvSourceChannels}
@@ -20,8 +19,9 @@ use Rattle.forward_transform.proofs.Signed.{size-neg}
 use Rattle.forward_transform.proofs.Sums.{Floored, luma-sum, cb-sum, cr-sum, lumaBias}
 use Rattle.definitions.specs.declared.YuvSettings.{YuvSettings}
 use Rattle.definitions.specs.declared.FrameDescription.{FrameDescription}
-use Rattle.definitions.specs.Pixel.{floorDiv, weigh, atMost, heldBetween, weightsOf, biasY, capUv, lumaOf, cbOf, crOf}
+use Rattle.definitions.specs.Pixel.{floorDiv, weigh, heldBetween, weightsOf, biasY, capUv, lumaOf, cbOf, crOf}
 use Rattle.definitions.specs.Row.{ofColour}
+use Rattle.definitions.proofs.Pixel.{at-most-is, held-is}
 use Rattle.pixel_pairs.specs.Weights.{byPlace, cbWeights, crWeights, InByte, ByteWeights}
 use Rattle.pixel_pairs.specs.Tables.{partOf, lumaPart}
 use Rattle.pixel_pairs.specs.declared.Bytes.{Bytes}
@@ -157,7 +157,7 @@ record Held (lo hi : ℕ) (z : ℤ) : Type 0 where
 floored-held : {lo hi n : ℕ} {z : ℤ} → Floored lo hi n z → Held lo hi (floorDiv z 8192)
 floored-held {lo} {hi} {n} f = record {
   byte = record { byte = n / 8192; is = rw (f .is); below = omega (arith, f .below) };
-  held = rw (f .is) (rw (le-ltb (n / 8192) lo (f .least), le-ltb hi (n / 8192) (f .most)));
+  held = held-is f;
 }
 
 abbrev AllHeld : (lo hi : ℕ) → (wr wg wb : ℤ) → Type 0
@@ -210,9 +210,6 @@ module _ (s : YuvSettings) (p : Shape (s .range) (weightsOf s)) where
 pub record Luma (n y : ℕ) : Type 0 where
   pub below : n < 2097152
   pub is : n / 8192 ≡ y
-
-at-most-is : {lo hi n : ℕ} {z : ℤ} → Floored lo hi n z → atMost hi (floorDiv z 8192) ≡ n / 8192
-at-most-is {lo} {hi} {n} f = rw (f .is) (rw (le-ltb hi (n / 8192) (f .most)))
 
 pub luma-of : (s : YuvSettings) → Shape (s .range) (weightsOf s) → (f : ℕ → ℕ) → AreBytes f
     → Luma (lumaPart s 0 (f 0) + lumaPart s 1 (f 1) + lumaPart s 2 (f 2)) (ofColour s (lumaOf s) f)

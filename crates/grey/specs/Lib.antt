@@ -1,0 +1,2 @@
+-- Grey images, and planes that are grey.
+pub mod Grey
