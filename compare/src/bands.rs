@@ -4,6 +4,7 @@
 use crate::check::{Converters, band_of, checked, frame_of};
 use crate::conditions::{self, BAND_SLIPS, Slip};
 use crate::converter::Converter;
+use crate::grey::{greys_before, greys_of, without_tint};
 use crate::request::{BandRequest, answer_text, band_text, place_text, state_text};
 use crate::sequences::{Held, MOST_CALLS, Sequence, sequences};
 use crate::stored::{Stored, digest};
@@ -78,6 +79,7 @@ fn answered(sequence: Sequence, converters: &Converters) -> Result<Answered, Str
         after,
     };
     answered.check_whole(converters)?;
+    answered.check_grey()?;
     Ok(answered)
 }
 
@@ -95,6 +97,21 @@ impl Answered {
             }
         }
         Some(state.done)
+    }
+
+    /// In a sequence that brings a whole frame, the rows finished after each accepted call are grey
+    /// while the frame's are.
+    fn check_grey(&self) -> Result<(), String> {
+        let Some(whole) = &self.sequence.whole else {
+            return Ok(());
+        };
+        for after in self.after.iter().filter(|after| after.answer.is_ok()) {
+            if let Some(rows) = greys_before(whole, after.state.done) {
+                let [y, u, v, _] = &after.held;
+                without_tint(self.sequence.group, &after.state, &rows, [y, u, v])?;
+            }
+        }
+        Ok(())
     }
 
     /// A sequence that brings a whole frame leaves the planes of the oracle's frame call.
@@ -278,6 +295,11 @@ fn complete(list: &[Answered]) -> Result<(), String> {
         .filter(|s| s.window != Window::whole(s.w, s.h))
         .map(orders)
         .collect();
+    let greys: BTreeSet<String> = (whole.iter())
+        .filter_map(|answered| answered.sequence.whole.as_ref())
+        .filter(|request| !request.is_whole() && greys_of(request).is_some())
+        .map(|request| orders(&request.opening()))
+        .collect();
     let counts = |a: &Answered| (1..=MOST_CALLS).contains(&a.sequence.calls.len());
     let short = |a: &Answered| {
         let mut calls = a.sequence.calls.iter();
@@ -315,6 +337,10 @@ fn complete(list: &[Answered]) -> Result<(), String> {
         (
             windows.len() == 8,
             "a rectangle inside its source with every order and sampling",
+        ),
+        (
+            greys.len() == 8,
+            "a grey rectangle inside its source with every order and sampling",
         ),
         (odd, "odd rows done at first"),
         (strides, "a source stride that changes"),

@@ -1,12 +1,16 @@
 //! The frame calls of the stored list, from fixed seeds.
 
 use crate::conditions::{FRAME_SLIPS, Slip};
-use crate::mistakes::{EXACT_HALVES, MISTAKES, Mistake, TABLE_MISTAKES, WINDOW_MISTAKES, convert};
+use crate::grey::{greys_of, planes};
+use crate::mistakes::{
+    EXACT_HALVES, GREY_MISTAKES, MISTAKES, Mistake, TABLE_MISTAKES, WINDOW_MISTAKES, convert,
+};
 use crate::random::{self, Random};
 use crate::request::{FrameRequest, frame_text, shapes};
 use crate::stored::repeated;
 use crate::worked::{bt601, painted};
-use model::settings::{channels_of, matrix_of, range_of, sampling_of, transfer_of};
+use model::grey::tint;
+use model::settings::{channels_of, matrix_of, range_of, rounding_of, sampling_of, transfer_of};
 use model::{
     Frame, Settings, SharpYuvGammaTransfer, TableRounding, Window, YuvChromaSubsampling, YuvRange,
     YuvSourceChannels, YuvStandardMatrix,
@@ -60,6 +64,11 @@ pub fn calls() -> Vec<Call> {
         ("window's limit", window_limits()),
         ("window's source", window_boundaries()),
         ("14 and another", outside_and_another()),
+        ("mistake", mistakes(&GREY_MISTAKES, 180)),
+        ("grey", grey_rectangles()),
+        ("black and white", black_and_white()),
+        ("grey Custom", grey_pairs()),
+        ("all greys", all_greys()),
     ];
     let mut seen = BTreeSet::new();
     let mut calls = Vec::new();
@@ -254,7 +263,12 @@ fn thought_of(mistake: Mistake) -> Option<FrameRequest> {
     }
 }
 
-/// For each mistake a frame that it converts otherwise, of one pixel where that is enough.
+fn is_of_grey(mistake: Mistake) -> bool {
+    GREY_MISTAKES.iter().any(|(other, _)| *other == mistake)
+}
+
+/// For each mistake a frame that it converts otherwise, of one pixel where that is enough. Those that
+/// give grey a tint have a grey one that does not stay grey.
 fn mistakes(list: &[(Mistake, &str)], first_kind: u64) -> Vec<Call> {
     let one = |(mistake, name): (Mistake, &str), kind: u64| {
         let found = (0..).map(|case| {
@@ -288,6 +302,12 @@ fn mistakes(list: &[(Mistake, &str)], first_kind: u64) -> Vec<Call> {
                     settings.sampling = YuvChromaSubsampling::Yuv420;
                     settings.rounding = TableRounding::Nearest;
                 }
+                Mistake::OtherDenominator | Mistake::OwnOfFull => {
+                    let (kr, kb) = random::accepted_pair(&mut random);
+                    settings.range = YuvRange::Limited;
+                    settings.matrix = YuvStandardMatrix::Custom(kr, kb);
+                }
+                Mistake::AlphaFirst => settings.channels = YuvSourceChannels::Rgba,
                 _ => settings.sampling = YuvChromaSubsampling::Yuv420,
             }
             let mut request = frame(&mut random, side, side, settings, [0; 4]);
@@ -295,10 +315,19 @@ fn mistakes(list: &[(Mistake, &str)], first_kind: u64) -> Vec<Call> {
                 // One pixel, with one around it on each side.
                 random::set_window(&mut random, &mut request, window(1, 1, 3, 3));
             }
+            if is_of_grey(mistake) {
+                random::paint_grey(&mut random, &mut request);
+            }
             request
         });
-        let caught =
-            |request: &FrameRequest| convert(mistake, request) != convert(Mistake::None, request);
+        let caught = |request: &FrameRequest| {
+            let lent = convert(mistake, request);
+            let rows = greys_of(request).filter(|_| is_of_grey(mistake));
+            match rows {
+                Some(rows) => tint(&request.opening(), &rows, planes(&lent)).is_some(),
+                None => lent != convert(Mistake::None, request),
+            }
+        };
         let request = thought_of(mistake).into_iter().chain(found).find(caught);
         call(name, request.expect("a frame that catches it"))
     };
@@ -988,6 +1017,133 @@ fn outside_and_another() -> Vec<Call> {
             place.top = place.source_height + 1;
         }
         calls.push(call(other, request));
+    }
+    calls
+}
+
+/// A grey rectangle of a coloured source, with at least a row and a column of it on each side.
+fn grey_inside(
+    random: &mut Random,
+    (w, h): (u32, u32),
+    (left, top): (u32, u32),
+    settings: Settings,
+    grey: impl Fn(u32, u32) -> u8,
+) -> FrameRequest {
+    let window = window(left, top, left + w + 1, top + h + 1);
+    let padding = some_padding(random);
+    let mut request = framed(random, (w, h), window, settings, padding);
+    request.lent[0] = random.bytes(request.lent[0].len());
+    request.paint(grey);
+    request
+}
+
+/// Every order and sampling with grey rectangles from odd and even places, all transfers, both
+/// roundings; then 4:2:2 with odd widths, whose last pixel has a coloured one beside it.
+fn grey_rectangles() -> Vec<Call> {
+    let mut calls = Vec::new();
+    for case in 0..12 {
+        let mut random = Random::new(SEED, 1_900, case);
+        let code = |n: u64| n as u8;
+        let meaning = "a code with a meaning";
+        let settings = Settings {
+            channels: channels_of(code(case % 4)).expect(meaning),
+            sampling: sampling_of(code((case / 4).min(1))).expect(meaning),
+            transfer: transfer_of(code((case + case / 4) % 4)).expect(meaning),
+            rounding: rounding_of(code(case / 2 % 2)).expect(meaning),
+            ..some_settings(&mut random)
+        };
+        let (size, why) = if case < 8 {
+            ((random.from(2, 6), random.from(2, 6)), "rectangle")
+        } else {
+            ((2 * (case as u32 - 8) + 1, 2), "odd width in 4:2:2")
+        };
+        let place = (random.from(1, 3), random.from(1, 3));
+        let greys = random.bytes(64);
+        let grey = |row: u32, column: u32| greys[(7 * row + column) as usize];
+        let request = grey_inside(&mut random, size, place, settings, grey);
+        calls.push(call(why, request));
+    }
+    calls
+}
+
+/// Black and white, mixed in squares, single pixels, rows and columns, inside a coloured source: in
+/// limited range with every named matrix, Bt601 in both samplings.
+fn black_and_white() -> Vec<Call> {
+    let mut calls = Vec::new();
+    let pattern: [(&str, fn(u32, u32) -> u32); 4] = [
+        ("squares", |row, column| row / 2 + column / 2),
+        ("single pixels", |row, column| row + column),
+        ("rows", |row, _| row),
+        ("columns", |_, column| column),
+    ];
+    for case in 0..9 {
+        let mut random = Random::new(SEED, 2_000, case);
+        let (why, bright) = pattern[case as usize % 4];
+        // Bt601 with each pattern, then the others.
+        let settings = Settings {
+            range: YuvRange::Limited,
+            matrix: matrix_of(case.saturating_sub(3) as u8).expect("a code with a meaning"),
+            sampling: sampling_of((case / 2 % 2) as u8).expect("a code with a meaning"),
+            ..some_settings(&mut random)
+        };
+        let grey = |row: u32, column: u32| 255 * (bright(row, column) % 2) as u8;
+        let request = grey_inside(&mut random, (5, 3), (1, 1), settings, grey);
+        calls.push(call(why, request));
+    }
+    calls
+}
+
+/// Pairs at the ends, and next to them, in both ranges.
+fn grey_pairs() -> Vec<Call> {
+    let (least, below) = (f32::from_bits(1), 0.5f32.next_down());
+    let mut calls = Vec::new();
+    for (case, (kr, kb)) in [
+        (0.0, 0.0),
+        (0.5, 0.0),
+        (0.0, 0.5),
+        (0.5, 0.5),
+        (-0.0, below),
+        (below, least),
+        (f32::MIN_POSITIVE, least),
+        (0.5, 2f32.powi(-14)),
+    ]
+    .into_iter()
+    .enumerate()
+    {
+        for range in [YuvRange::Limited, YuvRange::Full] {
+            let mut random = Random::new(SEED, 2_100, case as u64);
+            let settings = Settings {
+                range,
+                matrix: YuvStandardMatrix::Custom(kr, kb),
+                ..some_settings(&mut random)
+            };
+            let greys = random.bytes(12);
+            let grey = |row: u32, column: u32| match row {
+                0 => 255 * (column % 2) as u8,
+                _ => greys[(4 * row + column) as usize],
+            };
+            let request = grey_inside(&mut random, (3, 3), (1, 2), settings, grey);
+            calls.push(call(format!("{kr:?} and {kb:?}"), request));
+        }
+    }
+    calls
+}
+
+/// Every grey, with luma weights that add to one more than 8,192 and to one less than 7,036.
+fn all_greys() -> Vec<Call> {
+    use YuvChromaSubsampling::{Yuv420, Yuv422};
+    let mut calls = Vec::new();
+    for (matrix, range, sampling) in [
+        (YuvStandardMatrix::Smpte240, YuvRange::Full, Yuv422),
+        (YuvStandardMatrix::Bt2020, YuvRange::Limited, Yuv420),
+    ] {
+        let settings = Settings {
+            sampling,
+            matrix,
+            ..bt601(range)
+        };
+        let grey = |row: u32, column: u32| [(16 * row + column) as u8; 3];
+        calls.push(call("", painted(16, 16, settings, grey)));
     }
     calls
 }

@@ -5,7 +5,7 @@ use crate::converter::Converter;
 use crate::random::{self, Random};
 use crate::request::*;
 use crate::smaller;
-use model::settings::chroma_height;
+use model::bands::finished_chroma_rows as finished;
 use model::{Answer, FrameState, Window, YuvChromaSubsampling};
 use std::ops::Range;
 use std::panic::{AssertUnwindSafe, catch_unwind};
@@ -67,7 +67,7 @@ fn number(answer: &Answer) -> u8 {
     answer.map_or_else(|refusal| refusal.number, |()| 0)
 }
 
-fn equal_answers(name: &str, is: &Answer, should: &Answer) -> Result<(), String> {
+pub fn equal_answers(name: &str, is: &Answer, should: &Answer) -> Result<(), String> {
     if is == should {
         return Ok(());
     }
@@ -91,7 +91,7 @@ fn equal_states(name: &str, is: &FrameState, should: &FrameState) -> Result<(), 
 
 const LENT: [&str; 4] = ["source", "Y", "U", "V"];
 
-fn equal_bytes(name: &str, buffer: &str, is: &[u8], should: &[u8]) -> Result<(), String> {
+pub fn equal_bytes(name: &str, buffer: &str, is: &[u8], should: &[u8]) -> Result<(), String> {
     if is == should {
         return Ok(());
     }
@@ -103,7 +103,7 @@ fn equal_bytes(name: &str, buffer: &str, is: &[u8], should: &[u8]) -> Result<(),
     ))
 }
 
-fn equal_lent(name: &str, is: &Lent, should: &Lent) -> Result<(), String> {
+pub fn equal_lent(name: &str, is: &Lent, should: &Lent) -> Result<(), String> {
     for ((buffer, is), should) in LENT.iter().zip(is).zip(should) {
         equal_bytes(name, buffer, is, should)?;
     }
@@ -202,14 +202,6 @@ impl FrameRequest {
             Ok(Err(error)) => Err(format!("the rules answer 12, the Rust {error:?}")),
             _ => Ok(()),
         }
-    }
-}
-
-/// RULES 8.6: the chroma rows finished after n rows.
-fn finished(sampling: YuvChromaSubsampling, h: u32, n: u32) -> u64 {
-    match sampling {
-        YuvChromaSubsampling::Yuv420 if n < h => u64::from(n / 2),
-        sampling => chroma_height(sampling, u64::from(n)),
     }
 }
 
@@ -364,12 +356,7 @@ impl Case for Run {
     /// are those of the oracle's frame call, every other byte is as it was at first, and the state
     /// has the rows done.
     fn check(&self, converters: &Converters) -> Result<u8, String> {
-        let (answer, whole) = frame_of(&*converters[1], &self.request);
-        equal_answers(converters[1].name(), &answer, &Ok(()))?;
-        for converter in converters {
-            self.check_one(&**converter, &whole)?;
-        }
-        Ok(0)
+        self.check_with(converters, &|_, _| Ok(()))
     }
 
     fn smaller(&self) -> Vec<Run> {
@@ -395,8 +382,25 @@ impl Case for Run {
     }
 }
 
+/// What else must hold of state and buffers, as an accepted band call left them.
+type Judge<'a> = &'a dyn Fn(&str, &BandRequest) -> Result<(), String>;
+
 impl Run {
-    fn check_one(&self, converter: &dyn Converter, whole: &FrameRequest) -> Result<(), String> {
+    pub fn check_with(&self, converters: &Converters, judge: Judge) -> Result<u8, String> {
+        let (answer, whole) = frame_of(&*converters[1], &self.request);
+        equal_answers(converters[1].name(), &answer, &Ok(()))?;
+        for converter in converters {
+            self.check_one(&**converter, &whole, judge)?;
+        }
+        Ok(0)
+    }
+
+    fn check_one(
+        &self,
+        converter: &dyn Converter,
+        whole: &FrameRequest,
+        judge: Judge,
+    ) -> Result<(), String> {
         let f = &self.request.frame;
         let strides = self.request.strides();
         let Some(opened) = converter.open(&self.request.opening()) else {
@@ -436,6 +440,7 @@ impl Run {
             equal_states(name, &state, &should.state)?;
             equal_lent(name, &now.lent, &should.lent)?;
             equal_bytes(name, "carried row", &now.carried, &should.carried)?;
+            judge(name, &now)?;
         }
         if let Some(random) = &mut refused {
             refused_call(converter, random, &now)?;
@@ -542,7 +547,7 @@ impl Input {
     }
 
     /// The frame call that the input means, without its planes. None: 1.
-    fn request(&self) -> Option<FrameRequest> {
+    pub fn request(&self) -> Option<FrameRequest> {
         use model::settings::*;
         let (header, source) = self.0.split_at_checked(9)?;
         let settings = model::Settings {

@@ -97,7 +97,7 @@ impl Converter for Oracle {
     }
 
     /// Added to the Rust: band calls, a program, refusals 1, 3, 4, 5, 12, 13, 14. Of a window it has
-    /// 6 and 7 by the source's size, the others by the rectangle's; `oracle::exact::frame` says how.
+    /// 6 and 7 by the source's size, the others by the rectangle's; `on_rectangle` of the oracle says how.
     fn has(&self, number: u8) -> bool {
         matches!(number, 0 | 2 | 6..=11)
     }

@@ -6,6 +6,7 @@ mod calls;
 mod check;
 mod conditions;
 mod converter;
+mod grey;
 #[cfg(library)]
 mod library;
 mod mistakes;
@@ -19,6 +20,7 @@ mod vectors;
 mod worked;
 
 use check::{CATCHING, Case, Converters, band_of, checked, frame_of, smallest};
+use grey::{GreyFrame, GreyInput, GreyRun};
 use model::{YuvRange, YuvStandardMatrix};
 use random::Random;
 use request::{Lent, band_vector, frame_vector, program_vector};
@@ -35,8 +37,11 @@ compare --vectors ROOT | --check ROOT | --mistakes | --flat
   --frames N     random frame calls (200000)
   --calls N      random band calls on any state (60000)
   --runs N       frames cut into bands, with refused calls between them (40000)
-  --programs N   inputs of the program (20000), a fifth of them run by target/bin/frame where it is there
+  --programs N   inputs of the program (20000), a fifth of them run by target/bin/frame where it is there;
+                 a tenth as many grey ones
   --pairs N      Custom pairs whose nine weights are compared (1000000)
+  --greys N      frame calls whose rectangle is grey, small (100000)
+  --grey-runs N  frames cut into bands whose first rows are grey (20000)
   --side N       sizes to N by N (64); some are 1,920 by 1,080, some up to 16,384 long and thin;
                  four of five lie in a source that is larger by up to 18 each way, or all it may be
   --seed N       seed of all of these (1)
@@ -55,6 +60,9 @@ A mismatch is printed as the smallest request found that shows it, in the form o
 /// One in so many inputs is run by the built program too: a process takes a millisecond.
 const RUN: u64 = 5;
 
+/// One grey input is compared for so many others.
+const GREY: u64 = 10;
+
 /// Bytes of a request that --list still prints.
 const LONGEST_LISTED: usize = 10_000;
 
@@ -64,6 +72,8 @@ struct Options {
     runs: u64,
     programs: u64,
     pairs: u64,
+    greys: u64,
+    grey_runs: u64,
     side: u64,
     seed: u64,
     list: u64,
@@ -76,6 +86,8 @@ fn options() -> Option<Options> {
         runs: 40_000,
         programs: 20_000,
         pairs: 1_000_000,
+        greys: 100_000,
+        grey_runs: 20_000,
         side: 64,
         seed: 1,
         list: 0,
@@ -89,6 +101,8 @@ fn options() -> Option<Options> {
                 options.runs /= 10;
                 options.programs /= 10;
                 options.pairs /= 10;
+                options.greys /= 10;
+                options.grey_runs /= 10;
                 continue;
             }
             "--frames" => &mut options.frames,
@@ -96,6 +110,8 @@ fn options() -> Option<Options> {
             "--runs" => &mut options.runs,
             "--programs" => &mut options.programs,
             "--pairs" => &mut options.pairs,
+            "--greys" => &mut options.greys,
+            "--grey-runs" => &mut options.grey_runs,
             "--side" => &mut options.side,
             "--seed" => &mut options.seed,
             "--list" => &mut options.list,
@@ -151,17 +167,44 @@ fn main() {
     compare("frames in bands", options.runs, &converters, |case| {
         random::run(&mut Random::new(seed, 3, case), side)
     });
+    compare("grey frame calls", options.greys, &converters, |case| {
+        GreyFrame::random(&mut Random::new(seed, 6, case))
+    });
+    compare(
+        "grey frames in bands",
+        options.grey_runs,
+        &converters,
+        |case| GreyRun::random(&mut Random::new(seed, 7, case)),
+    );
+    timed(|| grey::changed(seed, &converters));
     let input = |case| random::input(&mut Random::new(seed, 4, case), side);
+    let grey_input = |case| GreyInput::random(&mut Random::new(seed, 13, case));
     compare("program inputs", options.programs, &converters, input);
+    let greys = options.programs / GREY;
+    compare("grey program inputs", greys, &converters, grey_input);
     if let Some(built) = program::Program::built() {
         let mut converters = converters;
         converters.push(Box::new(built));
         let inputs = options.programs / RUN;
         compare("inputs run by target/bin/frame", inputs, &converters, input);
+        let (kind, greys) = ("grey inputs run by it", greys / RUN);
+        compare(kind, greys, &converters, grey_input);
     } else {
         println!("target/bin/frame is not here: it was run on no input");
     }
     println!("all equal, {:.1} s", start.elapsed().as_secs_f64());
+}
+
+/// Prints what is said and how long it took; what is wrong ends the run.
+fn timed(check: impl Fn() -> Result<String, String>) {
+    let start = Instant::now();
+    match check() {
+        Ok(said) => println!("{said}, {:.1} s", start.elapsed().as_secs_f64()),
+        Err(wrong) => {
+            println!("{wrong}");
+            exit(1);
+        }
+    }
 }
 
 type OnList = fn(&Path, &Converters) -> Result<String, String>;

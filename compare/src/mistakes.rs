@@ -34,6 +34,10 @@ pub enum Mistake {
     LeftInBytes,
     LeftLost,
     TopLost,
+    OtherDenominator,
+    OwnOfFull,
+    EightBits,
+    AlphaFirst,
 }
 
 use Mistake::*;
@@ -92,6 +96,21 @@ pub const WINDOW_MISTAKES: [(Mistake, &str); 5] = [
     (TopLost, "top not applied in a frame call"),
 ];
 
+/// Mistakes that give grey a tint: weights of a chroma triple that come nowhere near adding to 0, and
+/// a fourth byte among the colours.
+pub const GREY_MISTAKES: [(Mistake, &str); 4] = [
+    (
+        OtherDenominator,
+        "Custom's Cb over 1 − kr and its Cr over 1 − kb",
+    ),
+    (
+        OwnOfFull,
+        "Custom's own weights of Cb and Cr those of Full in Limited",
+    ),
+    (EightBits, "weights in units of 1 / 256"),
+    (AlphaFirst, "alpha taken to stand first"),
+];
+
 /// The gamma entries of Rec709 whose exact values end in a half: slope × 255 × i / 65,535 is 4.5 and
 /// 13.5. No other entry of any table is at one.
 pub const EXACT_HALVES: [usize; 2] = [257, 771];
@@ -120,8 +139,9 @@ pub fn convert(mistake: Mistake, request: &FrameRequest) -> Lent {
         TopLost => (left * c, 0),
         _ => (left * c, top),
     };
+    let skipped = usize::from(mistake == AlphaFirst && c == 4);
     let rgb = |r: usize, p: usize| {
-        let pixel = &request.lent[0][(row + r) * stride + column + p * c..];
+        let pixel = &request.lent[0][(row + r) * stride + column + p * c + skipped..];
         settings.channels.offsets().map(|offset| pixel[offset])
     };
     // Where the rectangle ends: one further by a mistake, if the source has a pixel there.
@@ -173,7 +193,16 @@ impl Rules {
         if let (SumOf8192(channel), true) = (mistake, full_and_stored(settings)) {
             weights.y[channel] -= weights.y.iter().sum::<i64>() - 8_192;
         }
-        let of_weights = matches!(mistake, HalvesToEven | TiesUp | BlueBeforeRed);
+        if mistake == EightBits {
+            let eight_bits = |weight: i64| 32 * (weight as f64 / 32.0).round() as i64;
+            for triple in [&mut weights.y, &mut weights.cb, &mut weights.cr] {
+                *triple = triple.map(eight_bits);
+            }
+        }
+        let of_weights = matches!(
+            mistake,
+            HalvesToEven | TiesUp | BlueBeforeRed | OtherDenominator | OwnOfFull
+        );
         if let (true, YuvStandardMatrix::Custom(kr, kb)) = (of_weights, settings.matrix) {
             weights = custom_weights(mistake, kr, kb, settings.range);
         }
@@ -295,7 +324,14 @@ fn custom_weights(mistake: Mistake, kr: f32, kb: f32, range: YuvRange) -> Weight
         let quotient = over(times(-0.5, k), minus(1.0, own));
         over(times(quotient, range_uv), 255.0)
     };
-    let own = over(times(0.5, range_uv), 255.0);
+    let own = match mistake {
+        OwnOfFull => 0.5,
+        _ => over(times(0.5, range_uv), 255.0),
+    };
+    let (of_cb, of_cr) = match mistake {
+        OtherDenominator => (kr, kb),
+        _ => (kb, kr),
+    };
     let whole = |triple: [f32; 3]| {
         triple.map(|x| match mistake {
             HalvesToEven => times(x, 8_192.0).round_ties_even() as i64,
@@ -304,8 +340,8 @@ fn custom_weights(mistake: Mistake, kr: f32, kb: f32, range: YuvRange) -> Weight
     };
     Weights {
         y: whole([y(kr), y(kg), y(kb)]),
-        cb: whole([uv(kr, kb), uv(kg, kb), own]),
-        cr: whole([own, uv(kg, kr), uv(kb, kr)]),
+        cb: whole([uv(kr, of_cb), uv(kg, of_cb), own]),
+        cr: whole([own, uv(kg, of_cr), uv(kb, of_cr)]),
     }
 }
 

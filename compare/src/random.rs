@@ -112,6 +112,31 @@ pub fn accepted_pair(random: &mut Random) -> (f32, f32) {
     }
 }
 
+/// Any accepted float: the ends and what is next to them, subnormals, tiny ones, and any bits.
+fn any_accepted_k(random: &mut Random) -> f32 {
+    const HALF: u32 = 0x3f00_0000;
+    let below_half = f32::from_bits(HALF - random.from(0, 99));
+    let subnormal = f32::from_bits(random.from(1, 0x007f_ffff));
+    let any = f32::from_bits(random.from(0, HALF));
+    let usual = accepted_k(random);
+    random.pick(&[0.0, -0.0, 0.5, below_half, subnormal, any, usual, usual])
+}
+
+/// kr and kb of any kind that is accepted.
+pub fn any_accepted_pair(random: &mut Random) -> (f32, f32) {
+    if random.one_in(2) {
+        accepted_pair(random)
+    } else {
+        (any_accepted_k(random), any_accepted_k(random))
+    }
+}
+
+/// kr and kb of which at least one is refused.
+pub fn refused_pair(random: &mut Random) -> (f32, f32) {
+    let (good, bad) = (accepted_k(random), refused_k(random));
+    random.pick(&[(good, bad), (bad, good), (bad, bad)])
+}
+
 /// A kr or kb that is no number, or just or far outside.
 fn refused_k(random: &mut Random) -> f32 {
     let least = f32::from_bits(1);
@@ -174,7 +199,11 @@ pub fn source_bytes(random: &mut Random, length: usize) -> Vec<u8> {
 /// all of its source: the stored sequences take as many numbers of their seeds as this does.
 pub fn accepted_frame(random: &mut Random, side: u32) -> FrameRequest {
     let settings = settings(random);
-    let (w, h) = size(random, side);
+    let size = size(random, side);
+    frame_of_size(random, settings, size)
+}
+
+fn frame_of_size(random: &mut Random, settings: Settings, (w, h): (u32, u32)) -> FrameRequest {
     let shapes = shapes(w, h, (w, h), &settings);
     let strides = shapes.map(|shape| shape.row as u32 + padding(random));
     let [source, y, u, v] = [0, 1, 2, 3].map(|i| strides[i] as usize * shapes[i].rows as usize);
@@ -313,8 +342,7 @@ fn window_fault(random: &mut Random, w: u32, h: u32, window: &mut Window) {
 }
 
 fn matrix_fault(random: &mut Random, settings: &mut Settings) {
-    let (good, bad) = (accepted_k(random), refused_k(random));
-    let (kr, kb) = random.pick(&[(good, bad), (bad, good), (bad, bad)]);
+    let (kr, kb) = refused_pair(random);
     settings.matrix = YuvStandardMatrix::Custom(kr, kb);
 }
 
@@ -412,6 +440,10 @@ pub fn band_fault(random: &mut Random, request: &mut BandRequest) {
 /// A frame cut into bands at random, half of the time with refused calls between them.
 pub fn run(random: &mut Random, side: u32) -> Run {
     let request = any_frame(random, side);
+    in_bands(random, request)
+}
+
+fn in_bands(random: &mut Random, request: FrameRequest) -> Run {
     let most = if random.one_in(2) { 3 } else { request.frame.h };
     let mut bands = Vec::new();
     let mut remain = request.frame.h;
@@ -427,6 +459,92 @@ pub fn run(random: &mut Random, side: u32) -> Run {
         refused: if random.one_in(2) { random.next() } else { 0 },
         request,
     }
+}
+
+/// The greys of a rectangle, one for each of its pixels: of any kind, black and white, one grey, a
+/// slope, near each other.
+fn greys(random: &mut Random, w: u32, pixels: usize) -> Vec<u8> {
+    let base = random.next() as u8;
+    let (across, down) = (random.from(0, 9), random.from(0, 9));
+    let kind = random.below(6);
+    let mut greys = random.bytes(pixels);
+    for (grey, i) in greys.iter_mut().zip(0u32..) {
+        *grey = match kind {
+            0 | 1 => (*grey & 1) * 255,
+            2 => base,
+            3 => base.wrapping_add((i % w * across + i / w * down) as u8),
+            4 => base.wrapping_add(*grey & 3),
+            _ => *grey,
+        };
+    }
+    greys
+}
+
+/// Paints the rectangle of an accepted frame, each pixel with a grey of its own; alpha stays.
+pub fn paint_grey(random: &mut Random, request: &mut FrameRequest) {
+    let (w, h) = (request.frame.w, request.frame.h);
+    let greys = greys(random, w, (w * h) as usize);
+    request.paint(|row, column| greys[(row * w + column) as usize]);
+}
+
+/// A small accepted frame, grey, and four of five as a rectangle of a coloured source: noise, or bytes
+/// of 0 and 255. Half of the matrices are Custom.
+pub fn grey_frame(random: &mut Random) -> FrameRequest {
+    let mut settings = settings(random);
+    settings.rounding = coded(random, 2, rounding_of);
+    settings.matrix = if random.one_in(2) {
+        let (kr, kb) = any_accepted_pair(random);
+        YuvStandardMatrix::Custom(kr, kb)
+    } else {
+        coded(random, 6, matrix_of)
+    };
+    let size = match random.below(1_000) {
+        0 => random.pick(&[(1, 16_384), (16_384, 1), (2, 16_383), (16_383, 2)]),
+        1..25 => (random.from(1, 40), random.from(1, 40)),
+        _ => (random.from(1, 9), random.from(1, 9)),
+    };
+    let mut request = frame_of_size(random, settings, size);
+    if !random.one_in(5) {
+        put_in_source(random, &mut request);
+    }
+    let mut source = random.bytes(request.lent[0].len());
+    if random.one_in(2) {
+        for byte in &mut source {
+            *byte = (*byte & 1) * 255;
+        }
+    }
+    request.lent[0] = source;
+    paint_grey(random, &mut request);
+    request
+}
+
+/// A grey frame cut into bands, and how many of its rows are grey: in one of four those from a row on
+/// have random bytes.
+pub fn grey_run(random: &mut Random) -> (Run, u32) {
+    let mut request = grey_frame(random);
+    let FrameRequest { frame: f, lent } = &mut request;
+    let mut grey_rows = f.h;
+    if random.one_in(4) {
+        grey_rows = random.from(0, f.h);
+        let coloured = (f.window.top + grey_rows) as usize * f.source_stride as usize;
+        let length = lent[0].len() - coloured;
+        lent[0][coloured..].copy_from_slice(&random.bytes(length));
+    }
+    (in_bands(random, request), grey_rows)
+}
+
+/// An accepted input of the program, grey.
+pub fn grey_input(random: &mut Random) -> Input {
+    let (w, h) = (random.from(1, 24), random.from(1, 24));
+    let codes = [4, 2, 2, 6, 4].map(|count| random.below(count) as u8);
+    let c = if codes[0] == 0 || codes[0] == 3 { 3 } else { 4 };
+    let mut input = [(w as u16).to_le_bytes(), (h as u16).to_le_bytes()].concat();
+    input.extend(codes);
+    for grey in greys(random, w, (w * h) as usize) {
+        let alpha = random.next() as u8;
+        input.extend(&[grey, grey, grey, alpha][..c]);
+    }
+    Input(input)
 }
 
 /// Input of the program, one of three with a fault.

@@ -109,6 +109,17 @@ impl FrameRequest {
         &self.source_row(r)[self.columns()]
     }
 
+    /// Paints the rectangle of an accepted frame, with the grey of each row and column; alpha stays.
+    pub fn paint(&mut self, grey: impl Fn(u32, u32) -> u8) {
+        let f = &self.frame;
+        let (c, start) = (f.settings.channels.bytes() as usize, self.columns().start);
+        for (row, column) in (0..f.h).flat_map(|row| (0..f.w).map(move |column| (row, column))) {
+            let row_start = (f.window.top + row) as usize * f.source_stride as usize;
+            let pixel = row_start + start + column as usize * c;
+            self.lent[0][pixel..pixel + 3].fill(grey(row, column));
+        }
+    }
+
     /// The state of the frame's opening.
     pub fn opening(&self) -> FrameState {
         let f = &self.frame;

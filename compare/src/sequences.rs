@@ -6,7 +6,9 @@ use crate::random::{self, Random};
 use crate::request::{BandRequest, FrameRequest, Lent};
 use crate::stored::repeated;
 use model::settings::{channels_of, matrix_of, range_of, sampling_of, transfer_of};
-use model::{FrameState, Settings, TableRounding, Window, YuvChromaSubsampling, YuvStandardMatrix};
+use model::{
+    FrameState, Settings, TableRounding, Window, YuvChromaSubsampling, YuvRange, YuvStandardMatrix,
+};
 
 const SEED: u64 = 2;
 
@@ -114,6 +116,28 @@ pub fn sequences() -> Vec<Sequence> {
     for case in 0..8 {
         list.push(window_refused(case));
     }
+    // Every order and sampling in single rows.
+    for case in 136..144 {
+        list.push(cuts("grey cuts", case, custom_ends, grey_in_source));
+    }
+    for (case, faults) in [
+        (24, &FAULTS[..]),
+        (9, &OTHER_WINDOW[..]),
+        (34, &FORGED[..]),
+        (36, &OTHER_WINDOW[..]),
+    ] {
+        let (group, frame) = ("grey refused between", grey_in_source);
+        list.push(refused_between(group, case, 9, custom_ends, frame, faults));
+    }
+    // In bands of two, of three and of any number of rows.
+    for case in [145, 155, 166] {
+        list.push(cuts(
+            "black and white",
+            case,
+            bt601_limited,
+            black_and_white,
+        ));
+    }
     for sequence in &mut list {
         for buffer in &mut sequence.held {
             *buffer = repeated(buffer, HELD);
@@ -153,6 +177,31 @@ fn either(random: &mut Random, case: u64) -> Settings {
     Settings {
         rounding,
         ..settings(random, case)
+    }
+}
+
+/// The same with either tables, every other matrix Custom with kr and kb at the ends or next to them.
+fn custom_ends(random: &mut Random, case: u64) -> Settings {
+    let settings = either(random, case);
+    let (least, below) = (f32::from_bits(1), 0.5f32.next_down());
+    let mut end = || random.pick(&[0.0, 0.5, 0.0, 0.5, -0.0, below, least]);
+    let custom = YuvStandardMatrix::Custom(end(), end());
+    Settings {
+        matrix: if case % 2 == 0 {
+            custom
+        } else {
+            settings.matrix
+        },
+        ..settings
+    }
+}
+
+/// The same with either tables, Bt601 and limited range.
+fn bt601_limited(random: &mut Random, case: u64) -> Settings {
+    Settings {
+        range: YuvRange::Limited,
+        matrix: YuvStandardMatrix::Bt601,
+        ..either(random, case)
     }
 }
 
@@ -214,6 +263,23 @@ fn in_source(random: &mut Random, settings: Settings, h: u32) -> (FrameRequest, 
         source_height: top + h + bottom,
     };
     random::set_window(random, &mut request, window);
+    (request, held)
+}
+
+/// A grey rectangle, each pixel its own grey, of a source of noise.
+fn grey_in_source(random: &mut Random, settings: Settings, h: u32) -> (FrameRequest, Held) {
+    let (mut request, held) = in_source(random, settings, h);
+    request.lent[0] = random.bytes(request.lent[0].len());
+    let greys = random.bytes(12 * 12);
+    request.paint(|row, column| greys[(12 * row + column) as usize]);
+    (request, held)
+}
+
+/// The same in black and white.
+fn black_and_white(random: &mut Random, settings: Settings, h: u32) -> (FrameRequest, Held) {
+    let (mut request, held) = grey_in_source(random, settings, h);
+    let greys = random.bytes(12 * 12);
+    request.paint(|row, column| 255 * (greys[(12 * row + column) as usize] & 1));
     (request, held)
 }
 

@@ -4,7 +4,8 @@
 use crate::calls::{Call, calls};
 use crate::check::{Converters, checked, frame_of};
 use crate::conditions::{FRAME_SLIPS, of_frame_with};
-use crate::mistakes::{MISTAKES, Mistake, TABLE_MISTAKES, WINDOW_MISTAKES, convert};
+use crate::grey::{greys_of, planes, without_tint};
+use crate::mistakes::{GREY_MISTAKES, MISTAKES, Mistake, TABLE_MISTAKES, WINDOW_MISTAKES, convert};
 use crate::request::{FrameRequest, Lent, answer_text, frame_combination, frame_text, place_text};
 use crate::stored::{Stored, digest};
 use model::{Answer, Frame, TableRounding};
@@ -24,7 +25,8 @@ struct Vector {
     by: &'static str,
 }
 
-/// Model and Rust are compared on every call; Err: what differs, or is missing.
+/// Model and Rust are compared on every call, and grey frames held to stay grey; Err: what differs, or
+/// is missing.
 fn vectors(converters: &Converters) -> Result<Vec<Vector>, String> {
     let mut vectors = Vec::new();
     for call in calls() {
@@ -37,6 +39,10 @@ fn vectors(converters: &Converters) -> Result<Vec<Vector>, String> {
         let converter = answering.expect("the model has every answer");
         let (answer, after) = frame_of(&**converter, &call.request);
         let by = converter.name();
+        if let Some(rows) = (number == 0).then(|| greys_of(&call.request)).flatten() {
+            let opening = call.request.opening();
+            without_tint(by, &opening, &rows, planes(&after.lent))?;
+        }
         vectors.push(Vector {
             call,
             answer,
@@ -96,13 +102,18 @@ fn complete(vectors: &[Vector]) -> Result<(), String> {
         let (channels, sampling) = (frame.settings.channels, frame.settings.sampling);
         format!("{channels:?} {sampling:?} {} {}", frame.w % 2, frame.h % 2)
     };
-    let windows: BTreeSet<String> = (vectors.iter())
-        .filter(|vector| number(vector) == 0 && !vector.call.request.is_whole())
-        .map(|vector| {
-            let s = &vector.call.request.frame.settings;
-            format!("{:?} {:?}", s.channels, s.sampling)
-        })
-        .collect();
+    let ways = |of: &dyn Fn(&FrameRequest) -> bool| {
+        let requests = (vectors.iter())
+            .filter(|vector| number(vector) == 0)
+            .map(|vector| &vector.call.request);
+        let settings = requests
+            .filter(|request| !request.is_whole() && of(request))
+            .map(|request| &request.frame.settings);
+        let ways: BTreeSet<String> = settings
+            .map(|s| format!("{:?} {:?}", s.channels, s.sampling))
+            .collect();
+        ways.len()
+    };
     for (has, what) in [
         (
             truncated.len() == 448,
@@ -125,8 +136,12 @@ fn complete(vectors: &[Vector]) -> Result<(), String> {
             "every answer",
         ),
         (
-            windows.len() == 8,
+            ways(&|_| true) == 8,
             "a rectangle inside its source with every order and sampling",
+        ),
+        (
+            ways(&|request| greys_of(request).is_some()) == 8,
+            "a grey rectangle inside its source with every order and sampling",
         ),
         (short, "buffers that the replaying program can lend"),
         (vectors.len() >= 300, "300 calls"),
@@ -167,7 +182,7 @@ fn mistake_lines(vectors: &[Vector]) -> Result<Vec<String>, String> {
         Ok(())
     };
     let mistakes = MISTAKES.into_iter().chain(TABLE_MISTAKES);
-    for (mistake, name) in mistakes.chain(WINDOW_MISTAKES) {
+    for (mistake, name) in mistakes.chain(WINDOW_MISTAKES).chain(GREY_MISTAKES) {
         line(name, caught(mistake))?;
     }
     for (slip, name) in FRAME_SLIPS {

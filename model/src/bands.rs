@@ -5,8 +5,16 @@ use crate::refusals::{
     Answer, Lent, Refusal, carried_row, memory, refuse_if, size_matrix_and_window,
 };
 use crate::row::{Row, Rules};
-use crate::settings::{Settings, YuvChromaSubsampling, plane_rows};
+use crate::settings::{Settings, YuvChromaSubsampling, chroma_height, plane_rows};
 use crate::window::Window;
+
+/// RULES 8.6: the chroma rows finished after n rows of a frame.
+pub fn finished_chroma_rows(sampling: YuvChromaSubsampling, h: u32, n: u32) -> u64 {
+    match sampling {
+        YuvChromaSubsampling::Yuv420 if n < h => u64::from(n / 2),
+        sampling => chroma_height(sampling, u64::from(n)),
+    }
+}
 
 /// What the opening fixes, and the rows done. Plain numbers, so a caller can make one up.
 #[derive(Clone, Copy, Debug, PartialEq)]

@@ -11,6 +11,7 @@
 pub mod bands;
 pub mod curves;
 pub mod frame;
+pub mod grey;
 pub mod matrix;
 pub mod program;
 pub mod refusals;

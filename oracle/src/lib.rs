@@ -1,7 +1,7 @@
 //! Calls the three copies of the Rust with the model's types.
 #![forbid(unsafe_code)]
 
-use model::{Refusal, SharpYuvGammaTransfer, TableRounding};
+use model::{Refusal, SharpYuvGammaTransfer, TableRounding, Window};
 
 /// A table entry of the unaltered Rust that is not the exact one. The Rust truncates, and so does
 /// what it is held to.
@@ -289,19 +289,72 @@ calls_of!(unaltered, yuvutils_unaltered);
 calls_of!(truncated, yuvutils_truncated);
 calls_of!(nearest, yuvutils_nearest);
 
+/// A copy's call.
+type Call = fn(&model::Frame, &[u8], &mut [u8], &mut [u8], &mut [u8]) -> Result<(), RustError>;
+
+/// Where the frame is all of its source, the Rust's own call. Else the Rust, which has no window, is
+/// asked twice, in the order of its own checks: whether it takes the large source (6 and 7, with that
+/// source's size), and then for the frame, with the rectangle copied out of that source (2 and 8 to
+/// 11, with the rectangle's size).
+///
+/// It has no answer where the rectangle reaches past the source: such a frame is not handed to it.
+/// Nor has it one about the large source where the frame has no pixel: that is 2, and the Rust then
+/// looks at no buffer.
+fn on_rectangle(
+    call: Call,
+    frame: &model::Frame,
+    source: &[u8],
+    y: &mut [u8],
+    u: &mut [u8],
+    v: &mut [u8],
+) -> Result<(), RustError> {
+    let whole = Window::whole(frame.w, frame.h);
+    if frame.window == whole {
+        return call(frame, source, y, u, v);
+    }
+    if frame.w != 0 && frame.h != 0 {
+        let size = (frame.window.source_width, frame.window.source_height);
+        let (channels, stride) = (frame.settings.channels, frame.source_stride);
+        truncated::check_source(channels, source, stride, size)?;
+    }
+    let (rectangle, source_stride) = copied_out(frame, source);
+    let frame = model::Frame {
+        window: whole,
+        source_stride,
+        ..*frame
+    };
+    call(&frame, &rectangle, y, u, v)
+}
+
+/// The rectangle's pixels, row by row without padding, and the bytes of such a row.
+fn copied_out(frame: &model::Frame, source: &[u8]) -> (Vec<u8>, u32) {
+    let c = frame.settings.channels.bytes() as usize;
+    let row = frame.w as usize * c;
+    let mut rectangle = Vec::new();
+    for r in 0..if row == 0 { 0 } else { frame.h as usize } {
+        let start = (frame.window.top as usize + r) * frame.source_stride as usize;
+        let start = start + frame.window.left as usize * c;
+        rectangle.extend(&source[start..start + row]);
+    }
+    (rectangle, row as u32)
+}
+
+/// The Rust as it is, over its own tables, on the frame's rectangle. It knows no rounding.
+pub fn unaltered_frame(
+    frame: &model::Frame,
+    source: &[u8],
+    y: &mut [u8],
+    u: &mut [u8],
+    v: &mut [u8],
+) -> Result<(), RustError> {
+    on_rectangle(unaltered::frame, frame, source, y, u, v)
+}
+
 /// The Rust over the exact tables that the frame chooses, on the frame's rectangle.
 pub mod exact {
-    use super::{RustError, nearest, truncated};
-    use model::{TableRounding, Window};
+    use super::{RustError, nearest, on_rectangle, truncated};
+    use model::TableRounding;
 
-    /// Where the frame is all of its source, the Rust's own call. Else the Rust, which has no
-    /// window, is asked twice, in the order of its own checks: whether it takes the large source
-    /// (6 and 7, with that source's size), and then for the frame, with the rectangle copied out
-    /// of that source (2 and 8 to 11, with the rectangle's size).
-    ///
-    /// It has no answer where the rectangle reaches past the source: such a frame is not handed to
-    /// it. Nor has it one about the large source where the frame has no pixel: that is 2, and the
-    /// Rust then looks at no buffer.
     pub fn frame(
         frame: &model::Frame,
         source: &[u8],
@@ -313,35 +366,7 @@ pub mod exact {
             TableRounding::Truncated => truncated::frame,
             TableRounding::Nearest => nearest::frame,
         };
-        let whole = Window::whole(frame.w, frame.h);
-        if frame.window == whole {
-            return call(frame, source, y, u, v);
-        }
-        if frame.w != 0 && frame.h != 0 {
-            let size = (frame.window.source_width, frame.window.source_height);
-            let (channels, stride) = (frame.settings.channels, frame.source_stride);
-            truncated::check_source(channels, source, stride, size)?;
-        }
-        let (rectangle, source_stride) = copied_out(frame, source);
-        let frame = model::Frame {
-            window: whole,
-            source_stride,
-            ..*frame
-        };
-        call(&frame, &rectangle, y, u, v)
-    }
-
-    /// The rectangle's pixels, row by row without padding, and the bytes of such a row.
-    fn copied_out(frame: &model::Frame, source: &[u8]) -> (Vec<u8>, u32) {
-        let c = frame.settings.channels.bytes() as usize;
-        let row = frame.w as usize * c;
-        let mut rectangle = Vec::new();
-        for r in 0..if row == 0 { 0 } else { frame.h as usize } {
-            let start = (frame.window.top as usize + r) * frame.source_stride as usize;
-            let start = start + frame.window.left as usize * c;
-            rectangle.extend(&source[start..start + row]);
-        }
-        (rectangle, row as u32)
+        on_rectangle(call, frame, source, y, u, v)
     }
 
     // None of these looks at a table, so one copy will do.
