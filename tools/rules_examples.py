@@ -7,6 +7,7 @@ read out of the tables of docs/RULES.md itself (rules 1.2 to 1.4, 3.1, 4.1, 4.3)
     tools/rules_examples.py           write the blocks
     tools/rules_examples.py --check   say which blocks are not what the rules give, and which rules have none; fail if any
 """
+import bisect
 import functools
 import re
 import struct
@@ -217,6 +218,18 @@ def luma(s, rgb):
     return min(luma_sum(s, rgb) // 8192, s.by + s.ry)
 
 
+COLOURS = 256 ** 3
+
+
+def luma_counts(s, more=4095):
+    """The 256 counts of 5.3: for each y how many colours have a luma below it, by the sums of R and G in order and each B, and the differences."""
+    red, green, blue = s.w[:3]
+    pairs = sorted(red * r + green * g for r in range(256) for g in range(256))
+    start, most = s.by * 8192 + more, s.by + s.ry
+    below = [COLOURS if y > most else sum(bisect.bisect_left(pairs, y * 8192 - start - blue * b) for b in range(256)) for y in range(257)]
+    return [after - before for before, after in zip(below, below[1:])]
+
+
 def chroma_sum(s, rgb, first):
     return sum(a * b for a, b in zip(rgb, s.w[first:first + 3])) + 128 * 8192 + 4095
 
@@ -384,6 +397,23 @@ def program(request):
         return b'refused 3\n'
     number = frame_call(s, w, h, request[9:], [w * s.c, w, cw, cw], planes)[0]
     return f'refused {number}\n'.encode() if number else b''.join(planes)
+
+
+def counts_call(given, kr, kb, kept):
+    """10.4: the answer, and the caller's 256 numbers after it."""
+    counts = [len(CODES['range']), len(CODES['matrix']) + 1]  # Custom is one more
+    if len(given) != 2 or any(code >= count for code, count in zip(given, counts)):
+        return 1, kept
+    s = Settings(range_=CODES['range'][given[0]], matrix=[*CODES['matrix'], 'Custom'][given[1]], kr=kr, kb=kb)
+    return (0, luma_counts(s.weigh())) if accepted(s) else (4, kept)
+
+
+def counts_program(given):
+    """9.4."""
+    if len(given) != 2 or given[0] >= len(CODES['range']) or given[1] >= len(CODES['matrix']):
+        return b'refused 1\n'
+    s = Settings(range_=CODES['range'][given[0]], matrix=CODES['matrix'][given[1]])
+    return ''.join(f'{y} {count}\n' for y, count in enumerate(luma_counts(s.weigh()))).encode()
 
 
 # ---- the examples, by the number of their rule
@@ -876,6 +906,35 @@ def _():
     yield f'dividing first: floor({signed(part)} / 8192) + 128 = {signed(part // 8192)} + 128 = {part // 8192 + 128}'
 
 
+def some_counts(counts, lumas):
+    """Some of 256 counts, and what all add to."""
+    return 'luma ' + ', '.join(f'{y}: {counts[y]}' for y in lumas) + f'; all 256 add to {sum(counts)}'
+
+
+@example('5.3')
+def _():
+    red, green, blue = 250, 128, 7
+    yield f'colour {red} {green} {blue}: number {red} × 65536 + {green} × 256 + {blue} = {red * 65536 + green * 256 + blue}'
+    s = Settings(range_='Full').weigh()
+    counts = luma_counts(s)
+    yield f'Bt601 Full: {some_counts(counts, (0, 1, 38, 76, 254, 255))}'
+    for y, bytes_ in ((0, range(16)), (255, range(240, 256))):
+        found = [(r, g, b) for r in bytes_ for g in bytes_ for b in bytes_ if luma(s, (r, g, b)) == y]
+        assert len(found) == counts[y]
+        yield f'  colours of luma {y}: ' + ', '.join(numbers(rgb) for rgb in found)
+    yield f'  wrong, with 4096 in place of 4095: luma 38: {luma_counts(s, 4096)[38]}'
+    for matrix in ('Bt601', 'Bt2020'):
+        yield f'{matrix} Limited: {some_counts(luma_counts(Settings(matrix=matrix).weigh()), (0, 15, 16, 17, 126, 234, 235, 236, 255))}'
+    for matrix in ('Smpte240', 'Fcc'):
+        yield f'{matrix} Full: {some_counts(luma_counts(Settings(matrix=matrix, range_="Full").weigh()), (0, 1, 127, 254, 255))}'
+    for kr, kb in ((0.0, 0.0), (f32(0.5), 2.0 ** -14)):
+        s = Settings(range_='Full', matrix='Custom', kr=kr, kb=kb).weigh()
+        yield f'{pair_text(kr, kb)}, Full: {some_counts(luma_counts(s), (0, 1, 127, 254, 255))}'
+    kr, kb = of_bits('3F000001'), 0.0
+    assert not accepted(Settings(matrix='Custom', kr=kr, kb=kb))
+    yield f'{pair_text(kr, kb)}, either range: 4'
+
+
 @example('6.1')
 def _():
     for sampling, w, h, j, k in (('4:2:0', 4, 4, 1, 1), ('4:2:0', 3, 4, 1, 0), ('4:2:0', 4, 3, 0, 1), ('4:2:0', 1, 1, 0, 0), ('4:2:2', 4, 3, 1, 2), ('4:2:2', 3, 3, 1, 0)):
@@ -1244,6 +1303,21 @@ def _():
         yield f'{hexes(given)} gives {hexes(program(given))} (hexadecimal)'
 
 
+@example('9.4')
+def _():
+    yield 'requests and bytes in hexadecimal'
+    text = counts_program(bytes([1, 0]))
+    lines = text.decode().splitlines()
+    yield f'01 00 gives {len(lines)} lines: {", ".join(lines[:3])} and so on, the last {lines[-1]}; its bytes are {hexes(text[:9])} and so on to {hexes(text[-6:])}'
+    yield 'length and CRC-32 (appendix B) of each text'
+    for given in [bytes([range_, matrix]) for range_ in range(len(CODES['range'])) for matrix in range(len(CODES['matrix']))]:
+        text = counts_program(given)
+        yield f'  {hexes(given)}, {CODES["range"][given[0]] + " " + CODES["matrix"][given[1]] + ":":<17} {len(text)} bytes, {zlib.crc32(text):08x}'
+    for given in (b'', bytes([1]), bytes([1, 0, 0]), bytes([1, 0, 10]), bytes([2, 0]), bytes([1, 6]), bytes([48, 48])):
+        yield f'{hexes(given) or "no byte"} gives {counts_program(given).decode().strip()}'
+    yield f'01 06 gives the bytes {hexes(counts_program(bytes([1, 6])))}'
+
+
 DESCRIPTION = (4, 5, 0, 0, 1, 0, 0, 4, 2, 2)
 BEFORE = {'frame': 1, 'opening': 0, 'band': 3}  # numbers of a call before its description
 
@@ -1302,6 +1376,17 @@ def _():
     for more in ((0, 1, 2, 6, 8), (0, 3, 2, 6, 8)):
         given = (2, 2, 18) + DESCRIPTION + more
         yield f'band, numbers {numbers(given)}, source of 36 bytes, planes of 20, 6, 6, carried row of 12: {band(given, 12, 36)}'
+
+
+@example('10.4')
+def _():
+    kept = [9] * 256
+    yield 'each of the 256 numbers is 9 before a call; after it, numbers 0, 108 and 255 of them'
+    for given, *pair in (((1, 0), 2.0, 2.0), ((0, 5), 0.0, 0.0), ((1, 6), 0.0, 0.0), ((1, 6), of_bits('3F000001'), 0.0), ((1, 7), 0.0, 0.0), ((2, 0), 0.0, 0.0),
+                         ((2, 6), 2.0, 2.0), ((1, 4294967295), 0.0, 0.0), ((1,), 0.0, 0.0), ((1, 0, 0), 0.0, 0.0), ((), 0.0, 0.0)):
+        number, after = counts_call(given, *pair, kept)
+        said = f'numbers {numbers(given)}' if given else 'no numbers'
+        yield f'{said}, kr {pair[0]:.9g}, kb {pair[1]:.9g}: returns {number}, tells 0, 0; {after[0]}, {after[108]}, {after[255]}'
 
 
 # ---- appendix A

@@ -58,7 +58,7 @@ enum {
 /* RULES 7.1: numbers of an answer, in the order in which they are asked. */
 enum {
     REFERENCE_ACCEPTED = 0,
-    REFERENCE_BAD_CODE = 1,      /* RULES 9.2, 10.2 */
+    REFERENCE_BAD_CODE = 1,      /* RULES 9.2, 9.4, 10.2, 10.4 */
     REFERENCE_EMPTY = 2,         /* RULES 7.3 */
     REFERENCE_TOO_LARGE = 3,     /* RULES 7.3 */
     REFERENCE_BAD_MATRIX = 4,    /* RULES 7.4 */
@@ -76,6 +76,10 @@ enum {
 
 /* RULES 7.3: largest width and height, of a frame and of its source. */
 #define REFERENCE_LARGEST_SIDE 16384u
+
+/* RULES 5.3: all colours of three bytes, and all luma. */
+#define REFERENCE_COLOURS 16777216u
+#define REFERENCE_LUMAS 256u
 
 /* RULES 3.4, 3.5: both tables of each rounding and transfer, by their codes. */
 struct reference_tables {
@@ -159,6 +163,13 @@ void reference_make_tables(struct reference_tables *tables);
 
 /* RULES 4.1 to 4.5: weights of an accepted matrix and range. */
 void reference_make_weights(const struct reference_description *frame, struct reference_weights *weights);
+
+/*
+ * RULES 5.3, 10.4: counts the colours of each luma; count y of REFERENCE_LUMAS is that of luma y. The numbers are the codes of
+ * range and matrix, `given` is how many there are. It asks 1 and 4; refused, the counts are as they were.
+ */
+struct reference_answer reference_luma_counts(const uint32_t *numbers, uint64_t given, uint32_t kr_bits, uint32_t kb_bits,
+                                              uint32_t *counts);
 
 /* RULES 7.8: converts a whole frame. Settings are numbers here, so it asks 1 first, as the two below do (RULES 7.1, 10.2). */
 struct reference_answer reference_frame(const struct reference_tables *tables, const struct reference_description *frame,

@@ -617,6 +617,144 @@ static void test_colours(void)
     }
 }
 
+/* RULES 9.4: length and digest of the text that counts make. */
+static void expect_text(long place, size_t length, uint32_t crc, const uint32_t *counts)
+{
+    char text[4096];
+    size_t written = 0;
+    unsigned y;
+
+    for (y = 0; y < REFERENCE_LUMAS; y++) {
+        written += (size_t)sprintf(text + written, "%u %lu\n", y, (unsigned long)counts[y]);
+    }
+    expect("9.4 length", place, (long long)length, (long long)written);
+    expect("9.4", place, crc, digest((const uint8_t *)text, written));
+}
+
+/* RULES 5.3: what 256 counts add to. */
+static long long sum_of(const uint32_t *counts)
+{
+    long long sum = 0;
+    unsigned y;
+
+    for (y = 0; y < REFERENCE_LUMAS; y++) {
+        sum += counts[y];
+    }
+    return sum;
+}
+
+/* RULES 5.3, 9.4: counts of every range and matrix that has a code in a program, and of Custom. */
+static void test_counts(void)
+{
+    static const struct {
+        size_t length;
+        uint32_t digest;
+    } texts[REFERENCE_RANGES][REFERENCE_CUSTOM] = {
+        {{2353, 0x41982605u}, {2386, 0x146018f7u}, {2376, 0x7664b7a3u},
+         {2382, 0xb177f958u}, {2384, 0x24df32b3u}, {2353, 0x5474d245u}},
+        {{2480, 0x5ba8b9abu}, {2408, 0x0398b62au}, {2408, 0xd94d3b3au},
+         {2404, 0x695ca4ffu}, {2408, 0x86aa0adcu}, {2480, 0xa17c5515u}},
+    };
+    static const struct {
+        uint32_t numbers[2];
+        uint32_t kr;
+        uint32_t kb;
+        uint32_t lumas[9];
+        uint32_t counts[9];
+    } wanted[] = {
+        {{1, 0}, 0, 0, {0, 1, 38, 76, 254, 255}, {7, 59, 34875, 90308, 59, 7}},
+        {{0, 0}, 0, 0, {0, 15, 16, 17, 126, 234, 235, 236, 255}, {0, 0, 9, 83, 129994, 83, 11, 0, 0}},
+        {{0, 2}, 0, 0, {0, 15, 16, 17, 126, 234, 235, 236, 255}, {0, 0, 17, 159, 112522, 154, 17, 0, 0}},
+        {{1, 3}, 0, 0, {0, 1, 127, 254, 255}, {11, 89, 93488, 91, 13}},
+        {{1, 5}, 0, 0, {0, 1, 127, 254, 255}, {7, 59, 111083, 59, 7}},
+        {{1, 6}, 0, 0, {0, 1, 127, 254, 255}, {65536, 65536, 65536, 65536, 65536}},
+        {{1, 6}, 0x3F000000u, 0x38800000u, {0, 1, 127, 254, 255}, {258, 1282, 130306, 1790, 766}},
+    };
+    uint32_t counts[REFERENCE_LUMAS];
+    uint32_t numbers[2];
+    size_t place;
+    size_t asked_luma;
+
+    for (numbers[0] = 0; numbers[0] < REFERENCE_RANGES; numbers[0]++) {
+        for (numbers[1] = 0; numbers[1] < REFERENCE_CUSTOM; numbers[1]++) {
+            long code = (long)(numbers[0] * 10 + numbers[1]);
+
+            expect_answer("5.3", code, 0, 0, 0, reference_luma_counts(numbers, 2, 0, 0, counts));
+            expect("5.3", code, 16777216, sum_of(counts));
+            expect_text(code, texts[numbers[0]][numbers[1]].length, texts[numbers[0]][numbers[1]].digest, counts);
+        }
+    }
+    for (place = 0; place < sizeof wanted / sizeof wanted[0]; place++) {
+        expect_answer("5.3", (long)place, 0, 0, 0,
+                      reference_luma_counts(wanted[place].numbers, 2, wanted[place].kr, wanted[place].kb, counts));
+        expect("5.3", (long)place, 16777216, sum_of(counts));
+        for (asked_luma = 0; asked_luma == 0 || (asked_luma < 9 && wanted[place].lumas[asked_luma] != 0); asked_luma++) {
+            expect("5.3", (long)place, wanted[place].counts[asked_luma], counts[wanted[place].lumas[asked_luma]]);
+        }
+    }
+}
+
+/* RULES 5.3: the colours of the darkest and the brightest luma of Bt601 Full, seven each. */
+static void test_first_and_last_colours(void)
+{
+    static const uint8_t colours[2][7][3] = {
+        {{0, 0, 0}, {0, 0, 1}, {0, 0, 2}, {0, 0, 3}, {0, 0, 4}, {1, 0, 0}, {1, 0, 1}},
+        {{254, 255, 254}, {254, 255, 255}, {255, 255, 251}, {255, 255, 252}, {255, 255, 253}, {255, 255, 254}, {255, 255, 255}},
+    };
+    const struct reference_weights *w = &stored_weights[REFERENCE_BT601][REFERENCE_FULL];
+    unsigned place;
+
+    for (place = 0; place < 14; place++) {
+        expect("5.3", (long)place, place / 7 * 255, luma(w->luma, &ranges[REFERENCE_FULL], colours[place / 7][place % 7]));
+    }
+}
+
+/* RULES 10.4: 1 and 4, which leave the counts as they were. */
+static void test_count_refusals(void)
+{
+    static const struct {
+        uint32_t numbers[3];
+        uint64_t given;
+        uint32_t kr;
+        uint32_t kb;
+        uint32_t number;
+    } wanted[] = {
+        {{1, 6, 0}, 2, 0x3F000001u, 0, 4},
+        {{0, 6, 0}, 2, 0, 0x7FC00000u, 4},
+        {{1, 6, 0}, 2, 0x80000001u, 0, 4},
+        {{1, 6, 0}, 2, 0x40000000u, 0xBF000000u, 4},
+        {{1, 7, 0}, 2, 0, 0, 1},
+        {{2, 0, 0}, 2, 0, 0, 1},
+        {{2, 6, 0}, 2, 0x40000000u, 0x40000000u, 1},
+        {{1, 4294967295u, 0}, 2, 0, 0, 1},
+        {{4294967295u, 0, 0}, 2, 0, 0, 1},
+        {{1, 0, 0}, 1, 0, 0, 1},
+        {{1, 0, 0}, 3, 0, 0, 1},
+        {{1, 0, 0}, 0, 0, 0, 1},
+    };
+    static const uint32_t fit[2] = {1, 0};
+    uint32_t counts[REFERENCE_LUMAS];
+    size_t place;
+    unsigned y;
+
+    for (place = 0; place < sizeof wanted / sizeof wanted[0]; place++) {
+        for (y = 0; y < REFERENCE_LUMAS; y++) {
+            counts[y] = 9;
+        }
+        expect_answer("10.4", (long)place, wanted[place].number, 0, 0,
+                      reference_luma_counts(wanted[place].numbers, wanted[place].given, wanted[place].kr, wanted[place].kb,
+                                            counts));
+        for (y = 0; y < REFERENCE_LUMAS; y++) {
+            expect("10.4", (long)place, 9, counts[y]);
+        }
+    }
+    /* kr and kb that would be refused are not looked at where the matrix is not Custom */
+    expect_answer("10.4", 100, 0, 0, 0, reference_luma_counts(fit, 2, 0x40000000u, 0x40000000u, counts));
+    expect("10.4", 100, 7, counts[0]);
+    expect("10.4", 100, 111644, counts[108]);
+    expect("10.4", 100, 7, counts[255]);
+}
+
 /* RULES 6.2 to 6.4: chroma colours. */
 static void test_chroma_colours(void)
 {
@@ -1727,6 +1865,9 @@ int main(void)
     test_weights();
     test_stored_weights();
     test_colours();
+    test_counts();
+    test_first_and_last_colours();
+    test_count_refusals();
     test_chroma_colours();
     test_frames();
     test_refusals();
