@@ -8,7 +8,7 @@ use lib.Dec.{eqb}
 use native.Mathlib.Omega.{arith}
 use lib.ListN.{length, drop}
 use borrow.Author.Tests.{eqb-true}
-use Rattle.call_numbers.specs.Codes.{isUnknown, isCounted, isMalformed}
+use Rattle.call_numbers.specs.Codes.{isUnknown, isCounted, isMalformed, isMalformedRangeAndMatrix}
 
 -- a description has ten numbers at least
 pub room : (before count : ℕ) → isCounted before count ≡ true → before + 10 ≤ count
@@ -26,3 +26,12 @@ counted before numbers e = go (isCounted before (length numbers)) refl e
     go : (b : Bool) → isCounted before (length numbers) ≡ b → cond b (isUnknown (drop before numbers)) true ≡ false → before + 10 ≤ length numbers
     go true t f = room before (length numbers) t
     go false t f = absurd (true≢false f)
+
+-- two numbers with a meaning are two
+pub two-counted : (numbers : List ℕ) → isMalformedRangeAndMatrix numbers ≡ false → length numbers ≡ 2
+unfolding isMalformedRangeAndMatrix
+two-counted numbers h = go (eqb (length numbers) 2) refl _ h
+  where
+    go : (b : Bool) → eqb (length numbers) 2 ≡ b → (x : Bool) → cond b x true ≡ false → length numbers ≡ 2
+    go true e x f = eqb-true (length numbers) 2 e
+    go false e x f = absurd (true≢false f)

@@ -1,4 +1,4 @@
--- The numbers that C passes for a description, and beside them kr and kb: docs/RULES.md, 1.2, 10.1 and 10.2.
+-- The numbers that C passes for a description, and beside them kr and kb: docs/RULES.md, 1.2, 10.1, 10.2 and 10.4.
 -- The rounding and the window may be left out: then it is Truncated, and the window is the whole source. Where another number is missing or a code has no
 -- meaning, 0 or the first one stands here: refusal 1 is first, so no answer turns on it.
 -- Assumes nothing.
@@ -80,3 +80,7 @@ isMalformed before numbers = cond (isCounted before (length numbers)) (isUnknown
 -- RULES 10.2: refusal 1, first of all
 abbrev pub numberRules : (before : ℕ) → List ℕ → List Rule
 numberRules before numbers = rule 1 (isMalformed before numbers) 0 0 ∷ []
+
+-- RULES 10.4: the two numbers of a count of colours are a range and a matrix
+unfoldable pub isMalformedRangeAndMatrix : List ℕ → Bool
+isMalformedRangeAndMatrix numbers = cond (eqb (length numbers) 2) (leb (length rangeCodes) (at numbers 0) || ltb customCode (at numbers 1)) true

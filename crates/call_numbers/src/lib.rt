@@ -10,7 +10,7 @@ ghost use mathlib.Core.Bool.{false};
 ghost use Prim.Native.Nat.{_+_, _≤_};
 ghost use lib.ListN.{length, getD, drop, set};
 ghost use Rattle.yuv_error.specs.Numbers.{numbersOf};
-ghost use Rattle.call_numbers.specs.Codes.{matrixOf, settingsOf, windowOf, descriptionOf, isUnknown, isMalformed};
+ghost use Rattle.call_numbers.specs.Codes.{matrixOf, settingsOf, windowOf, descriptionOf, isUnknown, isMalformed, isMalformedRangeAndMatrix};
 
 // The numbers of a description: width, height, channels, sampling, range, matrix, transfer, y_stride, u_stride, v_stride.
 const DESCRIPTION: usize = 10;
@@ -19,6 +19,9 @@ const DESCRIPTION: usize = 10;
 const WITH_ROUNDING: usize = 11;
 
 const WITH_WINDOW: usize = 15;
+
+// The numbers of a count of colours.
+const RANGE_AND_MATRIX: usize = 2;
 
 // The code of a matrix of the caller's own kr and kb; those below it are the named ones.
 const CUSTOM: u32 = 6;
@@ -59,7 +62,17 @@ pub fn is_malformed(before: usize, numbers: &[u32]) -> bool
     true
 }
 
-fn matrix_of(code: u32, custom: &[f32; 2]) -> YuvStandardMatrix
+// Whether there are not two numbers, or a range or matrix has no meaning.
+pub fn is_malformed_range_and_matrix(numbers: &[u32]) -> bool
+    ensures { λ r. ⌜ r ≡ isMalformedRangeAndMatrix (now (numbers .entry)) ⌝ }
+{
+    if numbers.len() == RANGE_AND_MATRIX {
+        return (numbers[0] >= 2) | (numbers[1] > CUSTOM);
+    }
+    true
+}
+
+pub fn matrix_of(code: u32, custom: &[f32; 2]) -> YuvStandardMatrix
     ensures { λ r. ⌜ r ≡ matrixOf code (now (custom .entry)) ⌝ }
 {
     if code == CUSTOM {

@@ -4,7 +4,7 @@
 use Prim.Native.Nat.{ℕ, _≤_}
 use mathlib.Core.Path.{_≡_, refl, sym, ap, subst, _∙_}
 use mathlib.Core.Bool.{Bool, true, false}
-use mathlib.Core.List.{List}
+use mathlib.Core.List.{List, [], _∷_}
 use native.Mathlib.Omega.{arith}
 use lib.Dec.{T}
 use borrow.Author.Tests.{eq-eqb, ne-eqb}
@@ -14,7 +14,7 @@ use Rattle.yuv_error.specs.declared.YuvError.{YuvError}
 use Rattle.yuv_error.specs.declared.YuvAnswer.{YuvAnswer}
 use Rattle.yuv_error.specs.declared.YuvAnswer.the-variants.{Finished, Refused}
 use Rattle.yuv_error.specs.Numbers.{Numbers, numbersOf}
-use Rattle.yuv_error.specs.Rules.{Rule, firstOf}
+use Rattle.yuv_error.specs.Rules.{Rule, rule, firstOf, matrixRules}
 use Rattle.yuv_error.specs.Lowest.{Lowest, inOrder}
 use Rattle.yuv_error.proofs.Numbers.{is-finished}
 use Rattle.yuv_error.proofs.Lowest.{first-is-lowest}
@@ -36,12 +36,16 @@ use Rattle.band_lists.proofs.Demand3 as lists
 use Rattle.frame_request.specs.declared.Response.{Response}
 use Rattle.frame_request.specs.declared.Response.the-variants.{Planes, Refused as Refuses}
 use Rattle.frame_request.specs.Request.{requestRules, responseNumbers, RequestPost}
-use Rattle.frame_request.specs.Reply.{reply}
+use Rattle.frame_request.specs.Reply.{refusalLine, reply}
+use Rattle.colour_counts.specs.Counts.{countOf}
+use Rattle.counts_request.specs.Reply.{rangeOf, matrixOf, malformed, lines, reply as countsReply}
 use Rattle.segvartin.specs.Calls.{rulesOfFrame, frameOfOpening, rulesOfOpening, handed, rulesOfBand}
 use Rattle.segvartin.specs.Lists.{doneTold, asBands}
 use Rattle.segvartin.proofs.Lists.{frame-first, frame-writes-nothing, frame-accepted, open-first, open-done, open-accepted}
 use Rattle.segvartin.proofs.Lists.{band-first, band-writes-nothing, all-met, refused-kept}
-use Rattle.demands.specs.Demands.{Replied, Demand1, Demand2, Demand3, WholeFrame, FrameBytes}
+use Rattle.segvartin.specs.Counts.{rulesOfCounts}
+use Rattle.segvartin.proofs.Counts.{counts-first, counts-write-nothing}
+use Rattle.demands.specs.Demands.{Replied, CountsReplied, Demand1, Demand2, Demand3, WholeFrame, FrameBytes}
 
 -- the promise's equation, read as the sentence of RULES 7.1
 lowest : (rules : List Rule) {x : Numbers} → inOrder 0 rules ≡ true → x ≡ firstOf rules → Lowest rules x
@@ -66,6 +70,21 @@ replied input bytes e x right =
       λ l. e ∙ rw (ne-eqb (firstOf (requestRules input) .number) 0 (λ z. omega arith), sym n),
     )
 
+counts-replied : (input bytes : List ℕ) → bytes ≡ countsReply input → CountsReplied input bytes
+unfolding countsReply
+counts-replied input bytes e x right = go (malformed input) refl
+  where
+    is : x ≡ firstOf (rule 1 (malformed input) 0 0 ∷ [])
+    is = first-is-lowest (rule 1 (malformed input) 0 0 ∷ []) x refl .1 right
+
+    number : (b : Bool) → malformed input ≡ b → x .number ≡ firstOf (rule 1 b 0 0 ∷ []) .number
+    number b t = ap (λ (y : Numbers). y .number) is ∙ ap (λ (b : Bool). firstOf (rule 1 b 0 0 ∷ []) .number) t
+
+    go : (b : Bool) → malformed input ≡ b
+        → (x .number ≡ 0 → bytes ≡ lines (countOf (rangeOf input) (matrixOf input)) 256) × (1 ≤ x .number → bytes ≡ refusalLine (x .number))
+    go true t = (λ z. absurd (omega (arith, number true t)), λ l. e ∙ rw (t, number true t))
+    go false t = (λ z. e ∙ rw t, λ l. absurd (omega (arith, number false t)))
+
 pub demand-1 : Demand1
 demand-1 = record {
   frame = λ k p. record {
@@ -77,11 +96,17 @@ demand-1 = record {
     lowest = lowest (bandRules k) refl (p .answered);
     writes-nothing = λ l. band.refused-writes-nothing {k = k} (λ n. ap (λ (a : YuvAnswer). taken a n) (refusal (k .result .answer) l .1)) p;
   };
+  counts = λ range matrix before a after p. record {
+    lowest = lowest (matrixRules matrix) refl (p .answered);
+    writes-nothing = λ l. painted-same (rw (refusal a l .1) at (p .counts));
+  };
   reply = λ input output n output′ p. replied input (take n output′) (p .written);
+  counts-reply = λ input output n output′ p. counts-replied input (take n output′) (p .written);
   request = λ input output r output′ p. record { lowest = lowest (requestRules input) refl (p .answered); writes-nothing = request-writes-nothing r p };
   linked-frame = λ k p. record { lowest = lowest (rulesOfFrame k) refl (frame-first p); writes-nothing = frame-writes-nothing p };
   linked-opening = λ k p. (lowest (rulesOfOpening k) refl (open-first p), open-done p);
   linked-band = λ k p. record { lowest = lowest (rulesOfBand k) refl (band-first p); writes-nothing = band-writes-nothing p };
+  linked-counts = λ k p. record { lowest = lowest (rulesOfCounts k) refl (counts-first p); writes-nothing = counts-write-nothing p };
 }
 
 is-true : (b : Bool) → T b → b ≡ true

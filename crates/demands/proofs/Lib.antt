@@ -1,3 +1,4 @@
 -- The proofs of the demands.
 pub mod Demands
 pub mod Grey
+pub mod Counts

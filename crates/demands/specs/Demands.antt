@@ -1,20 +1,23 @@
 -- The three demands, one after the other, and what else is claimed of all calls. Each cites definitions alone: the promises of the calls
--- (`FramePost`, `OpenPost`, `BandPost`, `RequestPost`, `Begins`, `FrameKept`, `OpenKept`, `BandKept`, the very predicates of their `ensures`), which
--- hold of every call whatever it is given, and the rules, rows, planes and curves that they speak of. Their proofs are `demand-1`, `demand-2` and
--- `demand-3` of proofs/Demands.antt and `grey` of proofs/Grey.antt.
+-- (`FramePost`, `OpenPost`, `BandPost`, `CountsPost`, `RequestPost`, `Begins`, `FrameKept`, `OpenKept`, `BandKept`, `CountsKept`, the very predicates
+-- of their `ensures`), which hold of every call whatever it is given, and the rules, rows, planes and curves that they speak of. Their proofs are
+-- `demand-1`, `demand-2` and `demand-3` of proofs/Demands.antt, `grey` of proofs/Grey.antt and `counts` of proofs/Counts.antt.
 -- Assumes nothing.
 use Prim.Native.Nat.{ℕ, _+_, _*_, _≤_, _<_}
 use mathlib.Core.Path.{_≡_}
 use mathlib.Core.Bool.{true}
-use mathlib.Core.List.{List, []}
+use mathlib.Core.List.{List, [], _∷_}
 use mathlib.Core.Logic.{_↔_}
 use lib.Dec.{T}
 use lib.ListN.{length, getD, take, drop}
+use Rattle.yuv_support.specs.declared.YuvRange.{YuvRange}
 use Rattle.yuv_support.specs.declared.YuvRange.the-variants.{Limited}
+use Rattle.yuv_support.specs.declared.YuvStandardMatrix.{YuvStandardMatrix}
 use Rattle.yuv_support.specs.Matrix.{accepted}
+use Rattle.yuv_error.specs.declared.YuvAnswer.{YuvAnswer}
 use Rattle.yuv_error.specs.declared.YuvAnswer.the-variants.{Finished}
 use Rattle.yuv_error.specs.Numbers.{Numbers, numbers, numbersOf}
-use Rattle.yuv_error.specs.Rules.{Rule}
+use Rattle.yuv_error.specs.Rules.{Rule, rule, matrixRules}
 use Rattle.yuv_error.specs.Lowest.{Lowest}
 use Rattle.sharp_gamma.specs.declared.SharpYuvGammaTransfer.{SharpYuvGammaTransfer}
 use Rattle.sharp_gamma.specs.Fraction.{_over_}
@@ -37,6 +40,9 @@ use Rattle.segvartin.specs.Calls.{ExportedFrame, rulesOfFrame, FrameKept}
 use Rattle.segvartin.specs.Calls.{ExportedOpening, frameOfOpening, rulesOfOpening, OpenKept}
 use Rattle.segvartin.specs.Calls.{ExportedBand, rulesOfBand, Kept, BandKept}
 use Rattle.segvartin.specs.Lists.{numbersTold, doneTold, openedState, asFrame, asBands, AllKept, RefusedKept}
+use Rattle.segvartin.specs.Counts.{ExportedCounts, rangeOfCounts, matrixOfCounts, rulesOfCounts, CountsKept}
+use Rattle.colour_counts.specs.Counts.{colours, countOf, sumBelow, CountsPost, Total, EveryColour, ByRangeAndMatrix}
+use Rattle.counts_request.specs.Reply.{rangeOf, matrixOf, malformed, lines, reply as countsReply}
 use Rattle.exact_weights.specs.Near.{MatrixNear}
 use Rattle.grey.specs.Grey.{greyOf, GreyRows, LumaOfGrey, GreyPlanes}
 
@@ -54,20 +60,30 @@ Replied input bytes =
     (x : Numbers) → Lowest (requestRules input) x
     → (x .number ≡ 0 → bytes ≡ firstBytes (answerAt input) (outputSize (frameOf input))) × (1 ≤ x .number → bytes ≡ refusalLine (x .number))
 
--- RULES 7.1, 7.2: of the calls of Rattle, which are frame, opening, band, and a request of the program; then of those that C and Rust link, whose
--- numbers come first to be refused
+-- RULES 9.4: and those that answer a request of the program `luma_counts`
+abbrev pub CountsReplied : (input bytes : List ℕ) → Type 0
+CountsReplied input bytes =
+    (x : Numbers) → Lowest (rule 1 (malformed input) 0 0 ∷ []) x
+    → (x .number ≡ 0 → bytes ≡ lines (countOf (rangeOf input) (matrixOf input)) 256) × (1 ≤ x .number → bytes ≡ refusalLine (x .number))
+
+-- RULES 7.1, 7.2: of the calls of Rattle, which are frame, opening, band, a count of colours, and a request of the program; then of those that C and
+-- Rust link, whose numbers come first to be refused
 pub record Demand1 : Type 0 where
   pub frame : (k : FrameCall) → FramePost k → Answered (frameRules k) (numbersOf (k .answer)) (Unwritten k)
   pub opening : (d : FrameDescription) (r : FrameAnswer) → OpenPost d r → Lowest (openingRules d) (numbersOf (r .answer))
   pub band : (k : BandCall) → BandPost k → Answered (bandRules k) (numbersOf (k .result .answer)) (Untouched k)
+  pub counts : (range : YuvRange) (matrix : YuvStandardMatrix) (before : List ℕ) (a : YuvAnswer) (after : List ℕ) → CountsPost range matrix before a after
+      → Answered (matrixRules matrix) (numbersOf a) (after ≡ before)
   pub request : (input output : List ℕ) (response : Response) (output′ : List ℕ) → RequestPost input output response output′
       → Answered (requestRules input) (responseNumbers response) (output′ ≡ output)
   -- and what the program writes for it: the planes where no condition holds, or the line of the first number whose condition holds
   pub reply : (input output : List ℕ) (n : ℕ) (output′ : List ℕ) → Begins (replyTo input) output n output′ → Replied input (take n output′)
+  pub counts-reply : (input output : List ℕ) (n : ℕ) (output′ : List ℕ) → Begins (countsReply input) output n output′ → CountsReplied input (take n output′)
   pub linked-frame : (k : ExportedFrame) → FrameKept k → Answered (rulesOfFrame k) (numbersTold (k .number) (k .told)) (Unwritten (asFrame k))
   pub linked-opening : (k : ExportedOpening) → OpenKept k → Lowest (rulesOfOpening k) (numbersTold (k .number) (k .told)) × (doneTold (k .told) ≡ 0)
   pub linked-band : (k : ExportedBand) → BandKept k
       → Answered (rulesOfBand k) (numbersTold (k .number) (k .told)) (Kept k (doneTold (k .told)))
+  pub linked-counts : (k : ExportedCounts) → CountsKept k → Answered (rulesOfCounts k) (numbersTold (k .number) (k .told)) (k .counts′ ≡ k .counts)
 
 -- ---- 2. Frames of 1 to 16,384 pixels a side, anywhere in a source of at most 16,384 a side in whole rows, with any channel order, sampling, range,
 -- transfer, rounding and accepted matrix: every byte of the planes is the one that the rules name, which is that of the Rust over our stated curve
@@ -176,3 +192,21 @@ pub record Grey : Type 0 where
       GreyRows d (d .height) image → GreyAnswer d image (answerAt input)
   -- what it rests on: how near the nine weights, and the sum of each triple, are to exact ones, for every accepted matrix and every Custom pair
   pub weights : MatrixNear
+
+-- ---- How many colours share a luma: the 256 counts are those of the luma rule, over all 16,777,216 colours, each counted once, and they add to that
+-- number. For every accepted matrix and range.
+
+-- RULES 5.3
+abbrev pub EachCounted : YuvRange → YuvStandardMatrix → (counts : List ℕ) → Type 0
+EachCounted range matrix counts = (y : ℕ) → y < 256 → getD counts y 0 ≡ countOf range matrix y
+
+-- RULES 5.3, 10.4
+pub record Counts : Type 0 where
+  pub counted : (range : YuvRange) (matrix : YuvStandardMatrix) (before : List ℕ) (a : YuvAnswer) (after : List ℕ) → CountsPost range matrix before a after
+      → a ≡ Finished → EachCounted range matrix after
+  pub add-up : (range : YuvRange) (matrix : YuvStandardMatrix) (before : List ℕ) (a : YuvAnswer) (after : List ℕ) → CountsPost range matrix before a after
+      → a ≡ Finished → sumBelow (λ y. getD after y 0) 256 ≡ colours
+  pub linked : (k : ExportedCounts) → CountsKept k → k .number ≡ 0 → EachCounted (rangeOfCounts k) (matrixOfCounts k) (k .counts′)
+  pub total : Total
+  pub every-colour : EveryColour
+  pub by-range-and-matrix : ByRangeAndMatrix

@@ -30,7 +30,7 @@ request-lowest input = first-is-lowest (requestRules input) (firstOf (requestRul
 
 -- ---- rules that never hold
 
-coded-accepted : (code : ℕ) → accepted (getD matrixCodes code Bt601) ≡ true
+pub coded-accepted : (code : ℕ) → accepted (getD matrixCodes code Bt601) ≡ true
 coded-accepted zero = refl
 coded-accepted (suc zero) = refl
 coded-accepted (suc (suc zero)) = refl

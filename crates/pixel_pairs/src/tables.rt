@@ -80,7 +80,7 @@ pub fn conversion_of(frame: FrameDescription, t: CbCrForwardTransformI32) -> Con
 }
 
 // The size of a weight.
-fn magnitude(w: i32) -> u64
+pub fn magnitude(w: i32) -> u64
     requires { ⌜ natAbs w ≤ 8193 ⌝ }
     ensures { λ r. ⌜ r ≡ natAbs w ⌝ }
 {

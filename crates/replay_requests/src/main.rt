@@ -1,48 +1,19 @@
 // Replays requests through the library function of the program `frame`.
 //
-// Standard input has a line for each request: its name, a bar, and its bytes in hexadecimal. After `*`
-// stands how many bytes it has in all: those past the ninth come again and again.
-//
-//     red, 1 by 1 | 01 00 01 00 00 01 01 00 00 FF 00 00
-//     one colour, 128 by 128 | 80 00 80 00 00 00 00 00 00 10 20 30 * 49161
+// Standard input has a line for each request, as `replay_text` reads them.
 //
 // Standard output has a line for each: its name, a bar, how many bytes the program writes for it, and these
 // bytes, or their CRC-32 where they are more than 40. The last line counts the requests.
 // tools/requests.py makes both files.
-mod text; // text.rt: the lines of standard input
-
 ghost use mathlib.Core.Path.{_≡_};
 ghost use lib.ListN.{length};
 use libc::STDIN_FILENO;
 use libc::STDOUT_FILENO;
 
-fn print_bytes(bytes: &[u8]) {
-    for i in 0..bytes.len() {
-        io::print_hex(STDOUT_FILENO, bytes[i] as u64, 2);
-    }
-}
-
-fn print_reply(reply: &[u8]) {
-    io::print_decimal(STDOUT_FILENO, reply.len() as u64);
-    if reply.len() <= 40 {
-        io::write_all(STDOUT_FILENO, b" bytes ");
-        print_bytes(reply);
-    } else {
-        io::write_all(STDOUT_FILENO, b" bytes, CRC-32 ");
-        io::print_hex(STDOUT_FILENO, replay::crc32(reply) as u64, 8);
-    }
-}
-
 fn output_buffer() -> [u8; 49152]
     ensures { λ r. ⌜ 49152 ≡ length r ⌝ }
 {
     [0; 49152]
-}
-
-fn replay(request: &[u8]) {
-    let mut output = output_buffer();
-    let size = frame_request::reply_to(request, &mut output);
-    print_reply(&output[..size]);
 }
 
 // One byte past the largest request.
@@ -54,13 +25,11 @@ fn request_buffer() -> [u8; 65546]
 
 fn replay_line(line: &[u8]) {
     let mut request = request_buffer();
-    let bar = bytes::scan::find(line, 0, line.len(), b'|');
-    let from = text::least(bar + 1, line.len());
-    let size = text::read_request(&line[from..], &mut request);
-    io::write_all(STDOUT_FILENO, &line[0..bar]);
-    io::write_all(STDOUT_FILENO, b"| ");
-    replay(&request[0..size]);
-    io::write_all(STDOUT_FILENO, b"\n");
+    let mut output = output_buffer();
+    let size = replay_text::read_named(line, &mut request);
+    let bytes = frame_request::reply_to(&request[0..size], &mut output);
+    replay_text::print_reply(&output[..bytes]);
+    replay::print(b"\n");
 }
 
 // Answers how many lines there are.

@@ -1,3 +1,4 @@
 -- Laws of the functions that C links.
 pub mod Answered
 pub mod Lists
+pub mod Counts

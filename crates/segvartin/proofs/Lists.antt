@@ -29,18 +29,18 @@ use Rattle.segvartin.specs.Lists.{numbersTold, answerTold, doneTold, asF
 -- ---- by cases
 
 -- what holds by a test holds whichever way the test goes
-either-way : {A B X : Type 0} (test : Bool) → either test A B → (test ≡ true → A → X) → (test ≡ false → B → X) → X
+pub either-way : {A B X : Type 0} (test : Bool) → either test A B → (test ≡ true → A → X) → (test ≡ false → B → X) → X
 either-way true p f g = f refl p
 either-way false p f g = g refl p
 
 -- the first rule is refusal 1, and the others are asked where it does not hold
-refused-1 : {test : Bool} (rules : List Rule) {x : Numbers} → test ≡ true → x ≡ numbersOf (Refused MalformedRequest) → x ≡ firstOf (rule 1 test 0 0 ∷ rules)
+pub refused-1 : {test : Bool} (rules : List Rule) {x : Numbers} → test ≡ true → x ≡ numbersOf (Refused MalformedRequest) → x ≡ firstOf (rule 1 test 0 0 ∷ rules)
 refused-1 rules t e = rw t e
 
-passed-1 : {test : Bool} (rules : List Rule) {x : Numbers} → test ≡ false → x ≡ firstOf rules → x ≡ firstOf (rule 1 test 0 0 ∷ rules)
+pub passed-1 : {test : Bool} (rules : List Rule) {x : Numbers} → test ≡ false → x ≡ firstOf rules → x ≡ firstOf (rule 1 test 0 0 ∷ rules)
 passed-1 rules t e = rw t e
 
-is-refused : (a : YuvAnswer) → 1 ≤ numbersOf a .number → (e : YuvError) × (a ≡ Refused e)
+pub is-refused : (a : YuvAnswer) → 1 ≤ numbersOf a .number → (e : YuvError) × (a ≡ Refused e)
 is-refused Finished l = absurd (omega arith)
 is-refused (Refused e) l = (e, refl)
 

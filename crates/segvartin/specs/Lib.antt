@@ -1,3 +1,4 @@
 -- What the functions that C links mean.
 pub mod Calls
 pub mod Lists
+pub mod Counts

@@ -9,6 +9,7 @@ ghost use mathlib.Core.List.{[], _∷_};
 ghost use Rattle.segvartin.specs.Calls.{exportedFrame, FrameAnswered, FrameKept};
 ghost use Rattle.segvartin.specs.Calls.{exportedOpening, OpenAnswered, OpenKept};
 ghost use Rattle.segvartin.specs.Calls.{exportedBand, BandAnswered, BandKept};
+ghost use Rattle.segvartin.specs.Counts.{exportedCounts, CountsAnswered, CountsKept};
 
 // What stands before the description: the source's stride of a frame; the rows done, the rows and the source's stride of a band.
 const OF_FRAME: usize = 1;
@@ -137,4 +138,32 @@ pub extern "C" fn segvartin_call_band(
         n (now (told .exit)) (now (y .exit)) (now (u .exit)) (now (v .exit)) (now (carried .exit))) ⌝ }
 {
     call_numbers::tell(band_told(numbers, custom, source, y, u, v, carried), told)
+}
+
+// The counts, once the numbers have a meaning.
+fn counts_answer(numbers: &[u32], custom: &[f32; 2], counts: &mut [u32; 256]) -> YuvAnswer
+    ensures { λ a. ⌜ CountsAnswered (exportedCounts (now (numbers .entry)) (now (custom .entry)) (now (counts .entry))
+        0 [] (now (counts .exit))) a ⌝ }
+{
+    if call_numbers::is_malformed_range_and_matrix(numbers) {
+        return YuvAnswer::Refused(YuvError::MalformedRequest);
+    }
+    let range = setting_codes::range_of(numbers[0]);
+    let matrix = call_numbers::matrix_of(numbers[1], custom);
+    colour_counts::colour_counts(range, matrix, counts)
+}
+
+// Counts how many of the 16,777,216 colours have each luma (0), or answers the number of one refusal and writes no count: 1 for numbers without a
+// meaning, else 4. numbers: range, matrix. told: expected and received.
+#[no_mangle]
+pub extern "C" fn segvartin_call_luma_counts(
+    numbers: &[u32],
+    custom: &[f32; 2],
+    counts: &mut [u32; 256],
+    told: &mut [usize; 2],
+) -> u32
+    ensures { λ n. ⌜ CountsKept (exportedCounts (now (numbers .entry)) (now (custom .entry)) (now (counts .entry))
+        n (now (told .exit)) (now (counts .exit))) ⌝ }
+{
+    call_numbers::tell_answer(counts_answer(numbers, custom, counts), told)
 }

@@ -1,11 +1,12 @@
 -- What a caller knows once no refusal was answered: no condition holds, so each bound does. Assumes nothing.
 use Prim.Native.Nat.{ℕ, _+_, _*_, _≤_}
-use mathlib.Core.Bool.{Bool, true, false, _||_, true≢false}
+use mathlib.Core.Bool.{Bool, true, false, not, _||_, true≢false}
 use mathlib.Core.List.{List}
 use mathlib.Core.Path.{_≡_, refl, sym, subst}
 use native.Mathlib.Omega.{arith}
 use lib.Dec.{T, ltb, eqb}
 use borrow.Author.Tests.{ltb-false, eqb-true, eqb-false, not-false}
+use Rattle.yuv_support.specs.declared.YuvStandardMatrix.{YuvStandardMatrix}
 use Rattle.yuv_support.specs.Matrix.{accepted}
 use Rattle.definitions.specs.declared.FrameDescription.{FrameDescription}
 use Rattle.definitions.specs.Image.{sourceRowSize}
@@ -24,6 +25,10 @@ none-holds rs up e = first-is-lowest rs (firstOf rs) up .0 refl .finished .0 e
 pub neither : (a b : Bool) → a || b ≡ false → (a ≡ false) × (b ≡ false)
 neither true b h = absurd (true≢false h)
 neither false b h = (refl, h)
+
+-- where 4 does not hold
+pub is-accepted : (matrix : YuvStandardMatrix) (others : Bool) → not (accepted matrix) || others ≡ false → T (accepted matrix)
+is-accepted matrix others none = subst T (sym (not-false (accepted matrix) (neither (not (accepted matrix)) others none .0))) tt
 
 -- ---- 2, 3, 4, 14
 
@@ -45,7 +50,7 @@ opened d e =
       height-most = ltb-false _ _ (few .1);
       source-width-most = ltb-false _ _ (few-source .0);
       source-height-most = ltb-false _ _ (few-source .1);
-      matrix = subst T (sym (not-false (accepted (d .settings .matrix)) (neither _ _ (none 4) .0))) tt;
+      matrix = is-accepted (d .settings .matrix) _ (none 4);
       right = ltb-false _ _ (inside .0);
       bottom = ltb-false _ _ (inside .1);
     }

@@ -163,7 +163,7 @@ fn check_size(width: u32, height: u32) -> YuvAnswer
     check_large(width, height)
 }
 
-fn check_matrix(matrix: YuvStandardMatrix) -> YuvAnswer
+pub fn check_matrix(matrix: YuvStandardMatrix) -> YuvAnswer
     ensures { λ r. ⌜ numbersOf r ≡ firstOf (matrixRules matrix) ⌝ }
 {
     if matrix.is_accepted() {
