@@ -7,15 +7,17 @@
  * Call segvartin_frame, segvartin_open and segvartin_band, or the same calls with their numbers in structs: segvartin_convert_frame,
  * segvartin_open_frame and segvartin_convert_band. With choices that these do not have, which today are the rounding of the curve tables and a
  * window (the frame is a rectangle inside a larger source): segvartin_convert_frame_with, segvartin_open_frame_with and
- * segvartin_convert_band_with. All only pass numbers on to the library's segvartin_call_ functions below.
+ * segvartin_convert_band_with. How many colours share a luma, in a matrix and range: segvartin_luma_counts. All only pass numbers on to the
+ * library's segvartin_call_ functions below.
  *
- * docs/RULES.md has the rules that fix each byte and each answer; RULES 7.1 below names one of them. The library's three functions are the
+ * docs/RULES.md has the rules that fix each byte and each answer; RULES 7.1 below names one of them. The library's four functions are the
  * calls of its chapter 10.
  *
- * Every function answers finished work (0) or the number of one refusal, and a refusal writes no byte of a plane or of the carried row.
- * This holds for all values of all numbers: sizes, strides, lengths, codes, kr, kb. What no function can check, and the caller must see to:
- *   - a pointer is not NULL, also where its length is 0, and points to as many bytes as the length beside it says;
- *   - source, y, u, v, carried, done, expected and received do not overlap.
+ * Every function answers finished work (0) or the number of one refusal, and a refusal writes no byte of a plane or of the carried row, and no
+ * count. This holds for all values of all numbers: sizes, strides, lengths, codes, kr, kb. What no function can check, and the caller must
+ * see to:
+ *   - a pointer is not NULL, also where its length is 0, and points to as many bytes as the length beside it says; counts to 256 numbers;
+ *   - source, y, u, v, carried, counts, done, expected and received do not overlap.
  *
  * The caller's floating-point mode (rounding, denormals, trapped exceptions) does not matter: each call is made in the default mode, and the
  * caller's mode and exception flags are put back as they were. Only SEGVARTIN_FCC and SEGVARTIN_CUSTOM use floats at all.
@@ -114,8 +116,9 @@ enum {
  *   numbers          frame: stride, description. open: description. band: done, rows, stride, description. The description is ten numbers:
  *                    width, height, channels, sampling, range, matrix, transfer, y_stride, u_stride, v_stride; or eleven, the last of them
  *                    rounding; or fifteen, the last four of them left, top, source_width, source_height. Where it is not given, rounding is
- *                    SEGVARTIN_TRUNCATED, and where they are not, these four are 0, 0, width, height. Any other count is refusal 1.
- *                    A later version may take further numbers; a call that does not give them stays the call that it is today
+ *                    SEGVARTIN_TRUNCATED, and where they are not, these four are 0, 0, width, height. luma_counts: range, matrix. Any other
+ *                    count is refusal 1. A later version may take further numbers; a call that does not give them stays the call that it is
+ *                    today
  *   custom           kr, kb
  *   told             gets expected, received, and in open and band the rows done: 0, and what they are after the band
  *   the others       as below; numbers, custom and told overlap nothing either
@@ -129,6 +132,9 @@ uint32_t segvartin_call_open(const uint32_t *numbers, size_t numbers_len, const 
 uint32_t segvartin_call_band(const uint32_t *numbers, size_t numbers_len, const float custom[2], const uint8_t *source, size_t source_len,
                              uint8_t *y, size_t y_len, uint8_t *u, size_t u_len, uint8_t *v, size_t v_len, uint8_t *carried,
                              size_t carried_len, size_t told[3]);
+
+uint32_t segvartin_call_luma_counts(const uint32_t *numbers, size_t numbers_len, const float custom[2], uint32_t counts[256],
+                                    size_t told[2]);
 /* End of what tools/declarations.py makes. */
 
 /* MXCSR: the floating-point mode and the exception flags. */
@@ -145,7 +151,7 @@ static inline void segvartin_set_mode(uint32_t mode) { __asm__ __volatile__("ldm
 /* Where the mode changes nothing is inlined, so that no floating-point operation of the caller's is moved to where the mode is not its own. */
 #define SEGVARTIN_APART static __attribute__((noinline, unused))
 
-/* The library's calls in the default mode, with the parameters that they have above. All functions below make their calls by these three. */
+/* The library's calls in the default mode, with the parameters that they have above. All functions below make their calls by these. */
 SEGVARTIN_APART uint32_t segvartin_frame_in_default_mode(const uint32_t *numbers, size_t numbers_len, const float custom[2],
                                                          const uint8_t *source, size_t source_len, uint8_t *y, size_t y_len, uint8_t *u,
                                                          size_t u_len, uint8_t *v, size_t v_len, size_t told[2]) {
@@ -174,6 +180,16 @@ SEGVARTIN_APART uint32_t segvartin_band_in_default_mode(const uint32_t *numbers,
     uint32_t number;
     segvartin_set_mode(SEGVARTIN_DEFAULT_MODE);
     number = segvartin_call_band(numbers, numbers_len, custom, source, source_len, y, y_len, u, u_len, v, v_len, carried, carried_len, told);
+    segvartin_set_mode(mode);
+    return number;
+}
+
+SEGVARTIN_APART uint32_t segvartin_luma_counts_in_default_mode(const uint32_t *numbers, size_t numbers_len, const float custom[2],
+                                                               uint32_t counts[256], size_t told[2]) {
+    const uint32_t mode = segvartin_get_mode();
+    uint32_t number;
+    segvartin_set_mode(SEGVARTIN_DEFAULT_MODE);
+    number = segvartin_call_luma_counts(numbers, numbers_len, custom, counts, told);
     segvartin_set_mode(mode);
     return number;
 }
@@ -451,6 +467,22 @@ static inline segvartin_answer segvartin_convert_band_with(segvartin_state_with 
     a.received = told[1];
     state->done = told[2] & 0xffffffffu; /* the rows done are 32 bits */
     return a;
+}
+
+/*
+ * Counts how many of the 16777216 colours R, G, B have each luma (RULES 5.3, 10.4). Answers 0, or a refusal: 1, 4. Neither carries expected and
+ * received, so they are not told. The call goes through all colours, which takes about ten milliseconds.
+ *
+ *   range, matrix    the codes above; luma depends on no other setting
+ *   kr, kb           each from 0 to 0.5; looked at where matrix is SEGVARTIN_CUSTOM
+ *   counts           256 numbers: counts[y] gets how many colours have luma y. They add to 16777216; in SEGVARTIN_LIMITED those below 16 and above
+ *                    235 are 0
+ */
+static inline uint32_t segvartin_luma_counts(uint32_t range, uint32_t matrix, float kr, float kb, uint32_t counts[256]) {
+    const uint32_t numbers[2] = {range, matrix};
+    const float custom[2] = {kr, kb};
+    size_t told[2];
+    return segvartin_luma_counts_in_default_mode(numbers, 2, custom, counts, told);
 }
 
 #ifdef __cplusplus

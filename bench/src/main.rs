@@ -1,4 +1,4 @@
-//! Times this converter and the unaltered Rust on the same frames, in one run, on one thread.
+//! Times this converter and the unaltered Rust on the same frames, in one run, on one thread; and a count of colours beside a loop in C.
 //!
 //! Each figure is the least of many turns. The two, or a frame's forms, take turns, so that a busy
 //! moment of the machine falls on both alike.
@@ -15,7 +15,11 @@ const MOST_OVER_120: f64 = 3.;
 const MOST_APART: f64 = 3.;
 const MOST_OVER_COPIED: f64 = 5.;
 
+// Milliseconds of a count of colours.
+const MOST_OF_COUNTS: f64 = 100.;
+
 const TURNS: usize = 100;
+const TURNS_OF_COUNTS: usize = 25;
 
 /// Where a window begins in its source, in pixels.
 const LEFT: usize = 961;
@@ -232,6 +236,32 @@ fn windows(sampling: usize) -> [f64; 4] {
     [copied, window, padded, copying]
 }
 
+unsafe extern "C" {
+    /// luma_counts.c: of these weights and this bias.
+    fn triple_loop(yr: u32, yg: u32, yb: u32, bias_y: u32, counts: &mut [u32; 256]);
+}
+
+/// The times of a count of colours, Bt601 Full, and of the loop in C, whose counts are the same.
+fn counts() -> [f64; 2] {
+    let ours = || segvartin::luma_counts(segvartin::YuvRange::Full, segvartin::YuvStandardMatrix::Bt601).unwrap();
+    let by_loop = || {
+        let mut counts = [0; 256];
+        // SAFETY: it writes the 256 numbers, and of Bt601 Full no luma is above 255.
+        unsafe { triple_loop(2449, 4809, 934, 0, &mut counts) };
+        counts
+    };
+    assert!(ours() == by_loop(), "the loop in C counts otherwise");
+    let mut least = [f64::MAX; 2];
+    for _ in 0..TURNS_OF_COUNTS {
+        for (form, time) in [&ours as &dyn Fn() -> [u32; 256], &by_loop].iter().zip(&mut least) {
+            let start = Instant::now();
+            std::hint::black_box(form());
+            *time = time.min(start.elapsed().as_secs_f64() * 1e3);
+        }
+    }
+    least
+}
+
 /// Whether every figure is within its bar.
 struct Bars(bool);
 
@@ -309,6 +339,12 @@ fn main() {
     println!("\na call on 2 x 2 pixels, which is the making of the tables: Rust {:.1} us, ours {:.1} us", rust * 1e3, ours * 1e3);
     let [truncated, nearest] = roundings(&mut Frame::new(Content::Noise, 2, 2, 0, 0), 1000);
     println!("by rounding: truncated {:.1} us, nearest {:.1} us, {:.3} times", truncated * 1e3, nearest * 1e3, nearest / truncated);
+
+    println!("\nhow many colours have each luma, ms, beside three loops in C ({} -O3); least of {TURNS_OF_COUNTS} turns; bar: {MOST_OF_COUNTS} ms", env!("BENCH_GCC"));
+    println!("{:<12}{:>8}{:>8}{:>8}", "", "loops", "ours", "over");
+    let [ours, loops] = counts();
+    let said = bars.hold(ours < MOST_OF_COUNTS);
+    println!("{:<12}{loops:>8.1}{ours:>8.1}{:>8.2}{said}", "Bt601 Full", ours / loops);
     if !bars.0 {
         std::process::exit(1);
     }

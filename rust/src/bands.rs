@@ -15,7 +15,7 @@ pub struct FrameState {
 impl FrameState {
     /// A state with no row done. Refuses a size (2, 3) or a matrix (4); of plane strides it says nothing, the first band call does.
     pub fn open(frame: FrameDescription) -> Result<FrameState, YuvError> {
-        let done = open(&frame.numbers(0, 0, 0)[3..], &frame.custom())?;
+        let done = open(&frame.numbers(0, 0, 0)[3..], &frame.matrix.custom())?;
         Ok(FrameState { frame, done })
     }
 
@@ -36,7 +36,7 @@ impl FrameState {
     ) -> (FrameState, Result<(), YuvError>) {
         let frame = self.frame;
         let numbers = frame.numbers(self.done, rows, stride);
-        let (done, answer) = convert(&numbers, &frame.custom(), source, y, u, v, carried);
+        let (done, answer) = convert(&numbers, &frame.matrix.custom(), source, y, u, v, carried);
         (FrameState { frame, done }, answer)
     }
 }
@@ -58,7 +58,7 @@ impl FrameStateWith {
         options: FrameOptions,
     ) -> Result<FrameStateWith, YuvError> {
         let numbers = frame.numbers_with(&options, 0, 0, 0);
-        let done = open(&numbers[3..], &frame.custom())?;
+        let done = open(&numbers[3..], &frame.matrix.custom())?;
         Ok(FrameStateWith {
             frame,
             options,
@@ -82,7 +82,7 @@ impl FrameStateWith {
     ) -> (FrameStateWith, Result<(), YuvError>) {
         let frame = self.frame;
         let numbers = frame.numbers_with(&self.options, self.done, rows, stride);
-        let (done, answer) = convert(&numbers, &frame.custom(), source, y, u, v, carried);
+        let (done, answer) = convert(&numbers, &frame.matrix.custom(), source, y, u, v, carried);
         (FrameStateWith { done, ..self }, answer)
     }
 }

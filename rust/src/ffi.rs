@@ -40,4 +40,12 @@ unsafe extern "C" {
         carried_len: usize,
         told: &mut [usize; 3],
     ) -> u32;
+
+    pub(crate) fn segvartin_call_luma_counts(
+        numbers: *const u32,
+        numbers_len: usize,
+        custom: &[f32; 2],
+        counts: &mut [u32; 256],
+        told: &mut [usize; 2],
+    ) -> u32;
 }

@@ -21,7 +21,7 @@ pub fn rgbx_to_sharp_yuv(
     v: &mut [u8],
 ) -> Result<(), YuvError> {
     let numbers = frame.numbers(0, 0, stride);
-    convert(&numbers[2..], &frame.custom(), source, y, u, v)
+    convert(&numbers[2..], &frame.matrix.custom(), source, y, u, v)
 }
 
 /// As [`rgbx_to_sharp_yuv`], with the choices of `options`; with those of [`FrameOptions::of`] it is the same call. Refusals are 2, 3, 4, 14, 6 to
@@ -61,7 +61,7 @@ pub fn rgbx_to_sharp_yuv_with(
     v: &mut [u8],
 ) -> Result<(), YuvError> {
     let numbers = frame.numbers_with(options, 0, 0, stride);
-    convert(&numbers[2..], &frame.custom(), source, y, u, v)
+    convert(&numbers[2..], &frame.matrix.custom(), source, y, u, v)
 }
 
 /// The library's frame call on these numbers.

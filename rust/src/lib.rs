@@ -3,7 +3,8 @@
 //! Every call answers finished work or one numbered refusal ([`YuvError`]), for all sizes, strides, lengths and settings; a refusal writes no
 //! byte. The rules that fix each byte and each answer are docs/RULES.md of the repository; RULES 7.1 in a comment is one of them.
 //!
-//! No frame or band call panics. [`YuvPlanarImageMut::alloc`] makes the planes as [`Vec`]s, and ends as those do where memory does not suffice.
+//! No frame or band call panics, and neither does [`luma_counts`], which tells how many colours share a luma. [`YuvPlanarImageMut::alloc`] makes the
+//! planes as [`Vec`]s, and ends as those do where memory does not suffice.
 //!
 //! The caller's floating-point mode (rounding, denormals, trapped exceptions) does not matter: each call is made in the default mode, and the
 //! caller's mode and exception flags are put back as they were.
@@ -18,6 +19,7 @@
 //! ```
 
 mod bands;
+mod counts;
 mod error;
 mod ffi;
 mod frame;
@@ -26,6 +28,7 @@ mod mode;
 mod settings;
 
 pub use bands::{FrameState, FrameStateWith};
+pub use counts::luma_counts;
 pub use error::{MismatchedSize, YuvError};
 pub use frame::*;
 pub use image::{BufferStoreMut, YuvPlanarImageMut};

@@ -25,6 +25,15 @@ pub enum YuvRange {
     Full,
 }
 
+impl YuvRange {
+    pub(crate) fn code(self) -> u32 {
+        match self {
+            YuvRange::Limited => 0,
+            YuvRange::Full => 1,
+        }
+    }
+}
+
 /// Declares standard prebuilt YUV conversion matrices.
 #[derive(Debug, Copy, Clone, PartialEq)]
 pub enum YuvStandardMatrix {
@@ -37,6 +46,28 @@ pub enum YuvStandardMatrix {
     Fcc,
     /// kr, then kb, each from 0 to 0.5; anything else is refused.
     Custom(f32, f32),
+}
+
+impl YuvStandardMatrix {
+    pub(crate) fn code(self) -> u32 {
+        match self {
+            YuvStandardMatrix::Bt601 => 0,
+            YuvStandardMatrix::Bt709 => 1,
+            YuvStandardMatrix::Bt2020 => 2,
+            YuvStandardMatrix::Smpte240 => 3,
+            YuvStandardMatrix::Bt470_6 => 4,
+            YuvStandardMatrix::Fcc => 5,
+            YuvStandardMatrix::Custom(..) => 6,
+        }
+    }
+
+    /// kr and kb, which the library looks at for Custom alone.
+    pub(crate) fn custom(self) -> [f32; 2] {
+        match self {
+            YuvStandardMatrix::Custom(kr, kb) => [kr, kb],
+            _ => [0.0, 0.0],
+        }
+    }
 }
 
 /// Declares transfer function for transfer components into a linear colorspace and its inverse.
@@ -158,19 +189,6 @@ impl FrameDescription {
             YuvChromaSubsampling::Yuv420 => 0,
             YuvChromaSubsampling::Yuv422 => 1,
         };
-        let range = match self.range {
-            YuvRange::Limited => 0,
-            YuvRange::Full => 1,
-        };
-        let matrix = match self.matrix {
-            YuvStandardMatrix::Bt601 => 0,
-            YuvStandardMatrix::Bt709 => 1,
-            YuvStandardMatrix::Bt2020 => 2,
-            YuvStandardMatrix::Smpte240 => 3,
-            YuvStandardMatrix::Bt470_6 => 4,
-            YuvStandardMatrix::Fcc => 5,
-            YuvStandardMatrix::Custom(..) => 6,
-        };
         let transfer = match self.transfer {
             SharpYuvGammaTransfer::Srgb => 0,
             SharpYuvGammaTransfer::Rec709 => 1,
@@ -185,8 +203,8 @@ impl FrameDescription {
             self.height,
             channels,
             sampling,
-            range,
-            matrix,
+            self.range.code(),
+            self.matrix.code(),
             transfer,
             self.y_stride,
             self.u_stride,
@@ -218,13 +236,5 @@ impl FrameDescription {
             window.source_height,
         ]);
         numbers
-    }
-
-    /// kr and kb, which the library looks at for Custom alone.
-    pub(crate) fn custom(&self) -> [f32; 2] {
-        match self.matrix {
-            YuvStandardMatrix::Custom(kr, kb) => [kr, kb],
-            _ => [0.0, 0.0],
-        }
     }
 }

@@ -203,6 +203,22 @@ fn by_export(width: u32, height: u32, custom: [f32; 2], source: &[u8]) -> (u32, 
     (number, planes)
 }
 
+/// The number that the exported count answers, and its counts, for Limited and a Custom matrix.
+fn counts_by_export(custom: [f32; 2]) -> (u32, [u32; 256]) {
+    let (numbers, mut counts) = ([0, 6], [0; 256]);
+    // SAFETY: each pointer is that of an array beside its own length, or of a local; no two overlap, as the borrows say.
+    let number = unsafe {
+        ffi::segvartin_call_luma_counts(
+            numbers.as_ptr(),
+            numbers.len(),
+            &custom,
+            &mut counts,
+            &mut [0; 2],
+        )
+    };
+    (number, counts)
+}
+
 #[test]
 fn the_same_in_every_mode() {
     let refused = Err(YuvError::MatrixNotAccepted);
@@ -276,12 +292,46 @@ fn the_export_rounds_as_its_caller() {
     }
 }
 
+/// Weights 101, 6782, 152; in another rounding mode the first is 100 or the last 153.
+const BY_ROUNDING: [f32; 2] = [f32::from_bits(0x3c6a_0a85), f32::from_bits(0x3cb1_9188)];
+
+/// Each accepted call goes through all colours, so there are few of them.
+#[test]
+fn the_same_counts_in_every_mode() {
+    let [kr, kb] = BY_ROUNDING;
+    for matrix in [
+        YuvStandardMatrix::Fcc,
+        YuvStandardMatrix::Custom(kr, kb),
+        YuvStandardMatrix::Custom(0.0f32.next_down(), kb),
+        YuvStandardMatrix::Custom(kr, f32::NAN),
+    ] {
+        let usual = luma_counts(YuvRange::Limited, matrix);
+        for mode in modes() {
+            let (before, after, counts) = in_mode(mode, || luma_counts(YuvRange::Limited, matrix));
+            assert_eq!((before, after, counts), (mode, mode, usual));
+        }
+    }
+}
+
+#[test]
+fn the_export_counts_as_its_caller_rounds() {
+    let [kr, kb] = BY_ROUNDING;
+    let usual = luma_counts(YuvRange::Limited, YuvStandardMatrix::Custom(kr, kb)).unwrap();
+    for rounding in 0..4 {
+        let export = || counts_by_export(BY_ROUNDING);
+        let (_, _, (number, counts)) = in_mode(DEFAULT + 0x2000 * rounding, export);
+        assert_eq!((number, counts == usual), (0, rounding == 0));
+    }
+}
+
 /// A negative kr that counts as 0 where denormals do.
 #[test]
 fn the_export_takes_denormals_as_its_caller() {
     let source = [0; 45];
     for (mode, number) in [(DEFAULT, 4), (DEFAULT + DENORMALS_ARE_ZERO, 0)] {
         let export = || by_export(5, 3, [0.0f32.next_down(), 0.1], &source);
+        assert_eq!(in_mode(mode, export).2.0, number);
+        let export = || counts_by_export([0.0f32.next_down(), 0.1]);
         assert_eq!(in_mode(mode, export).2.0, number);
     }
 }

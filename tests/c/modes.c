@@ -56,6 +56,7 @@ static uint8_t source[STRIDE * H];
 typedef struct outcome {
     size_t expected, received;
     uint32_t number, done;
+    uint32_t counts[256];
     uint8_t y[W * H], u[CW * H], v[CW * H], carried[3 * W];
 } outcome;
 
@@ -178,6 +179,21 @@ static void bands_in_window(const segvartin_description *d, outcome *o) {
     o->done = state.done;
 }
 
+/* How many colours share a luma, by the range and the matrix of the description alone. */
+static void colours(const segvartin_description *d, outcome *o) {
+    o->number = segvartin_luma_counts(d->range, d->matrix, d->kr, d->kb, o->counts);
+}
+
+/* As colours, by the exported function alone. */
+static void bare_colours(const segvartin_description *d, outcome *o) {
+    const uint32_t numbers[2] = {d->range, d->matrix};
+    const float custom[2] = {d->kr, d->kb};
+    size_t sizes[2];
+    o->number = segvartin_call_luma_counts(numbers, 2, custom, o->counts, sizes);
+    o->expected = sizes[0];
+    o->received = sizes[1];
+}
+
 /* As frame, by the exported function alone. */
 static void bare(const segvartin_description *d, outcome *o) {
     const uint32_t numbers[11] = {3 * d->width, d->width,    d->height,   d->channels, d->sampling, d->range,
@@ -215,6 +231,17 @@ static segvartin_description description(uint32_t width, uint32_t height, uint32
     return d;
 }
 
+/* The call leaves in each mode what it left in the default mode. */
+static void as_usual(call *made, const segvartin_description *d, const outcome *usual) {
+    for (int mode = 0; mode < MODES; mode++) {
+        outcome o;
+        unsigned mxcsr[2];
+        in_mode(mode, made, d, &o, mxcsr);
+        EXPECT(!differ(&o, usual));
+        EXPECT(mxcsr[1] == mxcsr[0]);
+    }
+}
+
 /* The calls, in each mode: answered with this number, and the same bytes as in the default mode. */
 static void in_every_mode(const segvartin_description *d, uint32_t number) {
     static call *const calls[9] = {frame, opening, bands, frame_with, opening_with, bands_with, frame_in_window, opening_of_window, bands_in_window};
@@ -228,11 +255,7 @@ static void in_every_mode(const segvartin_description *d, uint32_t number) {
         }
         EXPECT(usual.number == number && usual.expected == 0 && usual.received == 0);
         EXPECT(usual.done == (i % 3 == 2 && number == SEGVARTIN_FINISHED ? d->height : 0));
-        for (int mode = 0; mode < MODES; mode++) {
-            in_mode(mode, calls[i], d, &o, mxcsr);
-            EXPECT(!differ(&o, &usual));
-            EXPECT(mxcsr[1] == mxcsr[0]);
-        }
+        as_usual(calls[i], d, &usual);
     }
 }
 
@@ -293,6 +316,36 @@ static void another_rounding(void) {
     }
 }
 
+/*
+ * Counts in each mode: of Fcc, of every limit that is refused, and of a Custom matrix whose weights are 101, 6782, 152 by RULES 4.4 and 4.5. Computed in
+ * another rounding mode yr is 100 or yb 153, and the counts are others. Each accepted call goes through all colours, so there are no more of them.
+ */
+static void counts_of_colours(void) {
+    segvartin_description d = description(W, H, SEGVARTIN_YUV420, SEGVARTIN_LIMITED, SEGVARTIN_FCC);
+    outcome usual, o;
+    unsigned mxcsr[2];
+    in_mode(0, colours, &d, &usual, mxcsr);
+    EXPECT(usual.number == SEGVARTIN_FINISHED && usual.counts[16] > 0 && usual.counts[235] > 0);
+    as_usual(colours, &d, &usual);
+    d.matrix = SEGVARTIN_CUSTOM;
+    for (size_t i = 0; i < sizeof limits / sizeof *limits; i++)
+        for (int other = 0; other < 2; other++) {
+            if (limits[i].number == SEGVARTIN_FINISHED) continue;
+            d.kr = other ? 0.257f : of_bits(limits[i].bits), d.kb = other ? of_bits(limits[i].bits) : 0.257f;
+            memset(&usual, 0, sizeof usual);
+            usual.number = SEGVARTIN_MATRIX_NOT_ACCEPTED;
+            as_usual(colours, &d, &usual);
+        }
+    d.kr = of_bits(0x3c6a0a85), d.kb = of_bits(0x3cb19188);
+    in_mode(0, colours, &d, &usual, mxcsr);
+    EXPECT(usual.number == SEGVARTIN_FINISHED);
+    as_usual(colours, &d, &usual);
+    for (int mode = 0; mode < 4; mode++) {
+        in_mode(mode, bare_colours, &d, &o, mxcsr);
+        EXPECT(o.number == SEGVARTIN_FINISHED && (differ(&o, &usual) != 0) == (mode != 0));
+    }
+}
+
 /* A negative kr that counts as 0 where denormals do. */
 static void another_answer(void) {
     segvartin_description d = description(W, H, SEGVARTIN_YUV420, SEGVARTIN_FULL, SEGVARTIN_CUSTOM);
@@ -305,6 +358,8 @@ static void another_answer(void) {
         in_mode(mode, frame_with, &d, &o, mxcsr);
         EXPECT(o.number == SEGVARTIN_MATRIX_NOT_ACCEPTED);
         in_mode(mode, bare, &d, &o, mxcsr);
+        EXPECT(o.number == (mode == 0 ? SEGVARTIN_MATRIX_NOT_ACCEPTED : SEGVARTIN_FINISHED));
+        in_mode(mode, bare_colours, &d, &o, mxcsr);
         EXPECT(o.number == (mode == 0 ? SEGVARTIN_MATRIX_NOT_ACCEPTED : SEGVARTIN_FINISHED));
     }
 }
@@ -331,8 +386,9 @@ static void another_end(void) {
     segvartin_description d = description(W, H, SEGVARTIN_YUV420, SEGVARTIN_FULL, SEGVARTIN_FCC);
     EXPECT(!ends(frame, &d) && !ends(bands, &d) && !ends(frame_with, &d) && !ends(bands_with, &d) && ends(bare, &d));
     EXPECT(!ends(frame_in_window, &d) && !ends(bands_in_window, &d));
+    EXPECT(!ends(colours, &d) && ends(bare_colours, &d));
     d.matrix = SEGVARTIN_BT709;
-    EXPECT(!ends(bare, &d));
+    EXPECT(!ends(bare, &d) && !ends(bare_colours, &d));
 }
 
 int main(void) {
@@ -346,6 +402,7 @@ int main(void) {
     for (size_t i = 0; i < sizeof source; i++) source[i] = (uint8_t)(i * i * 31 + i * 7);
     matrices();
     another_rounding();
+    counts_of_colours();
     another_answer();
     another_end();
     return finish("modes");

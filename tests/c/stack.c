@@ -1,7 +1,7 @@
 /*
- * The stack that a call takes, for every setting, without options and with: nearest tables, and a window onto a larger source. Each call runs on a
- * thread whose stack is filled with one byte first; from where the call is made down to the lowest byte that changed is what it took. Bytes that a
- * call reserves and never writes are not seen.
+ * The stack that a call takes, for every setting, without options and with: nearest tables, and a window onto a larger source; and that of a count of
+ * colours, for every range and matrix. Each call runs on a thread whose stack is filled with one byte first; from where the call is made down to the
+ * lowest byte that changed is what it took. Bytes that a call reserves and never writes are not seen.
  */
 #include <pthread.h>
 #include <stdint.h>
@@ -68,6 +68,14 @@ static void *bands(void *unused) {
     return a.number == SEGVARTIN_FINISHED ? unused : &description;
 }
 
+static void *colours(void *unused) {
+    static uint32_t counts[256];
+    uint32_t number;
+    called_from = __builtin_frame_address(0);
+    number = segvartin_luma_counts(description.range, description.matrix, description.kr, description.kb, counts);
+    return number == SEGVARTIN_FINISHED ? unused : &description;
+}
+
 static size_t taken(void *(*call)(void *)) {
     pthread_attr_t attributes;
     pthread_t thread;
@@ -89,7 +97,7 @@ static size_t taken(void *(*call)(void *)) {
 }
 
 int main(void) {
-    size_t most[2] = {0, 0};
+    size_t most[3] = {0, 0, 0};
     uint32_t code;
     description.width = W, description.height = H, description.kr = 0.25f, description.kb = 0.125f;
     description.y_stride = W, description.u_stride = description.v_stride = CW;
@@ -106,6 +114,13 @@ int main(void) {
         if (f > most[0]) most[0] = f;
         if (b > most[1]) most[1] = b;
     }
-    printf("stack, at most: a frame call %zu bytes, a band call %zu\n", most[0], most[1]);
-    return most[0] < PROMISED && most[1] < PROMISED ? 0 : 1;
+    for (code = 0; code < 2 * 7; code++) {
+        size_t c;
+        description.range = code % 2;
+        description.matrix = code / 2;
+        c = taken(colours);
+        if (c > most[2]) most[2] = c;
+    }
+    printf("stack, at most: a frame call %zu bytes, a band call %zu, a count of colours %zu\n", most[0], most[1], most[2]);
+    return most[0] < PROMISED && most[1] < PROMISED && most[2] < PROMISED ? 0 : 1;
 }
