@@ -125,12 +125,24 @@ pub fn of_band_with(slip: Slip, request: &BandRequest) -> Answer {
     first(slip, all)
 }
 
+/// The call that counts colours, by its numbers.
+pub fn of_counts(numbers: &[u32], custom: &[f32; 2]) -> Answer {
+    let [range, matrix] = [0, 1].map(|i| numbers.get(i).copied().unwrap_or(0));
+    let unknown = range > 1 || matrix > 6;
+    let refused = matrix == 6 && custom.iter().copied().any(is_refused);
+    let all = vec![(4, refused, 0, 0), (1, numbers.len() != 2 || unknown, 0, 0)];
+    first(Without, all)
+}
+
+fn is_refused(k: f32) -> bool {
+    k.is_nan() || k < 0.0 || k > 0.5
+}
+
 fn sizes(slip: Slip, w: u32, h: u32, window: &Window, settings: &Settings) -> Vec<Condition> {
     let custom = match settings.matrix {
         YuvStandardMatrix::Custom(kr, kb) => [kr, kb],
         _ => [0.0, 0.0],
     };
-    let outside = |k: &f32| k.is_nan() || *k < 0.0 || *k > 0.5;
     let sides = [
         (window.left, w, window.source_width),
         (window.top, h, window.source_height),
@@ -147,7 +159,7 @@ fn sizes(slip: Slip, w: u32, h: u32, window: &Window, settings: &Settings) -> Ve
     };
     vec![
         (14, sides.into_iter().any(past), 0, 0),
-        (4, custom.iter().any(outside), 0, 0),
+        (4, custom.into_iter().any(is_refused), 0, 0),
         (3, sides.into_iter().any(large), 0, 0),
         (2, sides.into_iter().any(none), 0, 0),
     ]

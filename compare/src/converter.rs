@@ -35,6 +35,16 @@ pub trait Converter {
     fn program(&self, _input: &[u8]) -> Option<Vec<u8>> {
         None
     }
+
+    /// How many colours have each luma, by the numbers of RULES 10.4. None: it has no such call.
+    fn luma_counts(
+        &self,
+        _numbers: &[u32],
+        _custom: &[f32; 2],
+        _counts: &mut [u32; 256],
+    ) -> Option<Answer> {
+        None
+    }
 }
 
 /// The model stands first and the oracle second: frames of all others are held to the model's,
@@ -85,6 +95,16 @@ impl Converter for Model {
 
     fn program(&self, input: &[u8]) -> Option<Vec<u8>> {
         Some(model::program(input))
+    }
+
+    fn luma_counts(
+        &self,
+        numbers: &[u32],
+        custom: &[f32; 2],
+        counts: &mut [u32; 256],
+    ) -> Option<Answer> {
+        let counted = model::luma_counts_by_numbers(numbers, custom);
+        Some(counted.map(|all| *counts = all))
     }
 }
 

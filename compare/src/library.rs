@@ -91,6 +91,41 @@ impl Converter for Library {
         };
         Some((after, answer.map_err(refusal)))
     }
+
+    fn luma_counts(
+        &self,
+        numbers: &[u32],
+        custom: &[f32; 2],
+        counts: &mut [u32; 256],
+    ) -> Option<Answer> {
+        // What stands there before is not looked at.
+        let mut told = [7; 2];
+        // SAFETY: the pointer is that of a slice beside its own length, and no two lent values overlap.
+        let number = unsafe {
+            segvartin_call_luma_counts(numbers.as_ptr(), numbers.len(), custom, counts, &mut told)
+        };
+        let [expected, received] = told.map(|size| size as u64);
+        Some(match (number, told) {
+            (0, [0, 0]) => Ok(()),
+            _ => Err(Refusal {
+                number: u8::try_from(number).unwrap_or(u8::MAX),
+                expected,
+                received,
+            }),
+        })
+    }
+}
+
+// By its numbers, so that those without a meaning can be handed to it too. The mode of the
+// floating-point unit is the default one here.
+unsafe extern "C" {
+    fn segvartin_call_luma_counts(
+        numbers: *const u32,
+        numbers_len: usize,
+        custom: &[f32; 2],
+        counts: &mut [u32; 256],
+        told: &mut [usize; 2],
+    ) -> u32;
 }
 
 /// A state of any numbers: the crate opens one only for a frame that is not refused, and its fields

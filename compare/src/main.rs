@@ -6,6 +6,7 @@ mod calls;
 mod check;
 mod conditions;
 mod converter;
+mod counts;
 mod grey;
 #[cfg(library)]
 mod library;
@@ -33,7 +34,7 @@ use std::time::Instant;
 const USAGE: &str = "compare [--quick] [OPTION NUMBER]..
 compare --vectors ROOT | --check ROOT | --mistakes | --flat
 
-  --quick        a tenth of each number below, for a first look
+  --quick        a tenth of each number below, of the tables 2, for a first look
   --frames N     random frame calls (200000)
   --calls N      random band calls on any state (60000)
   --runs N       frames cut into bands, with refused calls between them (40000)
@@ -42,6 +43,8 @@ compare --vectors ROOT | --check ROOT | --mistakes | --flat
   --pairs N      Custom pairs whose nine weights are compared (1000000)
   --greys N      frame calls whose rectangle is grey, small (100000)
   --grey-runs N  frames cut into bands whose first rows are grey (20000)
+  --tables N     named matrices and ranges, of 12, whose counts of colours are compared (12)
+  --counts N     Custom pairs whose counts of colours are compared (200), and 100 times as many refused calls
   --side N       sizes to N by N (64); some are 1,920 by 1,080, some up to 16,384 long and thin;
                  four of five lie in a source that is larger by up to 18 each way, or all it may be
   --seed N       seed of all of these (1)
@@ -74,6 +77,8 @@ struct Options {
     pairs: u64,
     greys: u64,
     grey_runs: u64,
+    tables: u64,
+    counts: u64,
     side: u64,
     seed: u64,
     list: u64,
@@ -88,6 +93,8 @@ fn options() -> Option<Options> {
         pairs: 1_000_000,
         greys: 100_000,
         grey_runs: 20_000,
+        tables: 12,
+        counts: 200,
         side: 64,
         seed: 1,
         list: 0,
@@ -103,6 +110,8 @@ fn options() -> Option<Options> {
                 options.pairs /= 10;
                 options.greys /= 10;
                 options.grey_runs /= 10;
+                options.tables = 2;
+                options.counts /= 10;
                 continue;
             }
             "--frames" => &mut options.frames,
@@ -112,6 +121,8 @@ fn options() -> Option<Options> {
             "--pairs" => &mut options.pairs,
             "--greys" => &mut options.greys,
             "--grey-runs" => &mut options.grey_runs,
+            "--tables" => &mut options.tables,
+            "--counts" => &mut options.counts,
             "--side" => &mut options.side,
             "--seed" => &mut options.seed,
             "--list" => &mut options.list,
@@ -177,12 +188,18 @@ fn main() {
         |case| GreyRun::random(&mut Random::new(seed, 7, case)),
     );
     timed(|| grey::changed(seed, &converters));
+    timed(|| counts::check(options.tables, options.counts, seed, &converters));
+    if let Some(built) = program::Program::built(COUNTING) {
+        timed(|| counts::check_program(options.counts, seed, &built));
+    } else {
+        println!("target/bin/{COUNTING} is not here: it was run on no input");
+    }
     let input = |case| random::input(&mut Random::new(seed, 4, case), side);
     let grey_input = |case| GreyInput::random(&mut Random::new(seed, 13, case));
     compare("program inputs", options.programs, &converters, input);
     let greys = options.programs / GREY;
     compare("grey program inputs", greys, &converters, grey_input);
-    if let Some(built) = program::Program::built() {
+    if let Some(built) = program::Program::built("frame") {
         let mut converters = converters;
         converters.push(Box::new(built));
         let inputs = options.programs / RUN;
@@ -194,6 +211,9 @@ fn main() {
     }
     println!("all equal, {:.1} s", start.elapsed().as_secs_f64());
 }
+
+/// The program that counts colours.
+const COUNTING: &str = "luma_counts";
 
 /// Prints what is said and how long it took; what is wrong ends the run.
 fn timed(check: impl Fn() -> Result<String, String>) {

@@ -9,6 +9,7 @@
 #![forbid(unsafe_code)]
 
 pub mod bands;
+pub mod counts;
 pub mod curves;
 pub mod frame;
 pub mod grey;
@@ -21,6 +22,7 @@ mod whole;
 mod window;
 
 pub use bands::{FrameState, open};
+pub use counts::{luma_counts, luma_counts_by_numbers, luma_counts_program};
 pub use frame::{Frame, frame};
 pub use program::program;
 pub use refusals::{Answer, Refusal};

@@ -48,17 +48,18 @@ pub(crate) fn size_matrix_and_window(
     refuse_if(w == 0 || h == 0, 2)?;
     let sides = [w, h, window.source_width, window.source_height];
     refuse_if(sides.iter().any(|side| *side > LARGEST_SIDE), 3)?;
-    refuse_if(!accepted(settings.matrix), 4)?;
+    matrix_accepted(settings.matrix)?;
     refuse_if(window.is_outside(w, h), 14)
 }
 
-/// RULES 7.4. No comparison holds of NaN, and -0 compares as 0.
-fn accepted(matrix: YuvStandardMatrix) -> bool {
+/// RULES 7.4: 4. No comparison holds of NaN, and -0 compares as 0.
+pub(crate) fn matrix_accepted(matrix: YuvStandardMatrix) -> Answer {
     let from_0_to_half = |k: f32| (0.0..=0.5).contains(&k);
-    match matrix {
+    let accepted = match matrix {
         YuvStandardMatrix::Custom(kr, kb) => from_0_to_half(kr) && from_0_to_half(kb),
         _ => true,
-    }
+    };
+    refuse_if(!accepted, 4)
 }
 
 /// A lent buffer: its length, its stride and the rows it must hold.
