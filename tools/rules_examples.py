@@ -416,6 +416,106 @@ def counts_program(given):
     return ''.join(f'{y} {count}\n' for y, count in enumerate(luma_counts(s.weigh()))).encode()
 
 
+# ---- chapter 11
+
+MOST_RECORDS = 4096
+Entry = namedtuple('Entry', 'crossing w h offset length y y_length u u_length v v_length')
+
+
+def low_first(value, count):
+    return value.to_bytes(count, 'little')
+
+
+def plane_sizes(w, h):
+    cw, ch = chroma_size(Settings(), w, h)
+    return w * h, cw * ch, cw * ch
+
+
+def record_of(crossing, w, h, planes):
+    return low_first(crossing, 4) + low_first(w, 2) + low_first(h, 2) + b''.join(planes)
+
+
+def file_of(records):
+    pairs, offset = b'', 4 + 12 * len(records)
+    for record in records:
+        pairs += low_first(offset, 8) + low_first(len(record), 4)
+        offset += len(record)
+    return low_first(len(records), 4) + pairs + b''.join(records)
+
+
+def records_in(data):
+    """The records that stand back to back, or None."""
+    records, at = [], 0
+    while at < len(data):
+        header = data[at:at + 8]
+        w, h = int.from_bytes(header[4:6], 'little'), int.from_bytes(header[6:8], 'little')
+        length = 8 + sum(plane_sizes(w, h))
+        if len(header) < 8 or not (1 <= w <= 16384 and 1 <= h <= 16384) or at + length > len(data):
+            return None
+        records.append(data[at:at + length])
+        at += length
+    return records if len(records) <= MOST_RECORDS else None
+
+
+def records_of(data):
+    """The records of a file, or None: those of the one list that may have these bytes."""
+    n = int.from_bytes(data[:4], 'little')
+    records = records_in(data[4 + 12 * n:]) if len(data) >= 4 and n <= MOST_RECORDS else None
+    return records if records is not None and file_of(records) == data else None
+
+
+def entries_of(data):
+    """An entry for each record of a file, or None."""
+    records = records_of(data)
+    if records is None:
+        return None
+    entries, offset = [], 4 + 12 * len(records)
+    for record in records:
+        crossing, w, h = (int.from_bytes(record[a:b], 'little') for a, b in ((0, 4), (4, 6), (6, 8)))
+        parts, at = [], offset + 8
+        for size in plane_sizes(w, h):
+            parts += [at, size]
+            at += size
+        entries.append(Entry(crossing, w, h, offset, len(record), *parts))
+        offset += len(record)
+    return entries
+
+
+def read_call(data, first, room):
+    """11.4: the answer, how many records, and the entries written."""
+    entries = entries_of(data)
+    return (15, 0, []) if entries is None else (0, len(entries), entries[first:first + room])
+
+
+def put(output, data):
+    """16 where the output is too short, else 0 with the bytes written."""
+    if len(output) < len(data):
+        return 16
+    output[:len(data)] = data
+    return 0
+
+
+def write_call(data, output):
+    """11.5: the answer and the size."""
+    records = records_in(data)
+    return (15, 0) if records is None else (put(output, file_of(records)), len(file_of(records)))
+
+
+def record_call(crossing, w, h, strides, planes, output):
+    """11.6: the answer, three numbers, and the size."""
+    if not (1 <= w <= 16384 and 1 <= h <= 16384):
+        return (15, 0, 0), 0
+    # a source that no condition holds of
+    found = buffers(Settings(), w, h, 1, [3 * w, *strides], [3 * w, *map(len, planes)], whole(w, h))
+    if found:
+        return found, 0
+    cw, ch = chroma_size(Settings(), w, h)
+    rows = [b''.join(bytes(plane[r * stride:r * stride + row]) for r in range(count))
+            for plane, stride, row, count in zip(planes, strides, (w, cw, cw), (h, ch, ch))]
+    record = record_of(crossing, w, h, rows)
+    return (put(output, record), 0, 0), len(record)
+
+
 # ---- the examples, by the number of their rule
 
 EXAMPLES = {}
@@ -1387,6 +1487,145 @@ def _():
         number, after = counts_call(given, *pair, kept)
         said = f'numbers {numbers(given)}' if given else 'no numbers'
         yield f'{said}, kr {pair[0]:.9g}, kb {pair[1]:.9g}: returns {number}, tells 0, 0; {after[0]}, {after[108]}, {after[255]}'
+
+
+def told(answer, *told):
+    return f'returns {answer}, tells ' + ', '.join(map(str, told))
+
+
+def filled(count):
+    return bytearray(b'\xee' * count)
+
+
+@example('10.5')
+def _():
+    data = file_of(TWO)
+    for first, room in ((0, 22), (0, 21), (1, 40), (2, 22), (18446744073709551615, 22)):
+        number, count, entries = read_call(data, first, room // 11)
+        yield f'shift_records, the file of 11.1, first {first}, {room} numbers: {told(number, count, len(entries))}; {11 * len(entries)} of the numbers are written'
+    number, count, entries = read_call(data[:-1], 0, 2)
+    yield f'shift_records, that file without its last byte, first 0, 22 numbers: {told(number, count, len(entries))}; none is written'
+    for length in (57, 56):
+        yield f'shift_write, the two records of 11.2, output of {length} bytes: {told(*write_call(b"".join(TWO), filled(length)))}'
+    for strides, lengths, length in (((4, 3, 2), (8, 3, 2), 18), ((4, 3, 2), (8, 3, 2), 17), ((4, 3, 2), (7, 3, 2), 18), ((2, 3, 2), (8, 3, 2), 0)):
+        answer, size = record_call(1400, 3, 2, strides, [bytes(count) for count in lengths], filled(length))
+        yield f'shift_record, numbers {numbers((1400, 3, 2, *strides))}, planes of {", ".join(map(str, lengths))}, output of {length} bytes: {told(*answer, size)}'
+
+
+# ---- chapter 11
+
+TWO = [record_of(1400, 3, 2, [bytes([0x10, 0x11, 0x12, 0x20, 0x21, 0x22]), bytes([0x30, 0x31]), bytes([0x40, 0x41])]),
+       record_of(70000, 1, 1, [b'\x50', b'\x60', b'\x70'])]
+
+
+@example('11.1')
+def _():
+    data = file_of(TWO)
+    yield f'no records: {hexes(file_of([]))}'
+    yield f'the two records of 11.2, {len(data)} bytes in hexadecimal:'
+    lines = [(data[:4], f'{len(TWO)} records')]
+    lines += [(data[4 + 12 * k:16 + 12 * k], f'pair {k}: offset {entry.offset}, length {entry.length}') for k, entry in enumerate(entries_of(data))]
+    lines += [(record, f'record {k}') for k, record in enumerate(TWO)]
+    width = max(len(hexes(part)) for part, _ in lines)
+    for part, said in lines:
+        yield f'{hexes(part):<{width}}   {said}'
+    longest = 8 + sum(plane_sizes(16384, 16384))
+    most = 4 + (12 + longest) * MOST_RECORDS
+    yield f'4096 records of 16384 × 16384: 4 + 12 × 4096 + 4096 × {longest} = {most} bytes, of {most.bit_length()} bits'
+
+
+@example('11.2')
+def _():
+    for record, entry in zip(TWO, entries_of(file_of(TWO))):
+        start = entry.offset
+        y, u, v = (record[at - start:at - start + size] for at, size in ((entry.y, entry.y_length), (entry.u, entry.u_length), (entry.v, entry.v_length)))
+        yield f'crossing {entry.crossing}, {entry.w} × {entry.h}, {plane_text([y, u, v])}: {len(record)} bytes {hexes(record)}'
+    for w, h in ((1, 1), (2, 2), (3, 3), (1920, 1080), (16384, 16384)):
+        y, u, v = plane_sizes(w, h)
+        length = 8 + y + u + v
+        yield f'{w} × {h}: 8 + {y} + {u} + {v} = {length} bytes' + (f', of {length.bit_length()} bits' if w == 16384 else '')
+
+
+@example('11.3')
+def _():
+    data = file_of(TWO)
+
+    def changed(at, value, count):
+        return data[:at] + low_first(value, count) + data[at + count:]
+    yield f'the file of 11.1, {len(data)} bytes, with one thing changed'
+    for said, given in (
+            ('nothing', data), ('no last byte', data[:-1]), ('a byte 00 behind', data + b'\0'), ('count 1', changed(0, 1, 4)), ('count 3', changed(0, 3, 4)),
+            ('count 4097', changed(0, 4097, 4)), ('count 4294967295', changed(0, 4294967295, 4)), ('offset 0 is 27', changed(4, 27, 8)),
+            ('offset 0 is 4294967324, which is 2 ^ 32 + 28', changed(4, 4294967324, 8)), ('offset 1 is 45', changed(16, 45, 8)),
+            ('offset 1 is 18446744073709551615', changed(16, 18446744073709551615, 8)), ('length 0 is 17', changed(12, 17, 4)),
+            ('pairs exchanged', data[:4] + data[16:28] + data[4:16] + data[28:]), ('w of record 0 is 0', changed(32, 0, 2)),
+            ('w of record 0 is 16385', changed(32, 16385, 2)), ('w of record 0 is 4', changed(32, 4, 2)),
+            ('w and h of record 0 exchanged, which leaves it as long', changed(32, 2 + (3 << 16), 4)),
+            ('crossing of record 1 is that of record 0', changed(46, 1400, 4)), ('last byte FF', data[:-1] + b'\xff')):
+        yield f'{said}: ' + ('15' if records_of(given) is None else 'not 15')
+    for said, given in (('no bytes', b''), ('00 00 00', bytes(3)), ('00 00 00 00', bytes(4)), ('00 00 00 00 00', bytes(5)),
+                        ('4096 times the second record, by 11.1,', file_of([TWO[1]] * 4096)), ('4097 times the second record, by 11.1 but for n,', file_of([TWO[1]] * 4097))):
+        yield f'{said} as a file: ' + ('15' if records_of(given) is None else 'not 15')
+    small = TWO[1]
+    for said, given in (('no bytes', b''), ('the two records of 11.2', b''.join(TWO)), ('the same without the last byte', b''.join(TWO)[:-1]),
+                        ('the same and seven bytes of a third', b''.join(TWO) + small[:7]), ('the file of 11.1', data),
+                        ('4096 times the second record', small * 4096), ('4097 times the second record', small * 4097)):
+        yield f'{said} as records: ' + ('15' if records_in(given) is None else 'not 15')
+
+
+def count_of(entries):
+    return '1 entry' if len(entries) == 1 else f'{len(entries)} entries'
+
+
+@example('11.4')
+def _():
+    data = file_of(TWO)
+    number, count, entries = read_call(data, 0, 2)
+    yield f'the file of 11.1, first 0, room for 2 entries: {number}, {count} records, {count_of(entries)}'
+    for entry in entries:
+        yield '  ' + numbers(entry)
+    for first, room in ((0, 1), (1, 5), (2, 5), (18446744073709551615, 5), (0, 0)):
+        number, count, entries = read_call(data, first, room)
+        said = ', '.join(f'that of crossing {entry.crossing}' for entry in entries)
+        yield f'first {first}, room for {room}: {number}, {count} records, {count_of(entries)}' + (f', {said}' if entries else '')
+    number, count, entries = read_call(data + b'\0', 0, 2)
+    yield f'with a byte behind the file, first 0, room for 2: {number}, {count} records, {count_of(entries)}'
+    yield f'a file of 4096 records of 16384 × 16384: the last starts at byte {4 + 12 * 4096 + 4095 * (8 + sum(plane_sizes(16384, 16384)))}'
+
+
+@example('11.5')
+def _():
+    yield 'all bytes of the output EE before'
+    for said, given, length in (('the second record of 11.2', TWO[1], 30), ('the second record of 11.2', TWO[1], 27), ('the second record of 11.2', TWO[1], 26),
+                                ('no record', b'', 5), ('no record', b'', 3), ('the second record without its last byte', TWO[1][:-1], 0)):
+        output = filled(length)
+        number, size = write_call(given, output)
+        yield f'{said}, output of {length} bytes: {number}, size {size}' + (f'; the output is {hexes(output)}' if number == 0 else '')
+
+
+@example('11.6')
+def _():
+    yield 'w 3, h 2: cw 2, ch 1; strides and lengths of Y, U, V; crossing 1400; all bytes of the output EE before'
+    planes = [bytes([0x10, 0x11, 0x12, 0x99, 0x20, 0x21, 0x22, 0x99]), bytes([0x30, 0x31, 0x99]), bytes([0x40, 0x41])]
+    output = filled(20)
+    answer, size = record_call(1400, 3, 2, (4, 3, 2), planes, output)
+    assert output[:18] == TWO[0]
+    yield f'strides 4 3 2, {plane_text(planes)}, output of 20 bytes: {answer[0]}, size {size}; the output is {hexes(output)}'
+    for said, w, h, strides, lengths, length in (
+            ('the same, output of 17 bytes', 3, 2, (4, 3, 2), (8, 3, 2), 17), ('output of 17 bytes, Y stride', 3, 2, (2, 3, 2), (8, 3, 2), 17),
+            ('Y one byte under', 3, 2, (4, 3, 2), (6, 3, 2), 18), ('U stride', 3, 2, (4, 1, 2), (8, 3, 2), 18), ('V one byte under', 3, 2, (4, 3, 2), (8, 3, 1), 18),
+            ('Y without its last padding', 3, 2, (4, 3, 2), (7, 3, 2), 18), ('V longer', 3, 2, (4, 3, 2), (8, 3, 3), 18),
+            ('w 0, and all else 0 too', 0, 2, (0, 0, 0), (0, 0, 0), 0), ('w 16385', 16385, 2, (16385, 8193, 8193), (32770, 8193, 8193), 0),
+            ('h 4294967295', 3, 4294967295, (4, 3, 2), (8, 3, 2), 18)):
+        answer, size = record_call(1400, w, h, strides, [bytes(count) for count in lengths], filled(length))
+        yield answer_line(f'{said}, strides {numbers(strides)}, lengths {numbers(lengths)}', answer) + f', size {size}'
+
+
+@example('11.7')
+def _():
+    mark = b'\xff' * 4
+    for said, given in (('FF FF FF FF', mark), ('FF FF FF FF 00 00 00 00', mark + bytes(4)), ('FF FF FF FF and behind it the file of 11.1', mark + file_of(TWO))):
+        yield f'{said}: ' + ('15' if records_of(given) is None else 'not 15')
 
 
 # ---- appendix A
