@@ -1,0 +1,3 @@
+-- The laws.
+pub mod Number
+pub mod Stores
