@@ -34,6 +34,8 @@ pub fn error_numbers(e: YuvError) -> AnswerNumbers
         YuvError::WholeRowsMismatch(size) => AnswerNumbers { number: 12, size },
         YuvError::CarriedRowSizeMismatch(size) => AnswerNumbers { number: 13, size },
         YuvError::WindowOutsideSource => AnswerNumbers { number: 14, size },
+        YuvError::MalformedShiftFile => AnswerNumbers { number: 15, size },
+        YuvError::OutputTooShort => AnswerNumbers { number: 16, size },
     }
 }
 

@@ -11,6 +11,7 @@ use Rattle.yuv_error.specs.declared.YuvError.the-variants.{MalformedRequ
 use Rattle.yuv_error.specs.declared.YuvError.the-variants.{DestinationSizeMismatch, MinimumStrideSizeMismatch, LumaPlaneMinimumSizeMismatch}
 use Rattle.yuv_error.specs.declared.YuvError.the-variants.{LumaPlaneSizeMismatch, UPlaneMinimumSizeMismatch, VPlaneMinimumSizeMismatch}
 use Rattle.yuv_error.specs.declared.YuvError.the-variants.{WholeRowsMismatch, CarriedRowSizeMismatch, WindowOutsideSource}
+use Rattle.yuv_error.specs.declared.YuvError.the-variants.{MalformedShiftFile, OutputTooShort}
 use Rattle.yuv_error.specs.declared.YuvAnswer.{YuvAnswer}
 use Rattle.yuv_error.specs.declared.YuvAnswer.the-variants.{Finished, Refused}
 
@@ -30,6 +31,8 @@ found (Refused (VPlaneMinimumSizeMismatch m)) = refl
 found (Refused (WholeRowsMismatch m)) = refl
 found (Refused (CarriedRowSizeMismatch m)) = refl
 found (Refused WindowOutsideSource) = refl
+found (Refused MalformedShiftFile) = refl
+found (Refused OutputTooShort) = refl
 
 -- two answers of equal numbers are equal
 pub same-answer : (a b : YuvAnswer) → numbersOf a ≡ numbersOf b → a ≡ b

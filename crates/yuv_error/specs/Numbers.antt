@@ -9,6 +9,7 @@ use Rattle.yuv_error.specs.declared.YuvError.the-variants.{MalformedRequ
 use Rattle.yuv_error.specs.declared.YuvError.the-variants.{DestinationSizeMismatch, MinimumStrideSizeMismatch, LumaPlaneMinimumSizeMismatch}
 use Rattle.yuv_error.specs.declared.YuvError.the-variants.{LumaPlaneSizeMismatch, UPlaneMinimumSizeMismatch, VPlaneMinimumSizeMismatch}
 use Rattle.yuv_error.specs.declared.YuvError.the-variants.{WholeRowsMismatch, CarriedRowSizeMismatch, WindowOutsideSource}
+use Rattle.yuv_error.specs.declared.YuvError.the-variants.{MalformedShiftFile, OutputTooShort}
 use Rattle.yuv_error.specs.declared.YuvAnswer.{YuvAnswer}
 use Rattle.yuv_error.specs.declared.YuvAnswer.the-variants.{Finished, Refused}
 
@@ -42,6 +43,8 @@ errorNumbers (VPlaneMinimumSizeMismatch m) = sized 11 m
 errorNumbers (WholeRowsMismatch m) = sized 12 m
 errorNumbers (CarriedRowSizeMismatch m) = sized 13 m
 errorNumbers WindowOutsideSource = numbers 14 0 0
+errorNumbers MalformedShiftFile = numbers 15 0 0
+errorNumbers OutputTooShort = numbers 16 0 0
 
 -- RULES 7.1: finished work is number 0
 abbrev pub numbersOf : YuvAnswer → Numbers
@@ -65,7 +68,9 @@ answers m =
     Refused (VPlaneMinimumSizeMismatch m) ∷
     Refused (WholeRowsMismatch m) ∷
     Refused (CarriedRowSizeMismatch m) ∷
-    Refused WindowOutsideSource ∷ []
+    Refused WindowOutsideSource ∷
+    Refused MalformedShiftFile ∷
+    Refused OutputTooShort ∷ []
 
 -- RULES 7.1: the answer of these numbers, the other way round
 abbrev pub answerOf : Numbers → YuvAnswer

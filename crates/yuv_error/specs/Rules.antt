@@ -71,6 +71,10 @@ planeRules narrow short b =
 abbrev pub wholeRules : LentBuffer → List Rule
 wholeRules b = rule 12 (notWhole b) (wholeOf b) (b .len) ∷ []
 
+-- RULES 11.6: 8 to 12 of planes alone, in order
+abbrev pub planesRules : (y u v : LentBuffer) → List Rule
+planesRules y u v = planeRules 8 9 y ++ planeRules 10 10 u ++ planeRules 11 11 v ++ wholeRules y ++ wholeRules u ++ wholeRules v
+
 -- RULES 7.1, 7.5, 7.6, 7.7: 6 to 12, in order
 abbrev pub bufferRules : (source y u v : LentBuffer) → List Rule
 bufferRules source y u v =

@@ -6,7 +6,7 @@ ghost use Rattle.yuv_error.specs.Numbers.{sized, errorNumbers, numbersOf
 ghost use Rattle.yuv_error.specs.Bounded.{Bounded};
 ghost use Rattle.yuv_error.specs.Checks.{andThen, planeRulesSaying, chromaNumber};
 ghost use Rattle.yuv_error.specs.Rules.{firstOf, largeRules, sizeRules, matrixRules, leastOf, wholeOf, tooShort, tooNarrow};
-ghost use Rattle.yuv_error.specs.Rules.{sourceRules, planeRules, wholeRules, bufferRules};
+ghost use Rattle.yuv_error.specs.Rules.{sourceRules, planeRules, wholeRules, planesRules, bufferRules};
 ghost use Rattle.yuv_error.specs.Lent.{windowRules, openingRules, lentRules};
 ghost use Rattle.yuv_error.specs.Known.{Sized};
 use definitions::FrameDescription;
@@ -38,6 +38,8 @@ pub enum YuvError {
     WholeRowsMismatch(MismatchedSize),
     CarriedRowSizeMismatch(MismatchedSize),
     WindowOutsideSource,
+    MalformedShiftFile,
+    OutputTooShort,
 }
 
 // What a call answers: finished work, or one refusal.
@@ -290,6 +292,22 @@ fn check_buffers(source: LentBuffer, y: LentBuffer, u: LentBuffer, v: LentBuffer
         .and(check_chroma_channel(ChromaPlane::V, v));
     let whole = check_whole_rows(source)
         .and(check_whole_rows(y))
+        .and(check_whole_rows(u))
+        .and(check_whole_rows(v));
+    sizes.and(whole)
+}
+
+// Refusals 8 to 12, of planes that are read and not written.
+pub fn check_planes(y: LentBuffer, u: LentBuffer, v: LentBuffer) -> YuvAnswer
+    requires { ⌜ Bounded y ⌝ }
+    requires { ⌜ Bounded u ⌝ }
+    requires { ⌜ Bounded v ⌝ }
+    ensures { λ r. ⌜ numbersOf r ≡ firstOf (planesRules y u v) ⌝ }
+{
+    let sizes = check_y8_channel(y)
+        .and(check_chroma_channel(ChromaPlane::U, u))
+        .and(check_chroma_channel(ChromaPlane::V, v));
+    let whole = check_whole_rows(y)
         .and(check_whole_rows(u))
         .and(check_whole_rows(v));
     sizes.and(whole)

@@ -48,10 +48,18 @@ returns-13 c = sym (ap errorNumbers (c .before .e8 .given .1))
 returns-14 : tie.Need-returns-14
 returns-14 c = sym (ap errorNumbers (c .enum-told6 .given .1))
 
+returns-15 : tie.Need-returns-15
+returns-15 c = sym (ap errorNumbers (c .enum-told7 .given .1))
+
+returns-16 : tie.Need-returns-16
+returns-16 c = sym (ap errorNumbers (c .enum-told8 .given .1))
+
 pub error-numbers-spec : {M : Type 1} → statement M
 error-numbers-spec =
     tie.close
     (tie.spec
+    (λ c. search needs)
+    (λ c. search needs)
     (λ c. search needs)
     (λ c. search needs)
     (λ c. search needs)
@@ -79,4 +87,6 @@ error-numbers-spec =
     returns-11
     returns-12
     returns-13
-    returns-14)
+    returns-14
+    returns-15
+    returns-16)
