@@ -1,0 +1,26 @@
+-- `y_part` meets its contract: the luma plane stands where the entry says.
+-- Assumes nothing.
+use native.Mathlib.Omega.{arith}
+use Prim.Native.Nat.{_+_, _≤_}
+use mathlib.Core.Path.{_∙_}
+use lib.ListN.{length}
+use denote.Ref.{now}
+use Rattle.shift_reader.proofs.Places.{planes-inside, y-there}
+use borrow.Author.Needs.{needs}
+use Rattle.shift_reader.proofs.y_part.Statement.{statement}
+use Rattle.shift_reader.proofs.y_part.Tie as tie
+
+part-of-requires : tie.Need-part-of-requires
+part-of-requires c κs =
+    let s = c .before .before in
+    let e = c .entry-of .ensures in
+    omega (arith, e .y-offset, e .y-size, planes-inside (s .args .form) (now (s .args .file)) _ (s .args .k) (s .pre .is-file) (s .pre .below))
+
+returns : tie.Need-returns
+returns c =
+    let e = c .before .entry-of .ensures in
+    let s = c .before .before .before in
+    c .part-of .ensures ∙ rw (e .y-offset, e .y-size) (y-there (s .args .form) (now (s .args .file)) _ (s .args .k) (s .pre .is-file) (s .pre .below))
+
+pub y-part-spec : {M : Type 1} → statement M
+y-part-spec = tie.close (tie.spec (λ c κs. search needs) part-of-requires returns)

@@ -1,0 +1,4 @@
+-- Reading a shift file.
+pub mod Entry
+pub mod Reading
+pub mod Known
