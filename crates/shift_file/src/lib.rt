@@ -4,7 +4,7 @@
 use yuv_support::YuvChromaSubsampling;
 ghost use mathlib.Core.Path.{_≡_};
 ghost use Prim.Native.Nat.{_+_, _*_, _≤_, _<_};
-ghost use lib.ListN.{length, drop};
+ghost use lib.ListN.{length, take, drop};
 ghost use Rattle.yuv_support.specs.Sampling.{chromaWidth, chromaHeight};
 ghost use Rattle.shift_file.specs.File.{markSize, settingsSize, headerSize, pairsAt, isCode, isSide, codesAllowed, samplingOf};
 ghost use Rattle.shift_file.specs.Read.{settingsAt, sizeAt, countAt};
@@ -150,6 +150,15 @@ pub fn from_place(bytes: &[u8], at: usize) -> &[u8]
     ensures { λ r. ⌜ now r ≡ drop at (now (bytes .entry)) ⌝ }
 {
     &bytes[at..]
+}
+
+// So many bytes from a place on.
+pub fn part_of(bytes: &[u8], at: usize, size: usize) -> &[u8]
+    requires { ⌜ at + size ≤ length (now bytes) ⌝ }
+    ensures { λ r. ⌜ now r ≡ take size (drop at (now (bytes .entry))) ⌝ }
+{
+    let end = at + size;
+    &bytes[at..end]
 }
 
 fn pair_is(pair: &[u8], at: usize, size: usize) -> bool

@@ -5,7 +5,7 @@ use yuv_error::YuvAnswer;
 use yuv_error::YuvError;
 ghost use mathlib.Core.Path.{_≡_};
 ghost use Prim.Native.Nat.{_+_, _*_, _≤_, min};
-ghost use lib.ListN.{length, take, drop};
+ghost use lib.ListN.{length};
 ghost use lib.Seq.{sets};
 ghost use Rattle.shift_file.specs.File.{bytesOf};
 ghost use Rattle.shift_file.specs.Read.{recordsIn};
@@ -85,21 +85,13 @@ pub fn entry_of(form: ShiftForm, file: &[u8], k: usize) -> ShiftEntry
 
 // ---- parts
 
-fn part_of(file: &[u8], offset: usize, size: usize) -> &[u8]
-    requires { ⌜ offset + size ≤ length (now file) ⌝ }
-    ensures { λ r. ⌜ now r ≡ take size (drop offset (now (file .entry))) ⌝ }
-{
-    let end = offset + size;
-    &file[offset..end]
-}
-
 // Record k: header and planes.
 pub fn record_part(form: ShiftForm, file: &[u8], k: usize) -> &[u8]
     requires { ⌜ HasRecord form (now file) k ⌝ }
     ensures { λ r. ⌜ now r ≡ bytesOf (recordOf form (now (file .entry)) k) ⌝ }
 {
     let entry = entry_of(form, file, k);
-    part_of(file, entry.offset, entry.length)
+    shift_file::part_of(file, entry.offset, entry.length)
 }
 
 pub fn y_part(form: ShiftForm, file: &[u8], k: usize) -> &[u8]
@@ -107,7 +99,7 @@ pub fn y_part(form: ShiftForm, file: &[u8], k: usize) -> &[u8]
     ensures { λ r. ⌜ now r ≡ recordOf form (now (file .entry)) k .y ⌝ }
 {
     let entry = entry_of(form, file, k);
-    part_of(file, entry.y_offset, entry.y_length)
+    shift_file::part_of(file, entry.y_offset, entry.y_length)
 }
 
 pub fn u_part(form: ShiftForm, file: &[u8], k: usize) -> &[u8]
@@ -115,7 +107,7 @@ pub fn u_part(form: ShiftForm, file: &[u8], k: usize) -> &[u8]
     ensures { λ r. ⌜ now r ≡ recordOf form (now (file .entry)) k .u ⌝ }
 {
     let entry = entry_of(form, file, k);
-    part_of(file, entry.u_offset, entry.chroma_length)
+    shift_file::part_of(file, entry.u_offset, entry.chroma_length)
 }
 
 pub fn v_part(form: ShiftForm, file: &[u8], k: usize) -> &[u8]
@@ -123,7 +115,7 @@ pub fn v_part(form: ShiftForm, file: &[u8], k: usize) -> &[u8]
     ensures { λ r. ⌜ now r ≡ recordOf form (now (file .entry)) k .v ⌝ }
 {
     let entry = entry_of(form, file, k);
-    part_of(file, entry.v_offset, entry.chroma_length)
+    shift_file::part_of(file, entry.v_offset, entry.chroma_length)
 }
 
 // ---- entries

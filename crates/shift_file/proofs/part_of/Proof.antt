@@ -2,8 +2,8 @@
 -- Assumes nothing.
 use native.Mathlib.Nat.{add-sub-cancel-left}
 use borrow.Author.Needs.{needs}
-use Rattle.shift_reader.proofs.part_of.Statement.{statement}
-use Rattle.shift_reader.proofs.part_of.Tie as tie
+use Rattle.shift_file.proofs.part_of.Statement.{statement}
+use Rattle.shift_file.proofs.part_of.Tie as tie
 
 returns : tie.Need-returns
 returns c = rw add-sub-cancel-left

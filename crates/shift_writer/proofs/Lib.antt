@@ -1,0 +1,4 @@
+-- The laws.
+pub mod Count
+pub mod Pairs
+pub mod Answers

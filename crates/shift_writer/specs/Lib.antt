@@ -1,0 +1,5 @@
+-- Writing a shift file.
+pub mod Records
+pub mod Output
+pub mod Writing
+pub mod Known
