@@ -42,7 +42,7 @@ pairs-done form b d off at pair zero h = refl
 pairs-done form b d off at pair (suc n) h = absurd (omega arith)
 
 -- four runs, one after the other
-sets-four : (a b c e d : List ℕ) (p q r : ℕ) → length a ≡ p → p + length b ≡ q → q + length c ≡ r
+pub sets-four : (a b c e d : List ℕ) (p q r : ℕ) → length a ≡ p → p + length b ≡ q → q + length c ≡ r
     → sets (sets (sets (sets d 0 a) p b) q c) r e ≡ sets d 0 (a ++ (b ++ (c ++ e)))
 sets-four a b c e d p q r hp hq hr =
     rw (sets-append a (b ++ (c ++ e)) d 0, zero-add (length a), hp, sets-append b (c ++ e) (sets d 0 a) p, hq, sets-append c e (sets (sets d 0 a) p b) q, hr)

@@ -1,7 +1,7 @@
 -- What a caller knows once no refusal was answered: no condition holds, so each bound does. Assumes nothing.
 use Prim.Native.Nat.{ℕ, _+_, _*_, _≤_}
-use mathlib.Core.Bool.{Bool, true, false, not, _||_, true≢false}
-use mathlib.Core.List.{List}
+use mathlib.Core.Bool.{Bool, true, false, cond, not, _||_, true≢false}
+use mathlib.Core.List.{List, [], _∷_}
 use mathlib.Core.Path.{_≡_, refl, sym, subst}
 use native.Mathlib.Omega.{arith}
 use lib.Dec.{T, ltb, eqb}
@@ -10,7 +10,7 @@ use Rattle.yuv_support.specs.declared.YuvStandardMatrix.{YuvStandardMatrix}
 use Rattle.yuv_support.specs.Matrix.{accepted}
 use Rattle.definitions.specs.declared.FrameDescription.{FrameDescription}
 use Rattle.definitions.specs.Image.{sourceRowSize}
-use Rattle.yuv_error.specs.Rules.{Rule, firstOf, bufferRules, tooNarrow, notWhole}
+use Rattle.yuv_error.specs.Rules.{Rule, firstOf, planesRules, bufferRules, tooNarrow, notWhole}
 use Rattle.yuv_error.specs.Lowest.{inOrder, NoneHolds}
 use Rattle.yuv_error.specs.Lent.{sourceOf, yOf, uOf, vOf, openingRules, lentRules}
 use Rattle.yuv_error.specs.Known.{Sized, PlanesLent}
@@ -25,6 +25,20 @@ none-holds rs up e = first-is-lowest rs (firstOf rs) up .0 refl .finished .0 e
 pub neither : (a b : Bool) → a || b ≡ false → (a ≡ false) × (b ≡ false)
 neither true b h = absurd (true≢false h)
 neither false b h = (refl, h)
+
+-- a rule has this number
+abbrev pub isSaid : ℕ → List Rule → Bool
+isSaid n [] = false
+isSaid n (r ∷ rs) = eqb (r .says .number) n || isSaid n rs
+
+-- a number that no rule has is not answered, unless it is finished work's
+pub never-said : (n : ℕ) (xs : List Rule) → isSaid n xs ≡ false → eqb 0 n ≡ false → eqb (firstOf xs .number) n ≡ false
+never-said n [] h z = z
+never-said n (r ∷ xs) h z = let p = neither (eqb (r .says .number) n) (isSaid n xs) h in step (r .holds) (p .0) (never-said n xs (p .1) z)
+  where
+    step : (b : Bool) → eqb (r .says .number) n ≡ false → eqb (firstOf xs .number) n ≡ false → eqb (cond b (r .says) (firstOf xs) .number) n ≡ false
+    step true p q = p
+    step false p q = q
 
 -- where 4 does not hold
 pub is-accepted : (matrix : YuvStandardMatrix) (others : Bool) → not (accepted matrix) || others ≡ false → T (accepted matrix)
@@ -84,6 +98,18 @@ accepted-buffers source y u v e =
       u-rows = whole-rows u (neither (tooNarrow u) _ (none 10) .0) (u12 .0);
       v-rows = whole-rows v (neither (tooNarrow v) _ (none 11) .0) (v12 .0);
     }
+
+-- planes alone
+pub accepted-planes : (y u v : LentBuffer) → firstOf (planesRules y u v) .number ≡ 0 → WholeRows y × WholeRows u × WholeRows v
+accepted-planes y u v e =
+    let none = none-holds (planesRules y u v) refl e in
+    let y12 = neither (notWhole y) _ (none 12) in
+    let u12 = neither (notWhole u) _ (y12 .1) in
+    let v12 = neither (notWhole v) _ (u12 .1) in (
+      whole-rows y (neither (tooNarrow y) _ (none 8) .0) (y12 .0),
+      whole-rows u (neither (tooNarrow u) _ (none 10) .0) (u12 .0),
+      whole-rows v (neither (tooNarrow v) _ (none 11) .0) (v12 .0),
+    )
 
 -- the source of so many rows, and the planes
 pub record Buffers (d : FrameDescription) (rows stride : ℕ) (n : Lengths) : Type 0 where

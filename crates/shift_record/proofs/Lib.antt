@@ -1,0 +1,3 @@
+-- The laws.
+pub mod Rows
+pub mod Made

@@ -1,0 +1,3 @@
+-- One record from planes.
+pub mod Record
+pub mod Known
