@@ -6,6 +6,11 @@ use mathlib.Core.List.{List, [], _∷_}
 use native.Mathlib.Omega.{arith}
 use lib.ListN.{length, set}
 
+pub one-told : (l : List ℕ) (a : ℕ) → length l ≡ 1 → set l 0 a ≡ a ∷ []
+one-told [] a e = absurd (omega arith)
+one-told (x ∷ []) a e = refl
+one-told (x ∷ y ∷ l) a e = absurd (omega arith)
+
 pub two-told : (l : List ℕ) (a b : ℕ) → length l ≡ 2 → set (set l 0 a) 1 b ≡ a ∷ b ∷ []
 two-told [] a b e = absurd (omega arith)
 two-told (x ∷ []) a b e = absurd (omega arith)

@@ -2,3 +2,4 @@
 pub mod Answered
 pub mod Lists
 pub mod Counts
+pub mod Shift

@@ -3,13 +3,22 @@
 // calls with structs over them.
 use band_calls::FrameState;
 use call_numbers::Told;
+use shift_file::ShiftForm;
+use shift_reader::ShiftReading;
+use shift_record::RecordFrame;
+use shift_writer::ShiftWritten;
 use yuv_error::YuvAnswer;
 use yuv_error::YuvError;
+ghost use mathlib.Core.Path.{_≡_};
 ghost use mathlib.Core.List.{[], _∷_};
+ghost use Prim.Native.Nat.{_≤_};
+ghost use lib.ListN.{length, set};
+ghost use Rattle.yuv_error.specs.Numbers.{numbersOf};
 ghost use Rattle.segvartin.specs.Calls.{exportedFrame, FrameAnswered, FrameKept};
 ghost use Rattle.segvartin.specs.Calls.{exportedOpening, OpenAnswered, OpenKept};
 ghost use Rattle.segvartin.specs.Calls.{exportedBand, BandAnswered, BandKept};
 ghost use Rattle.segvartin.specs.Counts.{exportedCounts, CountsAnswered, CountsKept};
+ghost use Rattle.segvartin.specs.Shift.{exportedReading, ReadingKept, exportedWriting, WritingKept, exportedRecord, RecordKept};
 
 // What stands before the description: the source's stride of a frame; the rows done, the rows and the source's stride of a band.
 const OF_FRAME: usize = 1;
@@ -166,4 +175,95 @@ pub extern "C" fn segvartin_call_luma_counts(
         n (now (told .exit)) (now (counts .exit))) ⌝ }
 {
     call_numbers::tell_answer(counts_answer(numbers, custom, counts), told)
+}
+
+// ---- The shift file. Its refusals 15 and 16 come without expected and received, so those who answer no other have room for counts instead.
+
+fn tell_reading(reading: ShiftReading, told: &mut [usize]) -> u32
+    requires { ⌜ 2 ≤ length (now told) ⌝ }
+    ensures { λ n. ⌜ (n ≡ numbersOf (reading .answer) .number) × (now (told .exit) ≡ set (set (now (told .entry)) 0 (reading .count)) 1 (reading .told)) ⌝ }
+{
+    let answer = reading.answer;
+    let numbered = error_numbers::answer_numbers(answer);
+    told[0] = reading.count;
+    told[1] = reading.told;
+    numbered.number
+}
+
+// How many records a shift file has (0), or 15 where these bytes are none, with nothing written. Eleven numbers go to `entries` for each record from
+// `first` on that has room: crossing, width, height, then offset and length of the record, of Y, of U and of V. told: the count, and how many
+// records were told of.
+#[no_mangle]
+pub extern "C" fn segvartin_call_shift_records(
+    file: &[u8],
+    first: usize,
+    entries: &mut [u64],
+    told: &mut [usize; 2],
+) -> u32
+    ensures { λ n. ⌜ ReadingKept (exportedReading (now (file .entry)) first (now (entries .entry)) n (now (told .exit)) (now (entries .exit))) ⌝ }
+{
+    let reading = shift_reader::read_records(ShiftForm::WithoutSettings, file, first, entries);
+    tell_reading(reading, told)
+}
+
+fn tell_size(written: ShiftWritten, told: &mut [usize]) -> u32
+    requires { ⌜ 1 ≤ length (now told) ⌝ }
+    ensures { λ n. ⌜ (n ≡ numbersOf (written .answer) .number) × (now (told .exit) ≡ set (now (told .entry)) 0 (written .size)) ⌝ }
+{
+    let answer = written.answer;
+    let numbered = error_numbers::answer_numbers(answer);
+    told[0] = written.size;
+    numbered.number
+}
+
+// Writes the shift file of records back to back (0); or answers 15 where they are no list of records that has a file, 16 where `file` is shorter than
+// it, and writes nothing. told: the file's size, after 16 too.
+#[no_mangle]
+pub extern "C" fn segvartin_call_shift_write(
+    records: &[u8],
+    file: &mut [u8],
+    told: &mut [usize; 1],
+) -> u32
+    ensures { λ n. ⌜ WritingKept (exportedWriting (now (records .entry)) (now (file .entry)) n (now (told .exit)) (now (file .exit))) ⌝ }
+{
+    let written = shift_writer::write_file(ShiftForm::WithoutSettings, records, file);
+    tell_size(written, told)
+}
+
+fn tell_written(written: ShiftWritten, told: &mut [usize]) -> u32
+    requires { ⌜ 3 ≤ length (now told) ⌝ }
+    ensures { λ n. ⌜ (n ≡ numbersOf (written .answer) .number) × (now (told .exit)
+        ≡ set (set (set (now (told .entry)) 0 (numbersOf (written .answer) .expected)) 1 (numbersOf (written .answer) .received)) 2 (written .size)) ⌝ }
+{
+    let answer = written.answer;
+    let number = call_numbers::tell_answer(answer, told);
+    told[2] = written.size;
+    number
+}
+
+// Makes one record of planes of 4:2:0 as a frame call leaves them (0); or answers 15 where a side is not 1 to 16,384, 8 to 12 as a frame call does, 16
+// where `record` is shorter than it, and writes nothing. numbers: crossing, width, height, the strides of Y, U and V. told: expected, received,
+// and the record's size, after 16 too.
+#[no_mangle]
+pub extern "C" fn segvartin_call_shift_record(
+    numbers: &[u32; 6],
+    y: &[u8],
+    u: &[u8],
+    v: &[u8],
+    record: &mut [u8],
+    told: &mut [usize; 3],
+) -> u32
+    ensures { λ n. ⌜ RecordKept (exportedRecord (now (numbers .entry)) (now (y .entry)) (now (u .entry)) (now (v .entry))
+        (now («record» .entry)) n (now (told .exit)) (now («record» .exit))) ⌝ }
+{
+    let frame = RecordFrame {
+        crossing: numbers[0],
+        width: numbers[1],
+        height: numbers[2],
+        y_stride: numbers[3],
+        u_stride: numbers[4],
+        v_stride: numbers[5],
+    };
+    let written = shift_record::write_record(frame, y, u, v, record);
+    tell_written(written, told)
 }

@@ -1,0 +1,60 @@
+-- What the exported calls of the shift file come to: the numbers that they told are those of the first rule that holds, and refused, they wrote nothing.
+-- Assumes nothing.
+use Prim.Native.Nat.{ℕ, _≤_}
+use mathlib.Core.Path.{_≡_, refl, sym, ap, subst, _∙_}
+use mathlib.Core.Bool.{Bool, true, false, cond}
+use mathlib.Core.List.{List, [], _∷_}
+use Rattle.yuv_error.specs.declared.YuvAnswer.{YuvAnswer}
+use Rattle.yuv_error.specs.declared.YuvAnswer.the-variants.{Refused}
+use Rattle.yuv_error.specs.Numbers.{Numbers, numbers, numbersOf}
+use Rattle.yuv_error.specs.Rules.{Rule, firstOf}
+use Rattle.shift_reader.proofs.Post.{refused-writes-nothing}
+use Rattle.shift_writer.specs.Output.{overwritten}
+use Rattle.segvartin.specs.Lists.{numbersTold}
+use Rattle.segvartin.specs.Shift.{ExportedReading, rulesOfReading, ReadingKept}
+use Rattle.segvartin.specs.Shift.{ExportedWriting, rulesOfWriting, WritingKept}
+use Rattle.segvartin.specs.Shift.{ExportedRecord, rulesOfRecord, RecordKept}
+use Rattle.segvartin.proofs.Lists.{is-refused}
+
+-- rules that say no size
+abbrev Plain : List Rule → Type 0
+Plain [] = Unit {0}
+Plain (r ∷ rs) = (r .says ≡ numbers (r .says .number) 0 0) × Plain rs
+
+plain-step : (b : Bool) (x y : Numbers) → x ≡ numbers (x .number) 0 0 → y ≡ numbers (y .number) 0 0 → cond b x y ≡ numbers (cond b x y .number) 0 0
+plain-step true x y p q = p
+plain-step false x y p q = q
+
+plain-first : (rs : List Rule) → Plain rs → firstOf rs ≡ numbers (firstOf rs .number) 0 0
+plain-first [] p = refl
+plain-first (r ∷ rs) p = plain-step (r .holds) (r .says) (firstOf rs) (p .0) (plain-first rs (p .1))
+
+-- a number alone tells such an answer
+alone : (rs : List Rule) {n : ℕ} (a : YuvAnswer) → Plain rs → n ≡ numbersOf a .number → numbersOf a ≡ firstOf rs → numbers n 0 0 ≡ firstOf rs
+alone rs a plain is e = ap (λ (n : ℕ). numbers n 0 0) (is ∙ ap (λ (x : Numbers). x .number) e) ∙ sym (plain-first rs plain)
+
+-- an output that a refused call left
+pub unwritten : (a : YuvAnswer) (bytes : List ℕ) {before after : List ℕ} → 1 ≤ numbersOf a .number → after ≡ overwritten a bytes before → after ≡ before
+unwritten a bytes {before} l e = e ∙ ap (λ (a : YuvAnswer). overwritten a bytes before) (is-refused a l .1)
+
+module _ {k : ExportedReading} (p : ReadingKept k) where
+  pub reading-first : numbers (k .number) 0 0 ≡ firstOf (rulesOfReading k)
+  reading-first = alone (rulesOfReading k) (p .reading .answer) (refl, tt) (p .number) (p .read .answered)
+
+  pub reading-writes-nothing : 1 ≤ k .number → k .entries′ ≡ k .entries
+  reading-writes-nothing l =
+      refused-writes-nothing (is-refused (p .reading .answer) (subst (λ (n : ℕ). 1 ≤ n) (p .number) l) .1) (p .read)
+
+module _ {k : ExportedWriting} (p : WritingKept k) where
+  pub writing-first : numbers (k .number) 0 0 ≡ firstOf (rulesOfWriting k)
+  writing-first = alone (rulesOfWriting k) (p .written .answer) (refl, (refl, tt)) (p .number) (p .wrote .answered)
+
+  pub writing-writes-nothing : 1 ≤ k .number → k .file′ ≡ k .file
+  writing-writes-nothing l = unwritten (p .written .answer) _ (subst (λ (n : ℕ). 1 ≤ n) (p .number) l) (p .wrote .written)
+
+module _ {k : ExportedRecord} (p : RecordKept k) where
+  pub record-first : numbersTold (k .number) (k .told) ≡ firstOf (rulesOfRecord k)
+  record-first = rw (p .number, p .told) (p .wrote .answered)
+
+  pub record-writes-nothing : 1 ≤ k .number → k .output′ ≡ k .output
+  record-writes-nothing l = unwritten (p .written .answer) _ (subst (λ (n : ℕ). 1 ≤ n) (p .number) l) (p .wrote .written)
