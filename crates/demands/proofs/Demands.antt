@@ -8,7 +8,7 @@ use mathlib.Core.List.{List, [], _∷_}
 use native.Mathlib.Omega.{arith}
 use lib.Dec.{T}
 use borrow.Author.Tests.{eq-eqb, ne-eqb}
-use lib.ListN.{take}
+use lib.ListN.{length, take}
 use Rattle.yuv_support.specs.Matrix.{accepted as accepted-matrix}
 use Rattle.yuv_error.specs.declared.YuvError.{YuvError}
 use Rattle.yuv_error.specs.declared.YuvAnswer.{YuvAnswer}
@@ -45,6 +45,12 @@ use Rattle.segvartin.proofs.Lists.{frame-first, frame-writes-nothing, frame-acc
 use Rattle.segvartin.proofs.Lists.{band-first, band-writes-nothing, all-met, refused-kept}
 use Rattle.segvartin.specs.Counts.{rulesOfCounts}
 use Rattle.segvartin.proofs.Counts.{counts-first, counts-write-nothing}
+use Rattle.shift_reader.specs.Reading.{fileRules}
+use Rattle.shift_reader.proofs.Post as reading
+use Rattle.shift_writer.specs.Writing.{writeRules}
+use Rattle.shift_record.specs.Record.{recordRules}
+use Rattle.segvartin.specs.Shift.{rulesOfReading, rulesOfWriting, rulesOfRecord}
+use Rattle.segvartin.proofs.Shift.{unwritten, reading-first, reading-writes-nothing, writing-first, writing-writes-nothing, record-first, record-writes-nothing}
 use Rattle.demands.specs.Demands.{Replied, CountsReplied, Demand1, Demand2, Demand3, WholeFrame, FrameBytes}
 
 -- the promise's equation, read as the sentence of RULES 7.1
@@ -100,6 +106,18 @@ demand-1 = record {
     lowest = lowest (matrixRules matrix) refl (p .answered);
     writes-nothing = λ l. painted-same (rw (refusal a l .1) at (p .counts));
   };
+  shift-reading = λ form file first before r after p. record {
+    lowest = lowest (fileRules form file) refl (p .answered);
+    writes-nothing = λ l. reading.refused-writes-nothing (refusal (r .answer) l .1) p;
+  };
+  shift-writing = λ form records before r after p. record {
+    lowest = lowest (writeRules form records (length before)) refl (p .answered);
+    writes-nothing = λ l. unwritten (r .answer) _ l (p .written);
+  };
+  shift-record = λ f y u v before r after p. record {
+    lowest = lowest (recordRules f y u v (length before)) refl (p .answered);
+    writes-nothing = λ l. unwritten (r .answer) _ l (p .written);
+  };
   reply = λ input output n output′ p. replied input (take n output′) (p .written);
   counts-reply = λ input output n output′ p. counts-replied input (take n output′) (p .written);
   request = λ input output r output′ p. record { lowest = lowest (requestRules input) refl (p .answered); writes-nothing = request-writes-nothing r p };
@@ -107,6 +125,9 @@ demand-1 = record {
   linked-opening = λ k p. (lowest (rulesOfOpening k) refl (open-first p), open-done p);
   linked-band = λ k p. record { lowest = lowest (rulesOfBand k) refl (band-first p); writes-nothing = band-writes-nothing p };
   linked-counts = λ k p. record { lowest = lowest (rulesOfCounts k) refl (counts-first p); writes-nothing = counts-write-nothing p };
+  linked-shift-reading = λ k p. record { lowest = lowest (rulesOfReading k) refl (reading-first p); writes-nothing = reading-writes-nothing p };
+  linked-shift-writing = λ k p. record { lowest = lowest (rulesOfWriting k) refl (writing-first p); writes-nothing = writing-writes-nothing p };
+  linked-shift-record = λ k p. record { lowest = lowest (rulesOfRecord k) refl (record-first p); writes-nothing = record-writes-nothing p };
 }
 
 is-true : (b : Bool) → T b → b ≡ true
@@ -148,7 +169,7 @@ module _ (k : FrameCall) where
     finishes : WholeFrame k → k .answer ≡ Finished
     finishes w = is-finished (k .answer) (ap (λ (x : Numbers). x .number) (p .answered ∙ frame-passes (sized w) (lent w)))
 
-    whole : k .answer ≡ Finished → WholeFrame k
+    pub whole : k .answer ≡ Finished → WholeFrame k
     whole is =
         let a = call-accepted k is p in
         let o = a .lent in
@@ -168,7 +189,7 @@ module _ (k : FrameCall) where
           v-rows = record { row = o .planes .v-row; size = o .planes .v-size };
         }
 
-    bytes : WholeFrame k → FrameBytes k
+    pub bytes : WholeFrame k → FrameBytes k
     bytes w =
         let x = rw (finishes w) at (p .planes) in
         let start = finished-none d (w .height-least) in

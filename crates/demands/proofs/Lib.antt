@@ -2,3 +2,4 @@
 pub mod Demands
 pub mod Grey
 pub mod Counts
+pub mod ShiftFiles

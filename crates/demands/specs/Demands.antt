@@ -1,15 +1,17 @@
 -- The three demands, one after the other, and what else is claimed of all calls. Each cites definitions alone: the promises of the calls
--- (`FramePost`, `OpenPost`, `BandPost`, `CountsPost`, `RequestPost`, `Begins`, `FrameKept`, `OpenKept`, `BandKept`, `CountsKept`, the very predicates
--- of their `ensures`), which hold of every call whatever it is given, and the rules, rows, planes and curves that they speak of. Their proofs are
--- `demand-1`, `demand-2` and `demand-3` of proofs/Demands.antt, `grey` of proofs/Grey.antt and `counts` of proofs/Counts.antt.
+-- (`FramePost`, `OpenPost`, `BandPost`, `CountsPost`, `ReadPost`, `WritePost`, `RecordPost`, `RequestPost`, `Begins`, `FrameKept`, `OpenKept`,
+-- `BandKept`, `CountsKept`, `ReadingKept`, `WritingKept`, `RecordKept`, the very predicates of their `ensures`), which hold of every call whatever it is
+-- given, and the rules, rows, planes, curves and files that they speak of. Their proofs are `demand-1`, `demand-2` and `demand-3` of
+-- proofs/Demands.antt, `grey` of proofs/Grey.antt, `counts` of proofs/Counts.antt and `shift-files` of proofs/ShiftFiles.antt.
 -- Assumes nothing.
 use Prim.Native.Nat.{ℕ, _+_, _*_, _≤_, _<_}
 use mathlib.Core.Path.{_≡_}
 use mathlib.Core.Bool.{true}
-use mathlib.Core.List.{List, [], _∷_}
+use mathlib.Core.List.{List, [], _∷_, _++_}
 use mathlib.Core.Logic.{_↔_}
 use lib.Dec.{T}
 use lib.ListN.{length, getD, take, drop}
+use Rattle.yuv_support.specs.declared.YuvChromaSubsampling.the-variants.{Yuv420}
 use Rattle.yuv_support.specs.declared.YuvRange.{YuvRange}
 use Rattle.yuv_support.specs.declared.YuvRange.the-variants.{Limited}
 use Rattle.yuv_support.specs.declared.YuvStandardMatrix.{YuvStandardMatrix}
@@ -45,6 +47,22 @@ use Rattle.colour_counts.specs.Counts.{colours, countOf, sumBelow, CountsPost, 
 use Rattle.counts_request.specs.Reply.{rangeOf, matrixOf, malformed, lines, reply as countsReply}
 use Rattle.exact_weights.specs.Near.{MatrixNear}
 use Rattle.grey.specs.Grey.{greyOf, GreyRows, LumaOfGrey, GreyPlanes}
+use Rattle.little_endian.specs.Number.{Bytes}
+use Rattle.shift_file.specs.declared.ShiftForm.{ShiftForm}
+use Rattle.shift_file.specs.declared.ShiftForm.the-variants.{WithoutSettings}
+use Rattle.shift_file.specs.File.{ShiftRecord, Allowed, recordsAt, bytesOf, fileOf, IsFileOf}
+use Rattle.shift_file.specs.Means.{SomeList, OneList, ReadBack, Rewritten, OneForm}
+use Rattle.shift_reader.specs.declared.ShiftReading.{ShiftReading}
+use Rattle.shift_reader.specs.Entry.{entriesOf}
+use Rattle.shift_reader.specs.Reading.{fileRules, ReadPost}
+use Rattle.shift_writer.specs.declared.ShiftWritten.{ShiftWritten}
+use Rattle.shift_writer.specs.Records.{BackToBack}
+use Rattle.shift_writer.specs.Writing.{writeRules, WritePost}
+use Rattle.shift_record.specs.declared.RecordFrame.{RecordFrame}
+use Rattle.shift_record.specs.Record.{recordMade, recordRules, RecordPost}
+use Rattle.segvartin.specs.Shift.{ExportedReading, rulesOfReading, ReadingKept}
+use Rattle.segvartin.specs.Shift.{ExportedWriting, rulesOfWriting, WritingKept}
+use Rattle.segvartin.specs.Shift.{ExportedRecord, rulesOfRecord, RecordKept}
 
 -- ---- 1. Every call answers finished work or one numbered refusal, for all sizes, strides, buffers and settings; a refusal writes no byte.
 
@@ -66,14 +84,20 @@ CountsReplied input bytes =
     (x : Numbers) → Lowest (rule 1 (malformed input) 0 0 ∷ []) x
     → (x .number ≡ 0 → bytes ≡ lines (countOf (rangeOf input) (matrixOf input)) 256) × (1 ≤ x .number → bytes ≡ refusalLine (x .number))
 
--- RULES 7.1, 7.2: of the calls of Rattle, which are frame, opening, band, a count of colours, and a request of the program; then of those that C and
--- Rust link, whose numbers come first to be refused
+-- RULES 7.1, 7.2: of the calls of Rattle, which are frame, opening, band, a count of colours, reading and writing a shift file, one record of it, and
+-- a request of the program; then of those that C and Rust link, whose numbers come first to be refused
 pub record Demand1 : Type 0 where
   pub frame : (k : FrameCall) → FramePost k → Answered (frameRules k) (numbersOf (k .answer)) (Unwritten k)
   pub opening : (d : FrameDescription) (r : FrameAnswer) → OpenPost d r → Lowest (openingRules d) (numbersOf (r .answer))
   pub band : (k : BandCall) → BandPost k → Answered (bandRules k) (numbersOf (k .result .answer)) (Untouched k)
   pub counts : (range : YuvRange) (matrix : YuvStandardMatrix) (before : List ℕ) (a : YuvAnswer) (after : List ℕ) → CountsPost range matrix before a after
       → Answered (matrixRules matrix) (numbersOf a) (after ≡ before)
+  pub shift-reading : (form : ShiftForm) (file : List ℕ) (first : ℕ) (before : List ℕ) (r : ShiftReading) (after : List ℕ)
+      → ReadPost form file first before r after → Answered (fileRules form file) (numbersOf (r .answer)) (after ≡ before)
+  pub shift-writing : (form : ShiftForm) (records before : List ℕ) (r : ShiftWritten) (after : List ℕ) → WritePost form records before r after
+      → Answered (writeRules form records (length before)) (numbersOf (r .answer)) (after ≡ before)
+  pub shift-record : (f : RecordFrame) (y u v before : List ℕ) (r : ShiftWritten) (after : List ℕ) → RecordPost f y u v before r after
+      → Answered (recordRules f y u v (length before)) (numbersOf (r .answer)) (after ≡ before)
   pub request : (input output : List ℕ) (response : Response) (output′ : List ℕ) → RequestPost input output response output′
       → Answered (requestRules input) (responseNumbers response) (output′ ≡ output)
   -- and what the program writes for it: the planes where no condition holds, or the line of the first number whose condition holds
@@ -84,6 +108,10 @@ pub record Demand1 : Type 0 where
   pub linked-band : (k : ExportedBand) → BandKept k
       → Answered (rulesOfBand k) (numbersTold (k .number) (k .told)) (Kept k (doneTold (k .told)))
   pub linked-counts : (k : ExportedCounts) → CountsKept k → Answered (rulesOfCounts k) (numbersTold (k .number) (k .told)) (k .counts′ ≡ k .counts)
+  -- 15 and 16 come without expected and received, so the number alone tells the answer of these two
+  pub linked-shift-reading : (k : ExportedReading) → ReadingKept k → Answered (rulesOfReading k) (numbers (k .number) 0 0) (k .entries′ ≡ k .entries)
+  pub linked-shift-writing : (k : ExportedWriting) → WritingKept k → Answered (rulesOfWriting k) (numbers (k .number) 0 0) (k .file′ ≡ k .file)
+  pub linked-shift-record : (k : ExportedRecord) → RecordKept k → Answered (rulesOfRecord k) (numbersTold (k .number) (k .told)) (k .output′ ≡ k .output)
 
 -- ---- 2. Frames of 1 to 16,384 pixels a side, anywhere in a source of at most 16,384 a side in whole rows, with any channel order, sampling, range,
 -- transfer, rounding and accepted matrix: every byte of the planes is the one that the rules name, which is that of the Rust over our stated curve
@@ -210,3 +238,60 @@ pub record Counts : Type 0 where
   pub total : Total
   pub every-colour : EveryColour
   pub by-range-and-matrix : ByRangeAndMatrix
+
+-- ---- The shift file: a file has one list of records, 15 is answered exactly where there is none, records written read back the same, a file read and
+-- rewritten is the same bytes, and a record made of the planes of a frame call is these planes without padding. In both forms, but for the last.
+
+-- RULES 11.3: no list of records has these bytes
+abbrev pub NoFile : ShiftForm → (file : List ℕ) → Type 0
+NoFile form file = (rs : List ShiftRecord) → IsFileOf form file rs → ⊥
+
+-- RULES 11.5: no list of records that has a file has these bytes back to back
+abbrev pub NoRecords : ShiftForm → (records : List ℕ) → Type 0
+NoRecords form records = (rs : List ShiftRecord) → BackToBack form records rs → ⊥
+
+-- RULES 11.6: the frame of a call of 4:2:0, with the strides of its planes, as that of a record
+pub record OfFrame (k : FrameCall) (f : RecordFrame) : Type 0 where
+  pub sampling : k .frame .settings .sampling ≡ Yuv420
+  pub width : f .width ≡ k .frame .width
+  pub height : f .height ≡ k .frame .height
+  pub y-stride : f .«y_stride» ≡ k .frame .«y_stride»
+  pub u-stride : f .«u_stride» ≡ k .frame .«u_stride»
+  pub v-stride : f .«v_stride» ≡ k .frame .«v_stride»
+
+-- RULES 2.5, 11.6: every byte of a record's planes is the one that the rules name
+pub record RecordBytes (k : FrameCall) (r : ShiftRecord) : Type 0 where
+  pub y-size : length (r .y) ≡ k .frame .width * k .frame .height
+  pub u-size : length (r .u) ≡ chromaSize (k .frame) * chromaRows (k .frame)
+  pub v-size : length (r .v) ≡ chromaSize (k .frame) * chromaRows (k .frame)
+  pub luma : (i x : ℕ) → i < k .frame .height → x < k .frame .width → getD (r .y) (i * k .frame .width + x) 0 ≡ lumaAt (k .frame) (imageOf k) i x
+  pub cb : (i x : ℕ) → i < chromaRows (k .frame) → x < chromaSize (k .frame) → getD (r .u) (i * chromaSize (k .frame) + x) 0 ≡ cbAt (k .frame) (imageOf k) i x
+  pub cr : (i x : ℕ) → i < chromaRows (k .frame) → x < chromaSize (k .frame) → getD (r .v) (i * chromaSize (k .frame) + x) 0 ≡ crAt (k .frame) (imageOf k) i x
+
+-- RULES 11.3, 11.4, 11.5, 11.6, 11.7
+pub record ShiftFiles : Type 0 where
+  -- of the definitions
+  pub some-list : SomeList
+  pub one-list : OneList
+  pub read-back : ReadBack
+  pub rewritten : Rewritten
+  pub one-form : OneForm
+  -- of the calls: 15, and otherwise the records
+  pub refused : (form : ShiftForm) (file : List ℕ) (first : ℕ) (before : List ℕ) (r : ShiftReading) (after : List ℕ) → Bytes file
+      → ReadPost form file first before r after → (numbersOf (r .answer) .number ≡ 15) ↔ NoFile form file
+  pub read : (form : ShiftForm) (file : List ℕ) (first : ℕ) (before : List ℕ) (r : ShiftReading) (after : List ℕ) (rs : List ShiftRecord)
+      → IsFileOf form file rs → ReadPost form file first before r after
+      → (r .count ≡ length rs) × (after ≡ entriesOf form rs first (r .told) ++ drop (11 * r .told) before)
+  pub write-refused : (form : ShiftForm) (records before : List ℕ) (r : ShiftWritten) (after : List ℕ) → Bytes records
+      → WritePost form records before r after → (numbersOf (r .answer) .number ≡ 15) ↔ NoRecords form records
+  pub written : (form : ShiftForm) (records before : List ℕ) (r : ShiftWritten) (after : List ℕ) (rs : List ShiftRecord)
+      → BackToBack form records rs → WritePost form records before r after → r .answer ≡ Finished
+      → IsFileOf form (take (r .size) after) rs × (drop (r .size) after ≡ drop (r .size) before)
+  -- what follows a file's pairs, written, is the file
+  pub written-again : (form : ShiftForm) (file before : List ℕ) (r : ShiftWritten) (after : List ℕ) (rs : List ShiftRecord)
+      → IsFileOf form file rs → WritePost form (drop (recordsAt form (length rs)) file) before r after → r .answer ≡ Finished → take (r .size) after ≡ file
+  -- a record from planes, which has its place in a file
+  pub made : (f : RecordFrame) (y u v before : List ℕ) (r : ShiftWritten) (after : List ℕ) → Bytes y → Bytes u → Bytes v → f .crossing < 4294967296
+      → RecordPost f y u v before r after → r .answer ≡ Finished
+      → Allowed WithoutSettings (recordMade f y u v) × (take (r .size) after ≡ bytesOf (recordMade f y u v))
+  pub frame : (k : FrameCall) (f : RecordFrame) → FramePost k → k .answer ≡ Finished → OfFrame k f → RecordBytes k (recordMade f (k .y′) (k .u′) (k .v′))

@@ -1,0 +1,186 @@
+-- What is claimed of the shift file. A call asks the check, which says yes exactly where there are records, and these are the ones that it tells of or
+-- writes; the rows of a plane without their padding have the plane's bytes at their places.
+-- Assumes nothing.
+use Prim.Native.Nat.{ℕ, _+_, _*_, _≤_, _<_}
+use mathlib.Core.Path.{_≡_, refl, sym, ap, subst, _∙_}
+use mathlib.Core.Bool.{Bool, true, false, cond, not, _&&_, true≢false}
+use mathlib.Core.List.{List, [], _∷_, _++_}
+use mathlib.Core.Logic.{_↔_}
+use native.Mathlib.Omega.{arith}
+use lib.Dec.{ltb}
+use lib.ListN.{length, getD, take, drop}
+use lib.Seq.{take-at, drop-at}
+use Rattle.yuv_support.specs.declared.YuvChromaSubsampling.{YuvChromaSubsampling}
+use Rattle.yuv_support.specs.declared.YuvChromaSubsampling.the-variants.{Yuv420}
+use Rattle.yuv_support.specs.Sampling.{chromaHeight}
+use Rattle.yuv_error.specs.declared.YuvAnswer.{YuvAnswer}
+use Rattle.yuv_error.specs.declared.YuvAnswer.the-variants.{Finished}
+use Rattle.yuv_error.specs.Numbers.{Numbers, numbers, numbersOf}
+use Rattle.yuv_error.specs.Rules.{Rule, rule, firstOf}
+use Rattle.yuv_error.proofs.Numbers.{is-finished}
+use Rattle.yuv_error.proofs.First.{append-finished}
+use Rattle.definitions.specs.Image.{chromaSize, chromaRows, lumaAt, cbAt, crAt}
+use Rattle.definitions.specs.declared.FrameDescription.{FrameDescription}
+use Rattle.sharp_rgba_to_yuv.specs.FrameCall.{FrameCall, imageOf, FramePost}
+use Rattle.little_endian.specs.Number.{Bytes}
+use Rattle.shift_file.specs.declared.ShiftForm.{ShiftForm}
+use Rattle.shift_file.specs.declared.ShiftForm.the-variants.{WithoutSettings}
+use Rattle.shift_file.specs.File.{ShiftRecord, Allowed, isSide, recordsAt, recordBytes, bytesOf, fileOf, IsFileOf}
+use Rattle.shift_file.specs.Read.{recordsIn}
+use Rattle.shift_file.specs.Check.{isFile}
+use Rattle.shift_file.proofs.Record.{both}
+use Rattle.shift_file.proofs.File.{some-list, one-list, read-back, rewritten, one-form, its-records, is-checked, after-pairs}
+use Rattle.shift_reader.specs.declared.ShiftReading.{ShiftReading}
+use Rattle.shift_reader.specs.Entry.{entriesOf}
+use Rattle.shift_reader.specs.Reading.{ReadPost}
+use Rattle.shift_writer.specs.declared.ShiftWritten.{ShiftWritten}
+use Rattle.shift_writer.specs.Records.{BackToBack, areRecords, recordsBack, fileMade}
+use Rattle.shift_writer.specs.Output.{overwritten, sizeTold, outputRules}
+use Rattle.shift_writer.specs.Writing.{WritePost}
+use Rattle.shift_writer.proofs.Count.{some-records, these-records}
+use Rattle.shift_record.specs.declared.RecordFrame.{RecordFrame}
+use Rattle.shift_record.specs.Record.{unpadded, recordMade, lentRules, recordRules, RecordPost}
+use Rattle.shift_record.proofs.Rows.{length-unpadded, unpadded-at}
+use Rattle.shift_record.proofs.Made.{planes-fit, is-frame, made-allowed}
+use Rattle.demands.specs.Demands.{NoFile, NoRecords, OfFrame, RecordBytes, WholeFrame, FrameBytes, ShiftFiles}
+use Rattle.demands.proofs.Demands.{whole, bytes}
+
+-- ---- 15 by a test that says whether there is something
+
+-- the first rule is 15, and no other has its number
+by-test : {B : List ShiftRecord → Type 0} (test : Bool) (rest : Numbers) {n : ℕ} → (test ≡ true) ↔ ((rs : List ShiftRecord) × B rs) → (rest .number ≡ 15 → ⊥)
+    → n ≡ cond (not test) (numbers 15 0 0) rest .number → (n ≡ 15) ↔ ((rs : List ShiftRecord) → B rs → ⊥)
+by-test true rest is other e = (λ z. absurd (other (sym e ∙ z)), λ none. let some = is .0 refl in absurd (none (some .0) (some .1)))
+by-test false rest is other e = (λ z rs b. true≢false (sym (is .1 (rs, b))), λ none. e)
+
+-- 16, or finished work, is not 15
+short-is-not : (b : Bool) → cond b (numbers 16 0 0) (numbers 0 0 0) .number ≡ 15 → ⊥
+short-is-not true e = omega arith
+short-is-not false e = omega arith
+
+-- ---- reading
+
+-- a call tells of the records of a file
+told : (form : ShiftForm) (file : List ℕ) (first : ℕ) (before : List ℕ) (r : ShiftReading) (after : List ℕ) (rs : List ShiftRecord)
+    → IsFileOf form file rs → ReadPost form file first before r after → recordsIn form file ≡ rs
+    → (r .count ≡ length rs) × (after ≡ entriesOf form rs first (r .told) ++ drop (11 * r .told) before)
+told form file first before r after rs f p is =
+    let yes = is-checked form file rs f in
+    let done = is-finished (r .answer) (ap (λ (x : Numbers). x .number) (p .answered) ∙ rw yes) in
+    (p .count ∙ rw (done, is), p .entries ∙ rw is)
+
+-- ---- writing
+
+module _ (form : ShiftForm) (records before : List ℕ) (r : ShiftWritten) (after : List ℕ) (p : WritePost form records before r after) where
+  -- the file at the front, and the rest
+  front : r .answer ≡ Finished → (take (r .size) after ≡ fileMade form records) × (drop (r .size) after ≡ drop (r .size) before)
+  front is =
+      let size : r .size ≡ length (fileMade form records) = rw is at (p .size) in
+      let made : after ≡ fileMade form records ++ drop (length (fileMade form records)) before = rw is at (p .written) in
+      (rw (made, size) (take-at (fileMade form records) _ _ refl), rw (made, size) (drop-at (fileMade form records) _ _ refl))
+
+  module _ (rs : List ShiftRecord) (b : BackToBack form records rs) where
+    made-is : fileMade form records ≡ fileOf form rs
+    made-is = ap (fileOf form) (these-records form records rs b)
+
+    its-file : r .answer ≡ Finished → IsFileOf form (take (r .size) after) rs
+    its-file is = record { has = b .has; same = sym (front is .0 ∙ made-is) }
+
+-- ---- one record
+
+module _ (f : RecordFrame) (y u v before : List ℕ) (r : ShiftWritten) (after : List ℕ) (p : RecordPost f y u v before r after) (is : r .answer ≡ Finished) where
+  abbrev last : List Rule
+  last = outputRules (length (bytesOf (recordMade f y u v))) (length before)
+
+  passed : (t : Bool) (x : Numbers) → cond (not t) (numbers 15 0 0) x .number ≡ 0 → (t ≡ true) × (x .number ≡ 0)
+  passed true x e = (refl, e)
+  passed false x e = absurd (omega arith)
+
+  asked : ((isSide (f .width) && isSide (f .height)) ≡ true) × (firstOf (lentRules f y u v ++ last) .number ≡ 0)
+  asked = passed (isSide (f .width) && isSide (f .height)) (firstOf (lentRules f y u v ++ last)) (sym (ap (λ (x : Numbers). x .number) (sym (ap numbersOf is) ∙ p .answered)))
+
+  record-made : Bytes y → Bytes u → Bytes v → f .crossing < 4294967296
+      → Allowed WithoutSettings (recordMade f y u v) × (take (r .size) after ≡ bytesOf (recordMade f y u v))
+  record-made by bu bv c =
+      let sides = both (isSide (f .width)) (isSide (f .height)) (asked .0) in
+      let fit = planes-fit f y u v (is-frame f (asked .0)) (append-finished (lentRules f y u v) last refl (asked .1) .0) in
+      let size : r .size ≡ length (bytesOf (recordMade f y u v)) = rw is at (p .size) in
+      let made : after ≡ bytesOf (recordMade f y u v) ++ drop (length (bytesOf (recordMade f y u v))) before = rw is at (p .written) in
+      (made-allowed f y u v fit c (sides .0) (sides .1) by bu bv, rw (made, size) (take-at (bytesOf (recordMade f y u v)) _ _ refl))
+
+-- ---- the planes of a frame
+
+-- the rows of a plane without padding: so many bytes, and which is which
+plane-record : (n stride rows : ℕ) (plane : List ℕ) (byte : ℕ → ℕ → ℕ) → n ≤ stride → length plane ≡ stride * rows
+    → ((i x : ℕ) → i < rows → x < n → getD plane (i * stride + x) 0 ≡ byte i x)
+    → (length (unpadded n stride rows plane) ≡ n * rows) × ((i x : ℕ) → i < rows → x < n → getD (unpadded n stride rows plane) (i * n + x) 0 ≡ byte i x)
+plane-record n stride rows plane byte wide size is =
+    let all : stride * rows ≤ length plane = omega arith in
+    (length-unpadded n stride wide rows plane all, λ i x k l. unpadded-at n stride wide rows plane all i x k l ∙ is i x k l)
+
+-- the frame of a call, as that of a record
+abbrev frameOf : FrameCall → (crossing : ℕ) → RecordFrame
+frameOf k crossing = record {
+  crossing = crossing;
+  width = k .frame .width;
+  height = k .frame .height;
+  «y_stride» = k .frame .«y_stride»;
+  «u_stride» = k .frame .«u_stride»;
+  «v_stride» = k .frame .«v_stride»;
+}
+
+module _ (k : FrameCall) (p : FramePost k) (is : k .answer ≡ Finished) where
+  abbrev d : FrameDescription
+  d = k .frame
+
+  lengths : (length (k .y′) ≡ length (k .y)) × (length (k .u′) ≡ length (k .u)) × (length (k .v′) ≡ length (k .v))
+  lengths = (p .planes .luma .size, p .planes .cb .size, p .planes .cr .size)
+
+  of-frame : (crossing : ℕ) → d .settings .sampling ≡ Yuv420 → RecordBytes k (recordMade (frameOf k crossing) (k .y′) (k .u′) (k .v′))
+  of-frame crossing e =
+      let w = whole k p is in
+      let b = bytes k p w in
+      let rows : chromaHeight Yuv420 (d .height) ≡ chromaRows d = ap (λ (s : YuvChromaSubsampling). chromaHeight s (d .height)) (sym e) in
+      let l = lengths in
+      let y = plane-record (d .width) (d .«y_stride») (d .height) (k .y′) (lumaAt d (imageOf k)) (w .y-rows .row) (l .0 ∙ w .y-rows .size) (b .luma) in
+      let u = plane-record (chromaSize d) (d .«u_stride») (chromaRows d) (k .u′) (cbAt d (imageOf k)) (w .u-rows .row) (l .1 ∙ w .u-rows .size) (b .cb) in
+      let v = plane-record (chromaSize d) (d .«v_stride») (chromaRows d) (k .v′) (crAt d (imageOf k)) (w .v-rows .row) (l .2 ∙ w .v-rows .size) (b .cr) in
+      record {
+        y-size = y .0;
+        u-size = rw rows (u .0);
+        v-size = rw rows (v .0);
+        luma = y .1;
+        cb = rw rows (u .1);
+        cr = rw rows (v .1);
+      }
+
+frame-is : (k : FrameCall) (f : RecordFrame) → OfFrame k f → frameOf k (f .crossing) ≡ f
+frame-is k f o = λ i. record {
+  crossing = f .crossing;
+  width = sym (o .width) i;
+  height = sym (o .height) i;
+  «y_stride» = sym (o .y-stride) i;
+  «u_stride» = sym (o .u-stride) i;
+  «v_stride» = sym (o .v-stride) i;
+}
+
+pub shift-files : ShiftFiles
+shift-files = record {
+  some-list = some-list;
+  one-list = one-list;
+  read-back = read-back;
+  rewritten = rewritten;
+  one-form = one-form;
+  refused = λ form file first before r after bytes p.
+      by-test (isFile form file) (numbers 0 0 0) (some-list form file bytes) (λ z. omega arith) (ap (λ (x : Numbers). x .number) (p .answered));
+  read = λ form file first before r after rs f p. told form file first before r after rs f p (its-records form file rs f);
+  write-refused = λ form records before r after bytes p.
+      by-test (areRecords form records) (firstOf (outputRules (length (fileMade form records)) (length before))) (some-records form records bytes)
+      (short-is-not (ltb (length before) (length (fileMade form records)))) (ap (λ (x : Numbers). x .number) (p .answered));
+  written = λ form records before r after rs b p is. (its-file form records before r after p rs b is, front form records before r after p is .1);
+  written-again = λ form file before r after rs f p is.
+      let tail : BackToBack form (drop (recordsAt form (length rs)) file) rs = record { has = f .has; same = sym (after-pairs form rs) ∙ rw (f .same) } in
+      sym (its-file form _ before r after p rs tail is .same) ∙ f .same;
+  made = λ f y u v before r after by bu bv c p is. record-made f y u v before r after p is by bu bv c;
+  frame = λ k f p is o. subst (λ (g : RecordFrame). RecordBytes k (recordMade g (k .y′) (k .u′) (k .v′))) (frame-is k f o) (of-frame k p is (f .crossing) (o .sampling));
+}
