@@ -7,9 +7,10 @@ use mathlib.Core.Bool.{Bool, true, false, cond, not, _&&_, true≢false}
 use mathlib.Core.List.{List, [], _∷_, _++_}
 use mathlib.Core.Logic.{_↔_}
 use native.Mathlib.Omega.{arith}
-use lib.Dec.{ltb}
+use lib.Dec.{ltb, leb}
 use lib.ListN.{length, getD, take, drop}
 use lib.Seq.{take-at, drop-at}
+use borrow.Author.Tests.{le-leb, le-ltb}
 use Rattle.yuv_support.specs.declared.YuvChromaSubsampling.{YuvChromaSubsampling}
 use Rattle.yuv_support.specs.declared.YuvChromaSubsampling.the-variants.{Yuv420}
 use Rattle.yuv_support.specs.Sampling.{chromaHeight}
@@ -19,6 +20,7 @@ use Rattle.yuv_error.specs.Numbers.{Numbers, numbers, numbersOf}
 use Rattle.yuv_error.specs.Rules.{Rule, rule, firstOf}
 use Rattle.yuv_error.proofs.Numbers.{is-finished}
 use Rattle.yuv_error.proofs.First.{append-finished}
+use Rattle.yuv_error.proofs.Accepts.{both-pass, planes-pass}
 use Rattle.definitions.specs.Image.{chromaSize, chromaRows, lumaAt, cbAt, crAt}
 use Rattle.definitions.specs.declared.FrameDescription.{FrameDescription}
 use Rattle.sharp_rgba_to_yuv.specs.FrameCall.{FrameCall, imageOf, FramePost}
@@ -28,7 +30,7 @@ use Rattle.shift_file.specs.declared.ShiftForm.the-variants.{WithoutSettings}
 use Rattle.shift_file.specs.File.{ShiftRecord, Allowed, isSide, recordsAt, recordBytes, bytesOf, fileOf, IsFileOf}
 use Rattle.shift_file.specs.Read.{recordsIn}
 use Rattle.shift_file.specs.Check.{isFile}
-use Rattle.shift_file.proofs.Record.{both}
+use Rattle.shift_file.proofs.Record.{both, also}
 use Rattle.shift_file.proofs.File.{some-list, one-list, read-back, rewritten, one-form, its-records, is-checked, after-pairs}
 use Rattle.shift_reader.specs.declared.ShiftReading.{ShiftReading}
 use Rattle.shift_reader.specs.Entry.{entriesOf}
@@ -39,9 +41,10 @@ use Rattle.shift_writer.specs.Output.{overwritten, sizeTold, outputRules}
 use Rattle.shift_writer.specs.Writing.{WritePost}
 use Rattle.shift_writer.proofs.Count.{some-records, these-records}
 use Rattle.shift_record.specs.declared.RecordFrame.{RecordFrame}
-use Rattle.shift_record.specs.Record.{unpadded, recordMade, lentRules, recordRules, RecordPost}
+use Rattle.shift_record.specs.Record.{unpadded, recordMade, recordSize, yLent, uLent, vLent, lentRules, recordRules, RecordPost}
+use Rattle.shift_record.specs.Known.{PlanesFit}
 use Rattle.shift_record.proofs.Rows.{length-unpadded, unpadded-at}
-use Rattle.shift_record.proofs.Made.{planes-fit, is-frame, made-allowed}
+use Rattle.shift_record.proofs.Made.{length-made, planes-fit, is-frame, made-allowed}
 use Rattle.demands.specs.Demands.{NoFile, NoRecords, OfFrame, RecordBytes, WholeFrame, FrameBytes, ShiftFiles}
 use Rattle.demands.proofs.Demands.{whole, bytes}
 
@@ -118,6 +121,9 @@ plane-record n stride rows plane byte wide size is =
     let all : stride * rows ≤ length plane = omega arith in
     (length-unpadded n stride wide rows plane all, λ i x k l. unpadded-at n stride wide rows plane all i x k l ∙ is i x k l)
 
+side : (x : ℕ) → 1 ≤ x → x ≤ 16384 → isSide x ≡ true
+side x l m = also (leb 1 x) (leb x 16384) (le-leb 1 x l) (le-leb x 16384 m)
+
 -- the frame of a call, as that of a record
 abbrev frameOf : FrameCall → (crossing : ℕ) → RecordFrame
 frameOf k crossing = record {
@@ -154,6 +160,34 @@ module _ (k : FrameCall) (p : FramePost k) (is : k .answer ≡ Finished) where
         cr = rw rows (v .1);
       }
 
+  -- no condition of a record holds of them
+  record-of-frame : (crossing : ℕ) (before : List ℕ) (r : ShiftWritten) (after : List ℕ) → d .settings .sampling ≡ Yuv420
+      → RecordPost (frameOf k crossing) (k .y′) (k .u′) (k .v′) before r after → recordSize (d .width) (d .height) ≤ length before → r .answer ≡ Finished
+  record-of-frame crossing before r after e q room =
+      let f = frameOf k crossing in
+      let w = whole k p is in
+      let l = lengths in
+      let rows : chromaRows d ≡ chromaHeight Yuv420 (d .height) = ap (λ (s : YuvChromaSubsampling). chromaHeight s (d .height)) e in
+      let some : 1 ≤ chromaHeight Yuv420 (d .height) = omega (arith, w .height-least) in
+      let fit : PlanesFit f (length (k .y′)) (length (k .u′)) (length (k .v′)) = record {
+        frame = record { width-least = w .width-least; width-most = w .width-most; height-least = w .height-least; height-most = w .height-most };
+        y-row = w .y-rows .row;
+        y-size = l .0 ∙ w .y-rows .size;
+        u-row = w .u-rows .row;
+        u-size = rw rows at (l .1 ∙ w .u-rows .size);
+        v-row = w .v-rows .row;
+        v-size = rw rows at (l .2 ∙ w .v-rows .size);
+      } in
+      let passes = planes-pass (yLent f (length (k .y′))) (uLent f (length (k .u′))) (vLent f (length (k .v′))) (w .height-least) some some
+      (record { wide = fit .y-row; exact = fit .y-size }) (record { wide = fit .u-row; exact = fit .u-size }) (record { wide = fit .v-row; exact = fit .v-size }) in
+      let size = length-made f (k .y′) (k .u′) (k .v′) fit in
+      let bytes = length (bytesOf (recordMade f (k .y′) (k .u′) (k .v′))) in
+      let fits : firstOf (outputRules bytes (length before)) ≡ numbers 0 0 0 = rw (le-ltb (length before) bytes (omega arith)) in
+      let all : firstOf (recordRules f (k .y′) (k .u′) (k .v′) (length before)) ≡ numbers 0 0 0 =
+      rw (side (d .width) (w .width-least) (w .width-most), side (d .height) (w .height-least) (w .height-most))
+      (both-pass (lentRules f (k .y′) (k .u′) (k .v′)) (outputRules bytes (length before)) refl passes fits) in
+      is-finished (r .answer) (ap (λ (x : Numbers). x .number) (q .answered ∙ all))
+
 frame-is : (k : FrameCall) (f : RecordFrame) → OfFrame k f → frameOf k (f .crossing) ≡ f
 frame-is k f o = λ i. record {
   crossing = f .crossing;
@@ -182,5 +216,8 @@ shift-files = record {
       let tail : BackToBack form (drop (recordsAt form (length rs)) file) rs = record { has = f .has; same = sym (after-pairs form rs) ∙ rw (f .same) } in
       sym (its-file form _ before r after p rs tail is .same) ∙ f .same;
   made = λ f y u v before r after by bu bv c p is. record-made f y u v before r after p is by bu bv c;
+  frame-accepted = λ k f before r after p is o.
+      subst (λ (g : RecordFrame). RecordPost g (k .y′) (k .u′) (k .v′) before r after → recordSize (g .width) (g .height) ≤ length before → r .answer ≡ Finished)
+      (frame-is k f o) (record-of-frame k p is (f .crossing) before r after (o .sampling));
   frame = λ k f p is o. subst (λ (g : RecordFrame). RecordBytes k (recordMade g (k .y′) (k .u′) (k .v′))) (frame-is k f o) (of-frame k p is (f .crossing) (o .sampling));
 }

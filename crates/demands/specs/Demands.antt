@@ -59,7 +59,7 @@ use Rattle.shift_writer.specs.declared.ShiftWritten.{ShiftWritten}
 use Rattle.shift_writer.specs.Records.{BackToBack}
 use Rattle.shift_writer.specs.Writing.{writeRules, WritePost}
 use Rattle.shift_record.specs.declared.RecordFrame.{RecordFrame}
-use Rattle.shift_record.specs.Record.{recordMade, recordRules, RecordPost}
+use Rattle.shift_record.specs.Record.{recordMade, recordSize, recordRules, RecordPost}
 use Rattle.segvartin.specs.Shift.{ExportedReading, rulesOfReading, ReadingKept}
 use Rattle.segvartin.specs.Shift.{ExportedWriting, rulesOfWriting, WritingKept}
 use Rattle.segvartin.specs.Shift.{ExportedRecord, rulesOfRecord, RecordKept}
@@ -294,4 +294,7 @@ pub record ShiftFiles : Type 0 where
   pub made : (f : RecordFrame) (y u v before : List ℕ) (r : ShiftWritten) (after : List ℕ) → Bytes y → Bytes u → Bytes v → f .crossing < 4294967296
       → RecordPost f y u v before r after → r .answer ≡ Finished
       → Allowed WithoutSettings (recordMade f y u v) × (take (r .size) after ≡ bytesOf (recordMade f y u v))
+  -- of the planes of a frame: it is made wherever it has room, and its planes are the frame's without padding
+  pub frame-accepted : (k : FrameCall) (f : RecordFrame) (before : List ℕ) (r : ShiftWritten) (after : List ℕ) → FramePost k → k .answer ≡ Finished
+      → OfFrame k f → RecordPost f (k .y′) (k .u′) (k .v′) before r after → recordSize (f .width) (f .height) ≤ length before → r .answer ≡ Finished
   pub frame : (k : FrameCall) (f : RecordFrame) → FramePost k → k .answer ≡ Finished → OfFrame k f → RecordBytes k (recordMade f (k .y′) (k .u′) (k .v′))

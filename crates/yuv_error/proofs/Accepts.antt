@@ -11,7 +11,7 @@ use Rattle.yuv_support.specs.Matrix.{accepted}
 use Rattle.definitions.specs.declared.FrameDescription.{FrameDescription}
 use Rattle.definitions.proofs.Numbers.{chroma-rows}
 use Rattle.yuv_error.specs.Numbers.{numbers}
-use Rattle.yuv_error.specs.Rules.{Rule, firstOf, bufferRules, leastOf, wholeOf, tooNarrow, tooShort, notWhole}
+use Rattle.yuv_error.specs.Rules.{Rule, firstOf, planesRules, bufferRules, leastOf, wholeOf, tooNarrow, tooShort, notWhole}
 use Rattle.yuv_error.specs.Lent.{openingRules, lentRules}
 use Rattle.yuv_error.specs.Known.{Sized}
 use Rattle.yuv_error.specs.declared.LentBuffer.{LentBuffer}
@@ -60,6 +60,15 @@ accepts-buffers {source} {y} {u} {v} s-some y-some u-some v-some a =
     let r = passes u u-some (a .u-rows) in
     let t = passes v v-some (a .v-rows) in
     rw (p .0, p .1, q .0, q .1, r .0, r .1, t .0, t .1, p .2, q .2, r .2, t .2)
+
+-- planes alone
+pub planes-pass : (y u v : LentBuffer) → 1 ≤ y .rows → 1 ≤ u .rows → 1 ≤ v .rows → WholeRows y → WholeRows u → WholeRows v
+    → firstOf (planesRules y u v) ≡ numbers 0 0 0
+planes-pass y u v y-some u-some v-some y-rows u-rows v-rows =
+    let q = passes y y-some y-rows in
+    let r = passes u u-some u-rows in
+    let t = passes v v-some v-rows in
+    rw (q .0, q .1, r .0, r .1, t .0, t .1, q .2, r .2, t .2)
 
 pub lent-passes : {d : FrameDescription} {rows stride : ℕ} {n : Lengths} → Sized d → 1 ≤ rows → Buffers d rows stride n
     → firstOf (lentRules d rows stride n) ≡ numbers 0 0 0

@@ -304,13 +304,13 @@ pub fn check_planes(y: LentBuffer, u: LentBuffer, v: LentBuffer) -> YuvAnswer
     requires { ⌜ Bounded v ⌝ }
     ensures { λ r. ⌜ numbersOf r ≡ firstOf (planesRules y u v) ⌝ }
 {
-    let sizes = check_y8_channel(y)
+    let rows_fit = check_y8_channel(y)
         .and(check_chroma_channel(ChromaPlane::U, u))
         .and(check_chroma_channel(ChromaPlane::V, v));
-    let whole = check_whole_rows(y)
+    let rows_whole = check_whole_rows(y)
         .and(check_whole_rows(u))
         .and(check_whole_rows(v));
-    sizes.and(whole)
+    rows_fit.and(rows_whole)
 }
 
 // Refusals 6 to 12, for a source of `rows` rows.
