@@ -107,11 +107,11 @@ returns c =
       height = height-is (ch .before .before .before);
       offset = o .offset;
       size = o .size;
-      y-offset = rw (o .offset, top);
+      y-offset = omega (arith, o .offset, top);
       y-size = y;
-      u-offset = rw (o .offset, top, y);
+      u-offset = omega (arith, o .offset, top, y);
       u-size = u ∙ sym (a .u-size);
-      v-offset = rw (o .offset, top, y, u ∙ sym (a .u-size));
+      v-offset = omega (arith, o .offset, top, y, u, a .u-size);
       v-size = u ∙ sym (a .v-size);
     }
 

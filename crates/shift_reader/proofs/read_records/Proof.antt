@@ -1,8 +1,8 @@
 -- `read_records` meets its contract: 15 by the check; then its count is that of the records, and the entries are those from the first on that fit.
 -- Assumes nothing.
 use native.Mathlib.Omega.{arith}
-use Prim.Native.Nat.{_+_, _*_, _-_, _/_, _≤_, min}
-use mathlib.Core.Path.{_≡_, refl, sym, _∙_}
+use Prim.Native.Nat.{ℕ, _+_, _*_, _-_, _/_, _≤_, min}
+use mathlib.Core.Path.{_≡_, refl, sym, ap, _∙_}
 use mathlib.Core.Bool.{true, false}
 use lib.ListN.{length}
 use borrow.Author.Tests.{not-true, not-false}
@@ -31,8 +31,14 @@ counted : (c : tie.After-at-most2) → let a = c .before .before .before .before
     (c .before .before .count-at .result ≡ count) × (c .before .at-most .result ≡ min (a .first) count)
     × (c .at-most2 .result ≡ min (count - a .first) (length (now (a .entries)) / 11))
 counted c =
+    let a = c .before .before .before .before .before .before .before .args in
     let is = c .before .before .count-at .ensures ∙ sym (checked (c .before .before .before) .count) in
-    (is, c .before .at-most .ensures ∙ rw is, c .at-most2 .ensures ∙ rw (c .before .at-most .ensures, is) (omega arith))
+    let count = length (recordsIn (a .form) (now (a .file))) in
+    let left : count - min (a .first) count ≡ count - a .first = omega arith in (
+      is,
+      c .before .at-most .ensures ∙ rw is,
+      c .at-most2 .ensures ∙ rw (c .before .at-most .ensures, is) (ap (λ (n : ℕ). min n (length (now (a .entries)) / 11)) left),
+    )
 
 returns : tie.Need-returns
 unfolding entriesOf

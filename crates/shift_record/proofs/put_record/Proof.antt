@@ -1,6 +1,7 @@
 -- `put_record` meets its contract: header and planes, one after the other.
 -- Assumes nothing.
 use native.Mathlib.Omega.{arith}
+use Prim.Native.Nat.{_+_}
 use mathlib.Core.Path.{_∙_}
 use denote.Ref.{now}
 use Rattle.yuv_support.specs.Sampling.{chromaWidth}
@@ -46,7 +47,8 @@ returns c =
     let a = s .args in
     v .copy-rows3 .ensures
     ∙ rw (u .copy-rows2 .ensures, y .copy-rows .ensures, h .write-header .ensures, l .before .chroma-height .ensures, l .before .before .chroma-width .ensures)
-    (record-put (a .frame) (now (a .y)) (now (a .u)) (now (a .v)) (s .pre .0) (now (a .output)) _ _ (rw (l .luma-size .ensures .0)) (rw (z .chroma-size .ensures .0)))
+    (record-put (a .frame) (now (a .y)) (now (a .u)) (now (a .v)) (s .pre .0) (now (a .output))
+    (8 + l .luma-size .result) (8 + l .luma-size .result + z .chroma-size .result) (omega (arith, l .luma-size .ensures .0)) (omega (arith, z .chroma-size .ensures .0)))
 
 pub put-record-spec : {M : Type 1} → statement M
 put-record-spec =

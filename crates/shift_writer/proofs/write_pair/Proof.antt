@@ -1,6 +1,10 @@
 -- `write_pair` meets its contract: two numbers, one after the other.
 -- Assumes nothing.
-use mathlib.Core.Path.{_∙_}
+use Prim.Native.Nat.{ℕ, _+_}
+use mathlib.Core.Path.{ap, _∙_}
+use mathlib.Core.List.{List}
+use lib.Seq.{sets}
+use Rattle.little_endian.specs.Number.{lowBytes}
 use Rattle.little_endian.proofs.Number.{length-low}
 use Rattle.little_endian.proofs.Stores.{sets-append}
 use borrow.Author.Needs.{needs}
@@ -8,7 +12,12 @@ use Rattle.shift_writer.proofs.write_pair.Statement.{statement}
 use Rattle.shift_writer.proofs.write_pair.Tie as tie
 
 returns : tie.Need-returns
-returns c = rw (sets-append, length-low) (c .before .before .write-number2 .ensures ∙ rw (c .before .before .before .before .before .before .write-number .ensures))
+returns c =
+    let s = c .before .before in
+    let o = s .before .before .before .before in
+    let a = o .before .before .before .args in
+    rw (sets-append, length-low)
+    (s .write-number2 .ensures ∙ ap (λ (l : List ℕ). sets l (a .pair + 8) (lowBytes 4 (a .size))) (o .write-number .ensures))
 
 pub write-pair-spec : {M : Type 1} → statement M
 write-pair-spec =
