@@ -3,13 +3,14 @@
 //! has no such refusal.
 
 use crate::request::{BandRequest, FrameRequest, Lent, Shape};
+use model::shift::RecordRequest;
 use model::{Answer, FrameState, Refusal, Settings, Window, YuvStandardMatrix};
 
 /// Number, whether it holds, expected, received.
 type Condition = (u8, bool, u128, u128);
 
 /// The order in which they are asked.
-const ORDER: [u8; 14] = [1, 2, 3, 4, 14, 5, 6, 7, 8, 9, 10, 11, 12, 13];
+const ORDER: [u8; 16] = [15, 1, 2, 3, 4, 14, 5, 6, 7, 8, 9, 10, 11, 12, 13, 16];
 
 /// A mistake in a condition that a window brings, so that a list of calls can be held to catch it.
 #[derive(Clone, Copy, PartialEq)]
@@ -132,6 +133,95 @@ pub fn of_counts(numbers: &[u32], custom: &[f32; 2]) -> Answer {
     let refused = matrix == 6 && custom.iter().copied().any(is_refused);
     let all = vec![(4, refused, 0, 0), (1, numbers.len() != 2 || unknown, 0, 0)];
     first(Without, all)
+}
+
+/// RULES 11.3: the records of the one list that these bytes can be the file of. It has as many records
+/// as the first number says, they stand behind as many pairs, and its own bytes must be these.
+pub fn records_of_file(file: &[u8]) -> Option<Vec<&[u8]>> {
+    let count = u32::from_le_bytes(*file.first_chunk()?) as usize;
+    let records = records_of(file.get(4 + 12 * count..)?)?;
+    let bytes = file_of(&records);
+    (records.len() == count && bytes == file).then_some(records)
+}
+
+/// RULES 11.3: records that stand back to back.
+pub fn records_of(mut bytes: &[u8]) -> Option<Vec<&[u8]>> {
+    let mut records = Vec::new();
+    while !bytes.is_empty() {
+        let [_, _, _, _, w0, w1, h0, h1] = *bytes.first_chunk()?;
+        let [w, h] = [[w0, w1], [h0, h1]].map(|side| u32::from(u16::from_le_bytes(side)));
+        if [w, h].iter().any(|side| *side < 1 || *side > 16_384) {
+            return None;
+        }
+        let (record, others) = bytes.split_at_checked(record_length(w, h) as usize)?;
+        records.push(record);
+        bytes = others;
+    }
+    (records.len() <= 4_096).then_some(records)
+}
+
+/// RULES 11.1.
+pub fn file_of(records: &[&[u8]]) -> Vec<u8> {
+    let first = 4 + 12 * records.len();
+    let mut pairs = Vec::new();
+    for (k, record) in records.iter().enumerate() {
+        let before: usize = records[..k].iter().map(|record| record.len()).sum();
+        pairs.extend(((first + before) as u64).to_le_bytes());
+        pairs.extend((record.len() as u32).to_le_bytes());
+    }
+    let count = (records.len() as u32).to_le_bytes();
+    [&count[..], &pairs, &records.concat()].concat()
+}
+
+/// RULES 11.2.
+pub fn record_length(w: u32, h: u32) -> u64 {
+    let [w, h] = [w, h].map(u64::from);
+    8 + w * h + 2 * ((w + 1) / 2 * ((h + 1) / 2))
+}
+
+/// RULES 11.5: the file's size too, where there is one.
+pub fn of_shift_write(records: Option<&[&[u8]]>, output: usize) -> (Answer, u64) {
+    let size = records.map_or(0, |records| file_of(records).len());
+    let all = vec![(16, output < size, 0, 0), (15, records.is_none(), 0, 0)];
+    (first(Without, all), size as u64)
+}
+
+/// RULES 11.6: the record's size too, where there is one.
+pub fn of_shift_record(
+    request: &RecordRequest,
+    planes: &[Vec<u8>; 3],
+    output: usize,
+) -> (Answer, u64) {
+    let &RecordRequest { w, h, .. } = request;
+    let outside = [w, h].iter().any(|side| *side < 1 || *side > 16_384);
+    let strides = [request.y_stride, request.u_stride, request.v_stride];
+    let shape = |row: u32, rows: u32| Shape {
+        row: u64::from(row),
+        rows: u64::from(rows),
+    };
+    let chroma = shape(w.div_ceil(2), h.div_ceil(2));
+    let lengths = planes.each_ref().map(Vec::len);
+    let mut all = planes_of(strides, [shape(w, h), chroma, chroma], lengths);
+    let size = if outside { 0 } else { record_length(w, h) };
+    all.push((16, (output as u64) < size, 0, 0));
+    all.push((15, outside, 0, 0));
+    let answer = first(Without, all);
+    let told = matches!(answer, Ok(()) | Err(Refusal { number: 16, .. }));
+    (answer, if told { size } else { 0 })
+}
+
+/// 8 to 12 of planes that come without a source.
+fn planes_of(strides: [u32; 3], shapes: [Shape; 3], lengths: [usize; 3]) -> Vec<Condition> {
+    let mut all = Vec::new();
+    for (i, (narrow, short)) in [(8, 9), (10, 10), (11, 11)].into_iter().enumerate() {
+        let (row, rows) = (u128::from(shapes[i].row), u128::from(shapes[i].rows));
+        let (stride, length) = (u128::from(strides[i]), lengths[i] as u128);
+        all.push((narrow, stride < row, row * rows, stride * rows));
+        let least = stride * rows.saturating_sub(1) + row;
+        all.push((short, length < least, least, length));
+        all.push((12, length != stride * rows, stride * rows, length));
+    }
+    all
 }
 
 fn is_refused(k: f32) -> bool {

@@ -1,6 +1,7 @@
 //! What is compared: the model, the oracle, and the library that users link. The built program is in program.rs.
 
 use crate::request::BandRequest;
+use model::shift::RecordRequest;
 use model::{Answer, Frame, FrameState, Refusal};
 
 /// A converter by the rules. To compare one more, implement this for it and add it to
@@ -44,6 +45,32 @@ pub trait Converter {
         _counts: &mut [u32; 256],
     ) -> Option<Answer> {
         None
+    }
+
+    /// Whether it has the three calls on shift files.
+    fn has_shift_files(&self) -> bool {
+        false
+    }
+
+    /// Reads a shift file by the numbers of RULES 10.5: the answer, how many records it has, and how
+    /// many entries were written.
+    fn shift_records(&self, _: &[u8], _first: u64, _entries: &mut [u64]) -> (Answer, u64, u64) {
+        unreachable!("has_shift_files() says so")
+    }
+
+    /// Writes a shift file of records: the answer and the size.
+    fn shift_write(&self, _records: &[u8], _output: &mut [u8]) -> (Answer, u64) {
+        unreachable!("has_shift_files() says so")
+    }
+
+    /// Makes a record of planes: the answer and the size.
+    fn shift_record(
+        &self,
+        _request: &RecordRequest,
+        _planes: &[Vec<u8>; 3],
+        _output: &mut [u8],
+    ) -> (Answer, u64) {
+        unreachable!("has_shift_files() says so")
     }
 }
 
@@ -105,6 +132,27 @@ impl Converter for Model {
     ) -> Option<Answer> {
         let counted = model::luma_counts_by_numbers(numbers, custom);
         Some(counted.map(|all| *counts = all))
+    }
+
+    fn has_shift_files(&self) -> bool {
+        true
+    }
+
+    fn shift_records(&self, file: &[u8], first: u64, entries: &mut [u64]) -> (Answer, u64, u64) {
+        model::shift::read_shift_file(file, first, entries)
+    }
+
+    fn shift_write(&self, records: &[u8], output: &mut [u8]) -> (Answer, u64) {
+        model::shift::write_shift_file(records, output)
+    }
+
+    fn shift_record(
+        &self,
+        request: &RecordRequest,
+        [y, u, v]: &[Vec<u8>; 3],
+        output: &mut [u8],
+    ) -> (Answer, u64) {
+        model::shift::write_shift_record(request, y, u, v, output)
     }
 }
 

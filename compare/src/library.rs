@@ -2,8 +2,12 @@
 
 use crate::converter::Converter;
 use crate::request::BandRequest;
+use model::shift::RecordRequest;
 use model::{Answer, Frame, FrameState, Refusal, Settings, TableRounding, Window};
-use segvartin::{FrameDescription, FrameOptions, FrameStateWith, YuvError};
+use segvartin::{
+    BufferStoreMut, FrameDescription, FrameOptions, FrameStateWith, ShiftFile, YuvError,
+    YuvPlanarImageMut,
+};
 
 pub struct Library;
 
@@ -104,21 +108,171 @@ impl Converter for Library {
         let number = unsafe {
             segvartin_call_luma_counts(numbers.as_ptr(), numbers.len(), custom, counts, &mut told)
         };
-        let [expected, received] = told.map(|size| size as u64);
-        Some(match (number, told) {
-            (0, [0, 0]) => Ok(()),
-            _ => Err(Refusal {
-                number: u8::try_from(number).unwrap_or(u8::MAX),
-                expected,
-                received,
-            }),
-        })
+        Some(answered(number, told))
+    }
+
+    fn has_shift_files(&self) -> bool {
+        true
+    }
+
+    /// By its numbers, and then by the crate, which must have the same records at the same places.
+    fn shift_records(&self, file: &[u8], first: u64, entries: &mut [u64]) -> (Answer, u64, u64) {
+        // What stands there before is not looked at.
+        let mut told = [7; 2];
+        // SAFETY: the pointers are those of slices beside their own lengths, and no two lent values overlap.
+        let number = unsafe {
+            segvartin_call_shift_records(
+                file.as_ptr(),
+                file.len(),
+                first as usize,
+                entries.as_mut_ptr(),
+                entries.len(),
+                &mut told,
+            )
+        };
+        let [count, written] = told;
+        let answer = answered(number, [0, 0]);
+        let opened = ShiftFile::open(file).map_err(refusal);
+        assert_eq!(opened.map(|_| ()), answer, "the crate opens it otherwise");
+        if let Ok(opened) = opened {
+            assert_eq!(opened.len(), count, "the crate has other records");
+            let records = opened.records().skip(first as usize);
+            for (record, numbers) in records.zip(entries.chunks_exact(11)) {
+                equal_records(file, &record, numbers);
+            }
+            let one = opened.record(first as usize);
+            assert_eq!(one, opened.records().nth(first as usize), "a record alone");
+        }
+        (answer, count as u64, written as u64)
+    }
+
+    /// By its numbers, and then by the crate on a copy, which must come out the same.
+    fn shift_write(&self, records: &[u8], output: &mut [u8]) -> (Answer, u64) {
+        let mut told = [7; 1];
+        let mut copy = output.to_vec();
+        // SAFETY: as above.
+        let number = unsafe {
+            segvartin_call_shift_write(
+                records.as_ptr(),
+                records.len(),
+                output.as_mut_ptr(),
+                output.len(),
+                &mut told,
+            )
+        };
+        let [size] = told;
+        let answer = answered(number, [0, 0]);
+        let written = segvartin::write_shift_file(records, &mut copy);
+        assert_eq!(written.map_err(refusal), answer.map(|()| size));
+        assert!(copy == output, "the crate leaves other bytes");
+        (answer, size as u64)
+    }
+
+    /// By its numbers, and then by the crate on a copy, which must come out the same.
+    fn shift_record(
+        &self,
+        request: &RecordRequest,
+        planes: &[Vec<u8>; 3],
+        output: &mut [u8],
+    ) -> (Answer, u64) {
+        let r = request;
+        let numbers = [r.crossing, r.w, r.h, r.y_stride, r.u_stride, r.v_stride];
+        let mut told = [7; 3];
+        let mut copy = output.to_vec();
+        let [y, u, v] = planes;
+        // SAFETY: as above.
+        let number = unsafe {
+            segvartin_call_shift_record(
+                &numbers,
+                y.as_ptr(),
+                y.len(),
+                u.as_ptr(),
+                u.len(),
+                v.as_ptr(),
+                v.len(),
+                output.as_mut_ptr(),
+                output.len(),
+                &mut told,
+            )
+        };
+        let [expected, received, size] = told;
+        let answer = answered(number, [expected, received]);
+        let [y_plane, u_plane, v_plane] = planes.clone().map(BufferStoreMut::Owned);
+        let image = YuvPlanarImageMut {
+            y_plane,
+            y_stride: r.y_stride,
+            u_plane,
+            u_stride: r.u_stride,
+            v_plane,
+            v_stride: r.v_stride,
+            width: r.w,
+            height: r.h,
+        };
+        let made = segvartin::shift_record(r.crossing, &image, &mut copy);
+        assert_eq!(made.map_err(refusal), answer.map(|()| size));
+        assert!(copy == output, "the crate leaves other bytes");
+        (answer, size as u64)
+    }
+}
+
+/// The answer of an exported call.
+fn answered(number: u32, told: [usize; 2]) -> Answer {
+    let [expected, received] = told.map(|size| size as u64);
+    match (number, told) {
+        (0, [0, 0]) => Ok(()),
+        _ => Err(Refusal {
+            number: u8::try_from(number).unwrap_or(u8::MAX),
+            expected,
+            received,
+        }),
+    }
+}
+
+/// A record of the crate has the parts of the file that the export told of.
+fn equal_records(file: &[u8], record: &segvartin::ShiftRecord, numbers: &[u64]) {
+    let has = [record.crossing, record.width, record.height].map(u64::from);
+    assert_eq!(has, numbers[..3], "the crate has another record");
+    let parts = [record.bytes, record.y, record.u, record.v];
+    for (part, place) in parts.into_iter().zip(numbers[3..].chunks_exact(2)) {
+        let from = part.as_ptr() as u64 - file.as_ptr() as u64;
+        let is = [from, part.len() as u64];
+        assert_eq!(is, place, "the crate has another part of the file");
     }
 }
 
 // By its numbers, so that those without a meaning can be handed to it too. The mode of the
 // floating-point unit is the default one here.
 unsafe extern "C" {
+    fn segvartin_call_shift_records(
+        file: *const u8,
+        file_len: usize,
+        first: usize,
+        entries: *mut u64,
+        entries_len: usize,
+        told: &mut [usize; 2],
+    ) -> u32;
+
+    fn segvartin_call_shift_write(
+        records: *const u8,
+        records_len: usize,
+        file: *mut u8,
+        file_len: usize,
+        told: &mut [usize; 1],
+    ) -> u32;
+
+    fn segvartin_call_shift_record(
+        numbers: &[u32; 6],
+        y: *const u8,
+        y_len: usize,
+        u: *const u8,
+        u_len: usize,
+        v: *const u8,
+        v_len: usize,
+        record: *mut u8,
+        record_len: usize,
+        told: &mut [usize; 3],
+    ) -> u32;
+
     fn segvartin_call_luma_counts(
         numbers: *const u32,
         numbers_len: usize,

@@ -15,6 +15,8 @@ mod program;
 mod random;
 mod request;
 mod sequences;
+mod shift;
+mod shifts;
 mod smaller;
 mod stored;
 mod vectors;
@@ -25,6 +27,7 @@ use grey::{GreyFrame, GreyInput, GreyRun};
 use model::{YuvRange, YuvStandardMatrix};
 use random::Random;
 use request::{Lent, band_vector, frame_vector, program_vector};
+use shift::{Making, Reading, Shift, Writing};
 use std::collections::{BTreeMap, BTreeSet};
 use std::path::Path;
 use std::process::exit;
@@ -45,6 +48,9 @@ compare --vectors ROOT | --check ROOT | --mistakes | --flat
   --grey-runs N  frames cut into bands whose first rows are grey (20000)
   --tables N     named matrices and ranges, of 12, whose counts of colours are compared (12)
   --counts N     Custom pairs whose counts of colours are compared (200), and 100 times as many refused calls
+  --shifts N     shift files that are read, good and broken (100000); a half as many lists of records that are
+                 written, a fifth as many records made from planes, a hundredth as many lists of frames that are
+                 converted, made records, written and read back
   --side N       sizes to N by N (64); some are 1,920 by 1,080, some up to 16,384 long and thin;
                  four of five lie in a source that is larger by up to 18 each way, or all it may be
   --seed N       seed of all of these (1)
@@ -52,11 +58,13 @@ compare --vectors ROOT | --check ROOT | --mistakes | --flat
 
 A mismatch is printed as the smallest request found that shows it, in the form of --list.
 
-  --vectors ROOT   write the stored lists of frame calls and band sequences into the repository ROOT
+  --vectors ROOT   write the stored lists of frame calls, band sequences and calls on shift files into the
+                   repository ROOT
   --check ROOT     say whether the lists in ROOT are what --vectors writes
   --mistakes       for each mistake near at hand the call made for it, and how many calls catch it;
                    for each way to lose tables or window between calls, and for each mistake in a
-                   condition of bands, the first sequence that catches it, and how many do
+                   condition of bands, the first sequence that catches it, and how many do; the same
+                   of mistakes in a reader or a writer of shift files
   --flat           for each transfer and rounding, how many of the 256 values of a flat channel
                    come back through both tables, and how far off the others are at most";
 
@@ -79,6 +87,7 @@ struct Options {
     grey_runs: u64,
     tables: u64,
     counts: u64,
+    shifts: u64,
     side: u64,
     seed: u64,
     list: u64,
@@ -95,6 +104,7 @@ fn options() -> Option<Options> {
         grey_runs: 20_000,
         tables: 12,
         counts: 200,
+        shifts: 100_000,
         side: 64,
         seed: 1,
         list: 0,
@@ -112,6 +122,7 @@ fn options() -> Option<Options> {
                 options.grey_runs /= 10;
                 options.tables = 2;
                 options.counts /= 10;
+                options.shifts /= 10;
                 continue;
             }
             "--frames" => &mut options.frames,
@@ -123,6 +134,7 @@ fn options() -> Option<Options> {
             "--grey-runs" => &mut options.grey_runs,
             "--tables" => &mut options.tables,
             "--counts" => &mut options.counts,
+            "--shifts" => &mut options.shifts,
             "--side" => &mut options.side,
             "--seed" => &mut options.seed,
             "--list" => &mut options.list,
@@ -194,6 +206,7 @@ fn main() {
     } else {
         println!("target/bin/{COUNTING} is not here: it was run on no input");
     }
+    shifts(&options, &converters);
     let input = |case| random::input(&mut Random::new(seed, 4, case), side);
     let grey_input = |case| GreyInput::random(&mut Random::new(seed, 13, case));
     compare("program inputs", options.programs, &converters, input);
@@ -210,6 +223,24 @@ fn main() {
         println!("target/bin/frame is not here: it was run on no input");
     }
     println!("all equal, {:.1} s", start.elapsed().as_secs_f64());
+}
+
+/// Shift files: read, written, made from planes, and all of it after frame calls.
+fn shifts(options: &Options, converters: &Converters) {
+    let (seed, side, files) = (options.seed, options.side as u32, options.shifts);
+    compare("shift files read", files, converters, |case| {
+        Reading::random(&mut Random::new(seed, 14, case))
+    });
+    compare("shift files written", files / 2, converters, |case| {
+        Writing::random(&mut Random::new(seed, 15, case))
+    });
+    compare("records from planes", files / 5, converters, |case| {
+        Making::random(&mut Random::new(seed, 16, case), side)
+    });
+    let kind = "lists of frames in shift files";
+    compare(kind, files / 100, converters, |case| {
+        Shift::random(&mut Random::new(seed, 17, case), side)
+    });
 }
 
 /// The program that counts colours.
@@ -229,19 +260,16 @@ fn timed(check: impl Fn() -> Result<String, String>) {
 
 type OnList = fn(&Path, &Converters) -> Result<String, String>;
 
-/// The list of frame calls and that of band sequences: what is said of both, an error before the rest.
-fn both(
-    root: &Path,
-    converters: &Converters,
-    one: OnList,
-    other: OnList,
-) -> Result<String, String> {
-    match (one(root, converters), other(root, converters)) {
-        (Ok(one), Ok(other)) => Ok([one, other].join("\n")),
-        (one, other) => {
-            let all = [one, other].map(|said| said.unwrap_or_else(|wrong| wrong));
-            Err(all.join("\n"))
-        }
+/// The lists of frame calls, of band sequences and of calls on shift files: what is said of all, an
+/// error where one is wrong.
+fn each(root: &Path, converters: &Converters, lists: [OnList; 3]) -> Result<String, String> {
+    let said = lists.map(|list| list(root, converters));
+    let wrong = said.iter().any(Result::is_err);
+    let all = said.map(|said| said.unwrap_or_else(|wrong| wrong));
+    if wrong {
+        Err(all.join("\n"))
+    } else {
+        Ok(all.join("\n"))
     }
 }
 
@@ -250,21 +278,20 @@ fn told(converters: &Converters) -> Option<Result<String, String>> {
     let words: Vec<String> = std::env::args().skip(1).collect();
     let words: Vec<&str> = words.iter().map(String::as_str).collect();
     match words[..] {
-        ["--vectors", root] => Some(both(
+        ["--vectors", root] => Some(each(
             Path::new(root),
             converters,
-            vectors::write,
-            bands::write,
+            [vectors::write, bands::write, shifts::write],
         )),
-        ["--check", root] => Some(both(
+        ["--check", root] => Some(each(
             Path::new(root),
             converters,
-            vectors::check,
-            bands::check,
+            [vectors::check, bands::check, shifts::check],
         )),
         ["--mistakes"] => Some(vectors::report(converters).and_then(|frames| {
             let sequences = bands::report(converters)?;
-            Ok([frames, sequences].join("\n\n"))
+            let shifts = shifts::report(converters)?;
+            Ok([frames, sequences, shifts].join("\n\n"))
         })),
         ["--flat"] => Some(Ok(worked::flat_colours())),
         _ => None,

@@ -2,7 +2,10 @@
 
 use crate::request::{BandRequest, FrameRequest, Input, Run, Shape, shapes};
 use model::settings::{channels_of, matrix_of, range_of, rounding_of, sampling_of, transfer_of};
-use model::{Frame, FrameState, Settings, TableRounding, Window, YuvStandardMatrix};
+use model::shift::RecordRequest;
+use model::{
+    Frame, FrameState, Settings, TableRounding, Window, YuvChromaSubsampling, YuvStandardMatrix,
+};
 
 /// splitmix64.
 pub struct Random(u64);
@@ -235,6 +238,69 @@ fn any_frame(random: &mut Random, side: u32) -> FrameRequest {
         put_in_source(random, &mut request);
     }
     request
+}
+
+/// An accepted frame of 4:2:0 with either rounding, and four of five in a larger source.
+pub fn frame_420(random: &mut Random, side: u32) -> FrameRequest {
+    let mut settings = settings(random);
+    settings.sampling = YuvChromaSubsampling::Yuv420;
+    settings.rounding = coded(random, 2, rounding_of);
+    let size = size(random, side);
+    let mut request = frame_of_size(random, settings, size);
+    if !random.one_in(5) {
+        put_in_source(random, &mut request);
+    }
+    request
+}
+
+/// Planes that a record can be made of, of any size, and their strides. The crossing is 0.
+pub fn planes(random: &mut Random, side: u32) -> (RecordRequest, [Vec<u8>; 3]) {
+    let (w, h) = size(random, side);
+    let shapes = plane_shapes(w, h);
+    let strides = shapes.map(|shape| shape.row as u32 + padding(random));
+    let planes = [0, 1, 2].map(|i| random.bytes(strides[i] as usize * shapes[i].rows as usize));
+    let request = RecordRequest {
+        crossing: 0,
+        w,
+        h,
+        y_stride: strides[0],
+        u_stride: strides[1],
+        v_stride: strides[2],
+    };
+    (request, planes)
+}
+
+/// Of Y, U, V in 4:2:0.
+fn plane_shapes(w: u32, h: u32) -> [Shape; 3] {
+    let shape = |row: u32, rows: u32| Shape {
+        row: u64::from(row),
+        rows: u64::from(rows),
+    };
+    let chroma = shape(w.div_ceil(2), h.div_ceil(2));
+    [shape(w, h), chroma, chroma]
+}
+
+/// Another size, or another stride or length of a plane.
+pub fn plane_fault(random: &mut Random, request: &mut RecordRequest, planes: &mut [Vec<u8>; 3]) {
+    if random.one_in(4) {
+        let side = if random.one_in(2) {
+            &mut request.w
+        } else {
+            &mut request.h
+        };
+        *side = random.pick(&[0, 0, 16_385, 65_536, 65_537, 1 << 31, u32::MAX]);
+        return;
+    }
+    let shapes = plane_shapes(request.w, request.h);
+    let i = random.below(3) as usize;
+    let strides = [
+        &mut request.y_stride,
+        &mut request.u_stride,
+        &mut request.v_stride,
+    ];
+    let [y, u, v] = strides;
+    let stride = [y, u, v].into_iter().nth(i).expect("three strides");
+    buffer_fault(random, &mut planes[i], stride, shapes[i]);
 }
 
 /// What a source has before and behind the rectangle in one direction: often nothing, now and then

@@ -88,4 +88,10 @@ impl Plane {
         let start = r * self.stride;
         &mut bytes[start..start + self.width]
     }
+
+    /// The same bytes, to be read.
+    pub(crate) fn row_of<'a>(&self, bytes: &'a [u8], r: usize) -> &'a [u8] {
+        let start = r * self.stride;
+        &bytes[start..start + self.width]
+    }
 }

@@ -18,6 +18,7 @@ pub mod program;
 pub mod refusals;
 pub mod row;
 pub mod settings;
+pub mod shift;
 mod whole;
 mod window;
 

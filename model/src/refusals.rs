@@ -2,8 +2,8 @@
 //!
 //! The first condition that holds is answered: the conditions stand below in the order in which
 //! they are asked, and `?` ends at the first that holds. It is the order of their numbers, but for
-//! 14, which comes between 4 and 5. So a condition may count on those before it: rows are not 0
-//! once 2, 5 and 14 were passed.
+//! 14, which comes between 4 and 5, and 15, which comes first. So a condition may count on those
+//! before it: rows are not 0 once 2, 5, 14 and 15 were passed.
 
 use crate::settings::{Settings, YuvStandardMatrix, chroma_width};
 use crate::window::Window;
@@ -88,7 +88,6 @@ impl Lent {
 /// 6 to 12. A source row has `source_row` bytes, which are those of its whole width; the source's
 /// rows are all that it has or the band's, those of the planes the frame's.
 pub(crate) fn memory(w: u64, source_row: u64, source: Lent, y: Lent, u: Lent, v: Lent) -> Answer {
-    let cw = chroma_width(w);
     let source_minimum = source.minimum(source_row);
     refuse_with(
         source.length < source_minimum,
@@ -97,6 +96,19 @@ pub(crate) fn memory(w: u64, source_row: u64, source: Lent, y: Lent, u: Lent, v:
         source.length,
     )?;
     refuse_with(source.stride < source_row, 7, source_row, source.stride)?;
+    rows_fit(w, y, u, v)?;
+    whole_rows(&[source, y, u, v])
+}
+
+/// 8 to 12 where there is no source, as of planes that are made a record of (RULES 11.6).
+pub(crate) fn planes(w: u64, y: Lent, u: Lent, v: Lent) -> Answer {
+    rows_fit(w, y, u, v)?;
+    whole_rows(&[y, u, v])
+}
+
+/// 8 to 11.
+fn rows_fit(w: u64, y: Lent, u: Lent, v: Lent) -> Answer {
+    let cw = chroma_width(w);
     refuse_with(y.stride < w, 8, w * y.rows, y.stride * y.rows)?;
     refuse_with(y.length < y.minimum(w), 9, y.minimum(w), y.length)?;
     for (plane, number) in [(u, 10), (v, 11)] {
@@ -109,7 +121,12 @@ pub(crate) fn memory(w: u64, source_row: u64, source: Lent, y: Lent, u: Lent, v:
         )?;
         refuse_with(plane.length < minimum, number, minimum, plane.length)?;
     }
-    for lent in [source, y, u, v] {
+    Ok(())
+}
+
+/// 12.
+fn whole_rows(lent: &[Lent]) -> Answer {
+    for lent in lent {
         let exact = lent.stride * lent.rows;
         refuse_with(lent.length != exact, 12, exact, lent.length)?;
     }
