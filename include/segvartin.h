@@ -1,5 +1,6 @@
 /*
- * Segvartin: strided 8-bit RGB frames to planar YUV 4:2:0 and 4:2:2 ("sharp YUV", chroma interpolated over linear light).
+ * Segvartin: strided 8-bit RGB frames to planar YUV 4:2:0 and 4:2:2 ("sharp YUV", chroma interpolated over linear light), and shift files, which
+ * hold the planes of many frames.
  *
  * Link libsegvartin.a (x86-64, System V ABI). It has no state, no heap, no threads, no input and no output, and of libc it calls memset alone;
  * calls on separate buffers may run on separate threads. A call takes less than 96 KiB of stack.
@@ -7,20 +8,22 @@
  * Call segvartin_frame, segvartin_open and segvartin_band, or the same calls with their numbers in structs: segvartin_convert_frame,
  * segvartin_open_frame and segvartin_convert_band. With choices that these do not have, which today are the rounding of the curve tables and a
  * window (the frame is a rectangle inside a larger source): segvartin_convert_frame_with, segvartin_open_frame_with and
- * segvartin_convert_band_with. How many colours share a luma, in a matrix and range: segvartin_luma_counts. All only pass numbers on to the
- * library's segvartin_call_ functions below.
+ * segvartin_convert_band_with. How many colours share a luma, in a matrix and range: segvartin_luma_counts. A record of a shift file from planes:
+ * segvartin_write_shift_record; a file from records: segvartin_write_shift_file; its records where they stand in it: segvartin_read_shift_file.
+ * All only pass numbers on to the library's segvartin_call_ functions below.
  *
- * docs/RULES.md has the rules that fix each byte and each answer; RULES 7.1 below names one of them. The library's four functions are the
+ * docs/RULES.md has the rules that fix each byte and each answer; RULES 7.1 below names one of them. The library's seven functions are the
  * calls of its chapter 10.
  *
- * Every function answers finished work (0) or the number of one refusal, and a refusal writes no byte of a plane or of the carried row, and no
- * count. This holds for all values of all numbers: sizes, strides, lengths, codes, kr, kb. What no function can check, and the caller must
- * see to:
+ * Every function answers finished work (0) or the number of one refusal, and a refusal writes no byte of a plane, of the carried row, of a record
+ * or of a file, and no count. This holds for all values of all numbers: sizes, strides, lengths, codes, kr, kb, and all bytes of a file. What no
+ * function can check, and the caller must see to:
  *   - a pointer is not NULL, also where its length is 0, and points to as many bytes as the length beside it says; counts to 256 numbers;
- *   - source, y, u, v, carried, counts, done, expected and received do not overlap.
+ *   - what a call is lent (source, y, u, v, carried, counts, done, expected, received; records, file, size, count, read) does not overlap.
  *
  * The caller's floating-point mode (rounding, denormals, trapped exceptions) does not matter: each call is made in the default mode, and the
- * caller's mode and exception flags are put back as they were. Only SEGVARTIN_FCC and SEGVARTIN_CUSTOM use floats at all.
+ * caller's mode and exception flags are put back as they were. Only SEGVARTIN_FCC and SEGVARTIN_CUSTOM use floats at all; the calls on shift
+ * files take the mode as it is.
  *
  * Write w, h for width and height; W, H for those of the source, which are w, h where no window says otherwise; c for the bytes of a pixel,
  * 3 (RGB, BGR) or 4; cw for w / 2 rounded up; ch for h in 4:2:2, and for h / 2 rounded up in 4:2:0. Strides are in bytes, from the start of a
@@ -71,11 +74,13 @@ enum { SEGVARTIN_SRGB = 0, SEGVARTIN_REC709 = 1, SEGVARTIN_GAMMA2P2 = 2, SEGVART
 enum { SEGVARTIN_TRUNCATED = 0, SEGVARTIN_NEAREST = 1 };
 
 /*
- * What a call answers (RULES 7.1). Where several conditions hold, the first in the order below is answered: 1, 2, 3, 4, 14, 5, 6 and so on to 13.
- * In parentheses: what *expected and *received get; where nothing stands there, and after finished work, both get 0.
+ * What a call answers (RULES 7.1). Where several conditions hold, the first in the order below is answered: 15, 1, 2, 3, 4, 14, 5, 6 and so on to
+ * 13, 16. In parentheses: what *expected and *received get; where nothing stands there, and after finished work, both get 0.
  */
 enum {
     SEGVARTIN_FINISHED = 0,
+    /* shift files only: the file, or what is to be written, breaks their layout; w or h of a record to be made is not from 1 to 16384 */
+    SEGVARTIN_MALFORMED_SHIFT_FILE = 15,
     /* a code of channels, sampling, range, matrix, transfer or rounding without a meaning; of segvartin_call_ also another count of numbers */
     SEGVARTIN_MALFORMED_REQUEST = 1,
     /* w or h is 0 */
@@ -103,10 +108,15 @@ enum {
     /* source, y, u or v, the first in this order, is not exactly its stride times its rows long (that, its length) */
     SEGVARTIN_WHOLE_ROWS_MISMATCH = 12,
     /* band calls only: the carried row is shorter than 3 * w (3 * w, its length) */
-    SEGVARTIN_CARRIED_ROW_MISMATCH = 13
+    SEGVARTIN_CARRIED_ROW_MISMATCH = 13,
+    /* shift files only: the memory lent for a file or a record is too short; the call tells its size beside */
+    SEGVARTIN_OUTPUT_TOO_SHORT = 16
 };
 
 #define SEGVARTIN_MAX_SIDE 16384
+
+/* Records of a shift file, at most (RULES 11.1). */
+#define SEGVARTIN_MAX_RECORDS 4096
 
 /*
  * What the library exports. A program has no need of these: they are what the functions below call. They need the default floating-point
@@ -119,9 +129,14 @@ enum {
  *                    SEGVARTIN_TRUNCATED, and where they are not, these four are 0, 0, width, height. luma_counts: range, matrix. Any other
  *                    count is refusal 1. A later version may take further numbers; a call that does not give them stays the call that it is
  *                    today
+ *                    shift_record: crossing, width, height, y_stride, u_stride, v_stride
  *   custom           kr, kb
- *   told             gets expected, received, and in open and band the rows done: 0, and what they are after the band
- *   the others       as below; numbers, custom and told overlap nothing either
+ *   first, entries   the record to begin with, and eleven numbers for each record from there on, as many as there are and as whole elevens fit:
+ *                    the fields of segvartin_shift_record, in their order
+ *   told             gets expected, received, and in open and band the rows done: 0, and what they are after the band. shift_records: how many
+ *                    records the file has, and how many entries were written. shift_write: the file's size. shift_record: expected, received,
+ *                    the record's size
+ *   the others       as below; numbers, custom, entries and told overlap nothing either. The three shift_ calls need no mode
  */
 /* Made by tools/declarations.py from the library's source: change that, and run it. */
 uint32_t segvartin_call_frame(const uint32_t *numbers, size_t numbers_len, const float custom[2], const uint8_t *source, size_t source_len,
@@ -135,6 +150,14 @@ uint32_t segvartin_call_band(const uint32_t *numbers, size_t numbers_len, const 
 
 uint32_t segvartin_call_luma_counts(const uint32_t *numbers, size_t numbers_len, const float custom[2], uint32_t counts[256],
                                     size_t told[2]);
+
+uint32_t segvartin_call_shift_records(const uint8_t *file, size_t file_len, size_t first, uint64_t *entries, size_t entries_len,
+                                      size_t told[2]);
+
+uint32_t segvartin_call_shift_write(const uint8_t *records, size_t records_len, uint8_t *file, size_t file_len, size_t told[1]);
+
+uint32_t segvartin_call_shift_record(const uint32_t numbers[6], const uint8_t *y, size_t y_len, const uint8_t *u, size_t u_len,
+                                     const uint8_t *v, size_t v_len, uint8_t *record, size_t record_len, size_t told[3]);
 /* End of what tools/declarations.py makes. */
 
 /* MXCSR: the floating-point mode and the exception flags. */
@@ -483,6 +506,119 @@ static inline uint32_t segvartin_luma_counts(uint32_t range, uint32_t matrix, fl
     const float custom[2] = {kr, kb};
     size_t told[2];
     return segvartin_luma_counts_in_default_mode(numbers, 2, custom, counts, told);
+}
+
+/*
+ * Shift files (RULES 11.1 to 11.6): the planes of up to 4096 frames of 4:2:0 in one file, a record for each. Every number in it stands low byte
+ * first. A file is a count (4 bytes), for each record its offset (8) and length (4), and the records without a gap. A record is a crossing number
+ * (4 bytes), w (2), h (2), then Y, U and V without padding: 8 + w * h + 2 * cw * ch bytes. So a file is 4 bytes, 12 more for each record, and the
+ * records.
+ */
+
+/* The bytes of a buffer that may be written, to be read. */
+static inline segvartin_bytes segvartin_read_only(segvartin_bytes_mut b) {
+    segvartin_bytes bytes;
+    bytes.at = b.at;
+    bytes.len = b.len;
+    return bytes;
+}
+
+/* A record of a file that was read: its numbers, and where it and its planes stand. Offsets are in bytes from the start of the file. */
+typedef struct segvartin_shift_record {
+    uint64_t crossing, width, height;
+    uint64_t offset, length;
+    uint64_t y_offset, y_length;
+    uint64_t u_offset, u_length;
+    uint64_t v_offset, v_length;
+} segvartin_shift_record;
+
+/*
+ * Reads a shift file (RULES 11.4). Answers 0, or a refusal: 15, exactly where the bytes are no shift file; then no record is written. Its time is that
+ * of the pairs and of the first bytes of each record: planes are not looked at.
+ *
+ *   file             the whole file, and nothing behind it
+ *   first            the record to begin with; they count from 0. At or past the last there is none to tell of
+ *   records          gets records first, first + 1 and so on, as many as there are and as room allows; those behind stay as they are
+ *   room             how many records it has room for. 0 where only the count is wanted
+ *   count            gets how many records the file has, 0 after a refusal
+ *   read             gets how many records were written, 0 after a refusal
+ *
+ * Each call checks the whole file, so it is asked for many records at once.
+ */
+static inline segvartin_answer segvartin_read_shift_file(segvartin_bytes file, size_t first, segvartin_shift_record *records, size_t room,
+                                                         size_t *count, size_t *read) {
+    size_t told[2];
+    segvartin_answer a;
+    a.number = segvartin_call_shift_records(file.at, file.len, first, (uint64_t *)(void *)records, 11 * room, told); /* eleven numbers each */
+    a.expected = a.received = 0;
+    *count = told[0];
+    *read = told[1];
+    return a;
+}
+
+/* Bytes of a file, where they stand in it. offset and length are those of a record that segvartin_read_shift_file told of this file. */
+static inline segvartin_bytes segvartin_shift_part(segvartin_bytes file, uint64_t offset, uint64_t length) {
+    segvartin_bytes part;
+    part.at = file.at + offset;
+    part.len = length;
+    return part;
+}
+
+/* The planes of a record: h rows of w bytes, and twice ch rows of cw bytes. */
+static inline segvartin_bytes segvartin_shift_y(segvartin_bytes file, const segvartin_shift_record *r) {
+    return segvartin_shift_part(file, r->y_offset, r->y_length);
+}
+
+static inline segvartin_bytes segvartin_shift_u(segvartin_bytes file, const segvartin_shift_record *r) {
+    return segvartin_shift_part(file, r->u_offset, r->u_length);
+}
+
+static inline segvartin_bytes segvartin_shift_v(segvartin_bytes file, const segvartin_shift_record *r) {
+    return segvartin_shift_part(file, r->v_offset, r->v_length);
+}
+
+/* The whole record, as segvartin_write_shift_file takes it. */
+static inline segvartin_bytes segvartin_shift_whole(segvartin_bytes file, const segvartin_shift_record *r) {
+    return segvartin_shift_part(file, r->offset, r->length);
+}
+
+/*
+ * Writes a shift file (RULES 11.5). Answers 0, or a refusal: 15, 16.
+ *
+ *   records          up to 4096 records, one behind the other and nothing between; no bytes for a file without records. Where they stand so in a
+ *                    file, from the first record's offset to the end, that is what is meant
+ *   file             gets the file at its start; what lies past it is left as it is. 16 where the file does not fit, and then no byte is written
+ *   size             gets the file's size, also after 16; 0 after 15
+ */
+static inline segvartin_answer segvartin_write_shift_file(segvartin_bytes records, segvartin_bytes_mut file, size_t *size) {
+    size_t told[1];
+    segvartin_answer a;
+    a.number = segvartin_call_shift_write(records.at, records.len, file.at, file.len, told);
+    a.expected = a.received = 0;
+    *size = told[0];
+    return a;
+}
+
+/*
+ * Makes a record of planes (RULES 11.6), as a frame call or the bands of a frame left them in 4:2:0. Answers 0, or a refusal: 15, 8 to 12, 16.
+ *
+ *   crossing         any number
+ *   d                its width, height, y_stride, u_stride and v_stride are looked at, no setting. 15 where w or h is not from 1 to 16384
+ *   y, u, v          as in segvartin_frame with SEGVARTIN_YUV420: of each row its first w or cw bytes are taken. They are only read:
+ *                    segvartin_read_only makes them of what a frame call took
+ *   record           gets the record at its start; what lies past it is left as it is. 16 where the record does not fit
+ *   size             gets the record's size, also after 16; 0 after another refusal. The next record of a file starts so many bytes on
+ */
+static inline segvartin_answer segvartin_write_shift_record(uint32_t crossing, const segvartin_description *d, segvartin_bytes y,
+                                                            segvartin_bytes u, segvartin_bytes v, segvartin_bytes_mut record, size_t *size) {
+    const uint32_t numbers[6] = {crossing, d->width, d->height, d->y_stride, d->u_stride, d->v_stride};
+    size_t told[3];
+    segvartin_answer a;
+    a.number = segvartin_call_shift_record(numbers, y.at, y.len, u.at, u.len, v.at, v.len, record.at, record.len, told);
+    a.expected = told[0];
+    a.received = told[1];
+    *size = told[2];
+    return a;
 }
 
 #ifdef __cplusplus

@@ -1,7 +1,10 @@
-//! Times this converter and the unaltered Rust on the same frames, in one run, on one thread; and a count of colours beside a loop in C.
+//! Times this converter and the unaltered Rust on the same frames, in one run, on one thread; a count of colours beside a loop in C; and shift files
+//! beside memcpy.
 //!
 //! Each figure is the least of many turns. The two, or a frame's forms, take turns, so that a busy
 //! moment of the machine falls on both alike.
+mod shift;
+
 use segvartin::{FrameDescription, FrameOptions, FrameState, TableRounding, Window, YuvChromaSubsampling, YuvSourceChannels};
 use std::time::Instant;
 use yuvutils_unaltered::sharpyuv::*;
@@ -277,7 +280,17 @@ fn main() {
     let processor = std::fs::read_to_string("/proc/cpuinfo").unwrap_or_default();
     let processor = processor.lines().find_map(|l| l.strip_prefix("model name")).map_or("unknown", |l| l.trim_start_matches(['\t', ':', ' ']));
     println!("{}; {processor}; one thread; Full, Bt601, sRGB; least of {TURNS} turns", env!("BENCH_RUSTC"));
+    if std::env::args().nth(1).as_deref() != Some("shift") {
+        frames(&mut bars);
+    }
+    shift::report(&mut bars);
+    if !bars.0 {
+        std::process::exit(1);
+    }
+}
 
+/// All but shift files.
+fn frames(bars: &mut Bars) {
     println!("\n1,920 x 1,080, ms; bar: {LEAST_RATIO} times the Rust");
     println!("{:<8}{:<6}{:<7}{:>8}{:>8}{:>8}{:>24}", "content", "order", "chroma", "Rust", "ours", "times", "U, V bytes that differ");
     for (name, content, orders) in [("noise", Content::Noise, 4), ("smooth", Content::Smooth, 1)] {
@@ -345,7 +358,4 @@ fn main() {
     let [ours, loops] = counts();
     let said = bars.hold(ours < MOST_OF_COUNTS);
     println!("{:<12}{loops:>8.1}{ours:>8.1}{:>8.2}{said}", "Bt601 Full", ours / loops);
-    if !bars.0 {
-        std::process::exit(1);
-    }
 }

@@ -15,6 +15,8 @@ pub struct MismatchedSize {
 #[derive(Debug, Copy, Clone, Eq, PartialEq)]
 #[non_exhaustive]
 pub enum YuvError {
+    /// 15: a shift file, or what is to be written, breaks the layout; or a record's width or height is not from 1 to 16,384.
+    MalformedShiftFile,
     /// 1: a setting without a meaning. The enums of this crate have none, so no call here answers it.
     MalformedRequest,
     /// 2: width or height is 0.
@@ -43,6 +45,8 @@ pub enum YuvError {
     WholeRowsMismatch(MismatchedSize),
     /// 13: the carried row is shorter than 3 × width.
     CarriedRowSizeMismatch(MismatchedSize),
+    /// 16: the memory lent for a shift file or a record is too short.
+    OutputTooShort,
 }
 
 impl YuvError {
@@ -50,6 +54,7 @@ impl YuvError {
     #[must_use]
     pub fn number(&self) -> u32 {
         match self {
+            YuvError::MalformedShiftFile => 15,
             YuvError::MalformedRequest => 1,
             YuvError::ZeroBaseSize => 2,
             YuvError::SizeTooLarge => 3,
@@ -64,6 +69,7 @@ impl YuvError {
             YuvError::VPlaneMinimumSizeMismatch(_) => 11,
             YuvError::WholeRowsMismatch(_) => 12,
             YuvError::CarriedRowSizeMismatch(_) => 13,
+            YuvError::OutputTooShort => 16,
         }
     }
 
@@ -71,12 +77,14 @@ impl YuvError {
     #[must_use]
     pub fn size(&self) -> Option<MismatchedSize> {
         match *self {
-            YuvError::MalformedRequest
+            YuvError::MalformedShiftFile
+            | YuvError::MalformedRequest
             | YuvError::ZeroBaseSize
             | YuvError::SizeTooLarge
             | YuvError::MatrixNotAccepted
             | YuvError::WindowOutsideSource
-            | YuvError::BandRowsMismatch => None,
+            | YuvError::BandRowsMismatch
+            | YuvError::OutputTooShort => None,
             YuvError::DestinationSizeMismatch(size)
             | YuvError::MinimumStrideSizeMismatch(size)
             | YuvError::LumaPlaneMinimumSizeMismatch(size)
@@ -93,6 +101,7 @@ impl YuvError {
         let size = MismatchedSize { expected, received };
         Err(match number {
             0 => return Ok(()),
+            15 => YuvError::MalformedShiftFile,
             2 => YuvError::ZeroBaseSize,
             3 => YuvError::SizeTooLarge,
             4 => YuvError::MatrixNotAccepted,
@@ -106,6 +115,7 @@ impl YuvError {
             11 => YuvError::VPlaneMinimumSizeMismatch(size),
             12 => YuvError::WholeRowsMismatch(size),
             13 => YuvError::CarriedRowSizeMismatch(size),
+            16 => YuvError::OutputTooShort,
             _ => YuvError::MalformedRequest,
         })
     }
@@ -114,9 +124,12 @@ impl YuvError {
 impl Display for YuvError {
     fn fmt(&self, f: &mut Formatter<'_>) -> std::fmt::Result {
         let what = match self {
+            YuvError::MalformedShiftFile => "the layout of a shift file is broken",
             YuvError::MalformedRequest => "a setting has no meaning",
             YuvError::ZeroBaseSize => "width or height is 0",
-            YuvError::SizeTooLarge => "width or height, of the frame or of its source, is above 16384",
+            YuvError::SizeTooLarge => {
+                "width or height, of the frame or of its source, is above 16384"
+            }
             YuvError::MatrixNotAccepted => "kr or kb is not from 0 to 0.5",
             YuvError::WindowOutsideSource => "the window ends outside the large source",
             YuvError::BandRowsMismatch => "the band has no rows, or more than remain",
@@ -128,6 +141,7 @@ impl Display for YuvError {
             YuvError::VPlaneMinimumSizeMismatch(_) => "V is too narrow or too short",
             YuvError::WholeRowsMismatch(_) => "a buffer is not exactly its rows long",
             YuvError::CarriedRowSizeMismatch(_) => "the carried row is too short",
+            YuvError::OutputTooShort => "the output is too short",
         };
         write!(f, "refused {}: {what}", self.number())?;
         match self.size() {

@@ -48,4 +48,34 @@ unsafe extern "C" {
         counts: &mut [u32; 256],
         told: &mut [usize; 2],
     ) -> u32;
+
+    pub(crate) fn segvartin_call_shift_records(
+        file: *const u8,
+        file_len: usize,
+        first: usize,
+        entries: *mut u64,
+        entries_len: usize,
+        told: &mut [usize; 2],
+    ) -> u32;
+
+    pub(crate) fn segvartin_call_shift_write(
+        records: *const u8,
+        records_len: usize,
+        file: *mut u8,
+        file_len: usize,
+        told: &mut [usize; 1],
+    ) -> u32;
+
+    pub(crate) fn segvartin_call_shift_record(
+        numbers: &[u32; 6],
+        y: *const u8,
+        y_len: usize,
+        u: *const u8,
+        u_len: usize,
+        v: *const u8,
+        v_len: usize,
+        record: *mut u8,
+        record_len: usize,
+        told: &mut [usize; 3],
+    ) -> u32;
 }

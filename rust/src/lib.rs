@@ -1,13 +1,14 @@
-//! RGB frames to planar YUV 4:2:0 and 4:2:2 over the proved library, under the names and with the argument order of yuvutils-rs's sharp path.
+//! RGB frames to planar YUV 4:2:0 and 4:2:2 over the proved library, under the names and with the argument order of yuvutils-rs's sharp path; and
+//! [shift files](ShiftFile), which hold the planes of many frames.
 //!
 //! Every call answers finished work or one numbered refusal ([`YuvError`]), for all sizes, strides, lengths and settings; a refusal writes no
 //! byte. The rules that fix each byte and each answer are docs/RULES.md of the repository; RULES 7.1 in a comment is one of them.
 //!
-//! No frame or band call panics, and neither does [`luma_counts`], which tells how many colours share a luma. [`YuvPlanarImageMut::alloc`] makes the
-//! planes as [`Vec`]s, and ends as those do where memory does not suffice.
+//! No frame or band call panics, and neither does [`luma_counts`], which tells how many colours share a luma, nor a call on shift files.
+//! [`YuvPlanarImageMut::alloc`] makes the planes as [`Vec`]s, and ends as those do where memory does not suffice.
 //!
 //! The caller's floating-point mode (rounding, denormals, trapped exceptions) does not matter: each call is made in the default mode, and the
-//! caller's mode and exception flags are put back as they were.
+//! caller's mode and exception flags are put back as they were; calls on shift files use no floats.
 //!
 //! ```
 //! use segvartin::*;
@@ -26,6 +27,7 @@ mod frame;
 mod image;
 mod mode;
 mod settings;
+mod shift;
 
 pub use bands::{FrameState, FrameStateWith};
 pub use counts::luma_counts;
@@ -35,4 +37,8 @@ pub use image::{BufferStoreMut, YuvPlanarImageMut};
 pub use settings::{
     FrameDescription, FrameOptions, SharpYuvGammaTransfer, TableRounding, Window,
     YuvChromaSubsampling, YuvRange, YuvSourceChannels, YuvStandardMatrix,
+};
+pub use shift::{
+    ShiftFile, ShiftRecord, ShiftRecords, shift_file_size, shift_record, shift_record_size,
+    write_shift_file,
 };

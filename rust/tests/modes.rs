@@ -335,3 +335,30 @@ fn the_export_takes_denormals_as_its_caller() {
         assert_eq!(in_mode(mode, export).2.0, number);
     }
 }
+
+/// Shift files are made of whole numbers: no mode is set for them, and none matters.
+#[test]
+fn the_same_shift_file_in_every_mode() {
+    let mut image = YuvPlanarImageMut::<u8>::alloc(5, 3, YuvChromaSubsampling::Yuv420);
+    for (byte, i) in image.y_plane.borrow_mut().iter_mut().zip(0..) {
+        *byte = i * 7;
+    }
+    let call = || {
+        let (mut record, mut bytes) = (vec![0; 35], vec![0; 51]);
+        shift_record(1400, &image, &mut record)?;
+        write_shift_file(&record, &mut bytes)?;
+        let file = ShiftFile::open(&bytes)?;
+        assert_eq!(
+            (file.len(), file.record(0).unwrap().bytes),
+            (1, &record[..])
+        );
+        bytes.truncate(50);
+        assert_eq!(ShiftFile::open(&bytes), Err(YuvError::MalformedShiftFile));
+        Ok::<_, YuvError>(record)
+    };
+    let usual = call().unwrap();
+    for mode in modes() {
+        let (before, after, record) = in_mode(mode, call);
+        assert_eq!((record.as_ref(), after), (Ok(&usual), before));
+    }
+}

@@ -48,7 +48,7 @@ static float of_bits(uint32_t bits) {
     return x;
 }
 
-enum { W = 5, H = 3, CW = 3, STRIDE = 3 * W };
+enum { W = 5, H = 3, CW = 3, STRIDE = 3 * W, RECORD = 8 + W * H + 2 * CW * 2 };
 
 static uint8_t source[STRIDE * H];
 
@@ -58,6 +58,8 @@ typedef struct outcome {
     uint32_t number, done;
     uint32_t counts[256];
     uint8_t y[W * H], u[CW * H], v[CW * H], carried[3 * W];
+    uint8_t record[RECORD], file[16 + RECORD];
+    segvartin_shift_record read;
 } outcome;
 
 typedef void call(const segvartin_description *d, outcome *o);
@@ -182,6 +184,17 @@ static void bands_in_window(const segvartin_description *d, outcome *o) {
 /* How many colours share a luma, by the range and the matrix of the description alone. */
 static void colours(const segvartin_description *d, outcome *o) {
     o->number = segvartin_luma_counts(d->range, d->matrix, d->kr, d->kb, o->counts);
+}
+
+/* A record of planes, a file of it, and what is read there: the last answer of the three, or the first that is a refusal. */
+static void shift_file(const segvartin_description *d, outcome *o) {
+    segvartin_bytes y = {source, (size_t)d->y_stride * d->height}, u = {source + y.len, d->u_stride * (size_t)((d->height + 1) / 2)};
+    segvartin_bytes v = {u.at + u.len, u.len};
+    segvartin_bytes_mut record = {o->record, sizeof o->record}, file = {o->file, sizeof o->file};
+    size_t size, count, read;
+    told(o, segvartin_write_shift_record(1400, d, y, u, v, record, &size));
+    if (o->number == SEGVARTIN_FINISHED) told(o, segvartin_write_shift_file(segvartin_read_only(record), file, &size));
+    if (o->number == SEGVARTIN_FINISHED) told(o, segvartin_read_shift_file(segvartin_read_only(file), 0, &o->read, 1, &count, &read));
 }
 
 /* As colours, by the exported function alone. */
@@ -346,6 +359,20 @@ static void counts_of_colours(void) {
     }
 }
 
+/* Shift files are made of whole numbers: no mode is set for them, and none matters. */
+static void shift_files(void) {
+    segvartin_description d = description(W, H, SEGVARTIN_YUV420, SEGVARTIN_LIMITED, SEGVARTIN_FCC);
+    outcome usual;
+    unsigned mxcsr[2];
+    in_mode(0, shift_file, &d, &usual, mxcsr);
+    EXPECT(usual.number == SEGVARTIN_FINISHED && usual.file[0] == 1 && usual.read.crossing == 1400 && usual.read.v_offset == 16 + RECORD - 2 * CW);
+    as_usual(shift_file, &d, &usual);
+    d.width = 0;
+    in_mode(0, shift_file, &d, &usual, mxcsr);
+    EXPECT(usual.number == SEGVARTIN_MALFORMED_SHIFT_FILE && usual.record[0] == 0);
+    as_usual(shift_file, &d, &usual);
+}
+
 /* A negative kr that counts as 0 where denormals do. */
 static void another_answer(void) {
     segvartin_description d = description(W, H, SEGVARTIN_YUV420, SEGVARTIN_FULL, SEGVARTIN_CUSTOM);
@@ -386,7 +413,7 @@ static void another_end(void) {
     segvartin_description d = description(W, H, SEGVARTIN_YUV420, SEGVARTIN_FULL, SEGVARTIN_FCC);
     EXPECT(!ends(frame, &d) && !ends(bands, &d) && !ends(frame_with, &d) && !ends(bands_with, &d) && ends(bare, &d));
     EXPECT(!ends(frame_in_window, &d) && !ends(bands_in_window, &d));
-    EXPECT(!ends(colours, &d) && ends(bare_colours, &d));
+    EXPECT(!ends(colours, &d) && ends(bare_colours, &d) && !ends(shift_file, &d));
     d.matrix = SEGVARTIN_BT709;
     EXPECT(!ends(bare, &d) && !ends(bare_colours, &d));
 }
@@ -403,6 +430,7 @@ int main(void) {
     matrices();
     another_rounding();
     counts_of_colours();
+    shift_files();
     another_answer();
     another_end();
     return finish("modes");

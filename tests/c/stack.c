@@ -1,6 +1,6 @@
 /*
- * The stack that a call takes, for every setting, without options and with: nearest tables, and a window onto a larger source; and that of a count of
- * colours, for every range and matrix. Each call runs on a thread whose stack is filled with one byte first; from where the call is made down to the
+ * The stack that a call takes, for every setting, without options and with: nearest tables, and a window onto a larger source; that of a count of
+ * colours, for every range and matrix; and that of the calls on shift files. Each call runs on a thread whose stack is filled with one byte first; from where the call is made down to the
  * lowest byte that changed is what it took. Bytes that a call reserves and never writes are not seen.
  */
 #include <pthread.h>
@@ -76,6 +76,28 @@ static void *colours(void *unused) {
     return number == SEGVARTIN_FINISHED ? unused : &description;
 }
 
+/* A record of planes, a file of SEVERAL of them, and what is read of it. */
+static void *shift_files(void *unused) {
+    enum { SEVERAL = 3, RECORD = 8 + W * H + 2 * CW * ((H + 1) / 2) };
+    static uint8_t record_bytes[SEVERAL * RECORD], file_bytes[4 + SEVERAL * (12 + RECORD)];
+    static segvartin_shift_record records[SEVERAL];
+    static size_t size, count, read;
+    segvartin_bytes_mut file = {file_bytes, sizeof file_bytes};
+    segvartin_bytes from = {record_bytes, sizeof record_bytes}, y_plane = {y_bytes, sizeof y_bytes}, u_plane = {u_bytes, CW * ((H + 1) / 2)};
+    segvartin_bytes v_plane = {v_bytes, u_plane.len};
+    segvartin_answer a;
+    uint32_t k;
+    called_from = __builtin_frame_address(0);
+    for (k = 0; k < SEVERAL; k++) {
+        segvartin_bytes_mut record = {record_bytes + k * RECORD, RECORD};
+        a = segvartin_write_shift_record(k, &description, y_plane, u_plane, v_plane, record, &size);
+        if (a.number != SEGVARTIN_FINISHED) return &description;
+    }
+    a = segvartin_write_shift_file(from, file, &size);
+    if (a.number == SEGVARTIN_FINISHED) a = segvartin_read_shift_file(segvartin_read_only(file), 0, records, SEVERAL, &count, &read);
+    return a.number == SEGVARTIN_FINISHED && read == SEVERAL ? unused : &description;
+}
+
 static size_t taken(void *(*call)(void *)) {
     pthread_attr_t attributes;
     pthread_t thread;
@@ -97,7 +119,7 @@ static size_t taken(void *(*call)(void *)) {
 }
 
 int main(void) {
-    size_t most[3] = {0, 0, 0};
+    size_t most[4] = {0, 0, 0, 0};
     uint32_t code;
     description.width = W, description.height = H, description.kr = 0.25f, description.kb = 0.125f;
     description.y_stride = W, description.u_stride = description.v_stride = CW;
@@ -121,6 +143,7 @@ int main(void) {
         c = taken(colours);
         if (c > most[2]) most[2] = c;
     }
-    printf("stack, at most: a frame call %zu bytes, a band call %zu, a count of colours %zu\n", most[0], most[1], most[2]);
-    return most[0] < PROMISED && most[1] < PROMISED && most[2] < PROMISED ? 0 : 1;
+    most[3] = taken(shift_files);
+    printf("stack, at most: a frame call %zu bytes, a band call %zu, a count of colours %zu, shift files %zu\n", most[0], most[1], most[2], most[3]);
+    return most[0] < PROMISED && most[1] < PROMISED && most[2] < PROMISED && most[3] < PROMISED ? 0 : 1;
 }

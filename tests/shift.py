@@ -1,0 +1,137 @@
+#!/usr/bin/env python3
+"""Shift files by a writer in Python, against the library: what it lists of them, and what it writes of the same records.
+
+    tests/shift.py SHIFT OUT [WORDS..]     SHIFT is examples/c/shift.c, built; OUT a folder for the files; it is run under WORDS
+
+The writer below was made from the request's own words for the layout, and shares nothing with the rest of this repository.
+"""
+import random
+import struct
+import subprocess
+import sys
+from pathlib import Path
+
+SHIFT, OUT, WORDS = Path(sys.argv[1]).resolve(), Path(sys.argv[2]), sys.argv[3:]
+
+
+# ---- the writer
+
+def half(n):
+    return n // 2 + n % 2
+
+
+def record(crossing, w, h, planes):
+    return struct.pack('<IHH', crossing, w, h) + planes
+
+
+def record_size(w, h):
+    return 4 + 2 + 2 + w * h + half(w) * half(h) + half(w) * half(h)
+
+
+def pairs(sizes):
+    text, offset = struct.pack('<I', len(sizes)), 4 + (8 + 4) * len(sizes)
+    for size in sizes:
+        text += struct.pack('<QI', offset, size)
+        offset += size
+    return text
+
+
+def shift_file(records):
+    return pairs([len(one) for one in records]) + b''.join(records)
+
+
+def listing(sizes):
+    """What is listed of records with these crossings, widths and heights."""
+    text, offset = '', 4 + 12 * len(sizes)
+    for k, (crossing, w, h) in enumerate(sizes):
+        y = offset + 8
+        u = y + w * h
+        v = u + half(w) * half(h)
+        end = v + half(w) * half(h)
+        text += f'{k}: crossing {crossing}, {w} x {h}, at {offset}, Y {y}, U {u}, V {v}, {end - offset} bytes\n'
+        offset = end
+    return text
+
+
+# ---- the comparison
+
+runs = 0
+
+
+def said(*words):
+    global runs
+    runs += 1
+    done = subprocess.run([*WORDS, SHIFT, *words], stdout=subprocess.PIPE, text=True)
+    if done.returncode not in (0, 1):
+        sys.exit(f'tests/shift.py: {words} ended with {done.returncode}')
+    return done.stdout
+
+
+def expect(holds, what):
+    if not holds:
+        sys.exit(f'tests/shift.py: {what}')
+
+
+def lists(name, data, text):
+    path = OUT / 'python.shift'
+    path.write_bytes(data)
+    expect(said('list', path) == text, f'{name}: listed otherwise')
+
+
+def packs(name, records, data):
+    """Data None: refused, and no file is made."""
+    path, made = OUT / 'python.records', OUT / 'packed.shift'
+    path.write_bytes(records)
+    made.unlink(missing_ok=True)
+    text = said('pack', path, made)
+    if data is None:
+        expect(text == 'refused 15\n' and not made.exists(), f'{name}: not refused')
+    else:
+        expect(text == '' and made.read_bytes() == data, f'{name}: packed otherwise')
+
+
+def some(numbers, count, side):
+    sizes = [(numbers.randrange(1 << 32), numbers.randint(1, side), numbers.randint(1, side)) for _ in range(count)]
+    return sizes, [record(crossing, w, h, numbers.randbytes(record_size(w, h) - 8)) for crossing, w, h in sizes]
+
+
+def main():
+    OUT.mkdir(parents=True, exist_ok=True)
+    numbers = random.Random(20)
+    for count, side in ((0, 1), (1, 1), (1, 500), (2, 3), (3, 40), (17, 9), (64, 2), (65, 2), (1000, 3), (4096, 1)):
+        sizes, records = some(numbers, count, side)
+        data = shift_file(records)
+        lists(f'{count} records', data, listing(sizes))
+        packs(f'{count} records', b''.join(records), data)
+    sizes, records = some(numbers, 4097, 1)
+    lists('4097 records', shift_file(records), 'refused 15\n')
+    packs('4097 records', b''.join(records), None)
+    sizes, records = some(numbers, 3, 5)
+    data = shift_file(records)
+    for name, broken in (('a byte less', data[:-1]), ('a byte more', data + b'\0'), ('nothing', b''), ('no pairs', data[:4]),
+                         ('count less', struct.pack('<I', 2) + data[4:]), ('high byte first', struct.pack('>I', 3) + data[4:]),
+                         ('lengths exchanged', pairs([len(one) for one in reversed(records)]) + b''.join(records))):
+        lists(name, broken, 'refused 15\n')
+    for name, broken in (('a byte less', data[40:-1]), ('a byte more', data[40:] + b'\1'), ('a width of 0', record(1, 0, 1, b'')),
+                         ('a height of 16385', record(1, 1, 16385, bytes(record_size(1, 16385) - 8)))):
+        packs(name, broken, None)
+    # 11 records of the largest size and a small one, in a sparse file: the last starts past 2 ^ 32
+    sizes = [(k, 16384, 16384) for k in range(11)] + [(11, 3, 5)]
+    lengths = [record_size(w, h) for _, w, h in sizes]
+    path, start = OUT / 'sparse.shift', pairs(lengths)
+    with open(path, 'wb') as file:
+        file.write(start)
+        for (crossing, w, h), at in zip(sizes, (len(start) + sum(lengths[:k]) for k in range(12))):
+            file.seek(at)
+            file.write(record(crossing, w, h, b''))
+        file.truncate(len(start) + sum(lengths))
+    expect(len(start) + sum(lengths[:11]) > 1 << 32 and said('list', path) == listing(sizes), 'a file past 4 GiB: listed otherwise')
+    with open(path, 'r+b') as file:
+        file.seek(4 + 12 * 11)
+        file.write(struct.pack('<Q', (len(start) + sum(lengths[:11])) % (1 << 32)))
+    expect(said('list', path) == 'refused 15\n', 'an offset of 32 bits: not refused')
+    path.unlink()
+    print(f'shift.py: {runs} files listed or packed')
+
+
+main()
