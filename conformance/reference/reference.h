@@ -1,5 +1,5 @@
 /*
- * Conversion of 8-bit RGB frames to Y, U and V planes, as docs/RULES.md states it.
+ * Conversion of 8-bit RGB frames to Y, U and V planes, and the shift file that holds such planes, as docs/RULES.md states them.
  *
  * Whole numbers only: kr and kb are handed over by their bits, and no floating-point type is used. Nothing is allocated and
  * nothing is kept between calls: the caller owns the tables, the buffers and the state of a frame that comes in bands.
@@ -58,20 +58,22 @@ enum {
 /* RULES 7.1: numbers of an answer, in the order in which they are asked. */
 enum {
     REFERENCE_ACCEPTED = 0,
-    REFERENCE_BAD_CODE = 1,      /* RULES 9.2, 9.4, 10.2, 10.4 */
-    REFERENCE_EMPTY = 2,         /* RULES 7.3 */
-    REFERENCE_TOO_LARGE = 3,     /* RULES 7.3 */
-    REFERENCE_BAD_MATRIX = 4,    /* RULES 7.4 */
-    REFERENCE_BAD_WINDOW = 14,   /* RULES 7.9 */
-    REFERENCE_BAD_ROWS = 5,      /* RULES 8.3 */
-    REFERENCE_SOURCE_LENGTH = 6, /* RULES 7.5 */
-    REFERENCE_SOURCE_STRIDE = 7, /* RULES 7.5 */
-    REFERENCE_Y_STRIDE = 8,      /* RULES 7.6 */
-    REFERENCE_Y_LENGTH = 9,      /* RULES 7.6 */
-    REFERENCE_BAD_U = 10,        /* RULES 7.6 */
-    REFERENCE_BAD_V = 11,        /* RULES 7.6 */
-    REFERENCE_NOT_WHOLE = 12,    /* RULES 7.7 */
-    REFERENCE_SHORT_CARRIED = 13 /* RULES 8.4 */
+    REFERENCE_BAD_LAYOUT = 15,    /* RULES 11.3, 11.6 */
+    REFERENCE_BAD_CODE = 1,       /* RULES 9.2, 9.4, 10.2, 10.4 */
+    REFERENCE_EMPTY = 2,          /* RULES 7.3 */
+    REFERENCE_TOO_LARGE = 3,      /* RULES 7.3 */
+    REFERENCE_BAD_MATRIX = 4,     /* RULES 7.4 */
+    REFERENCE_BAD_WINDOW = 14,    /* RULES 7.9 */
+    REFERENCE_BAD_ROWS = 5,       /* RULES 8.3 */
+    REFERENCE_SOURCE_LENGTH = 6,  /* RULES 7.5 */
+    REFERENCE_SOURCE_STRIDE = 7,  /* RULES 7.5 */
+    REFERENCE_Y_STRIDE = 8,       /* RULES 7.6 */
+    REFERENCE_Y_LENGTH = 9,       /* RULES 7.6 */
+    REFERENCE_BAD_U = 10,         /* RULES 7.6 */
+    REFERENCE_BAD_V = 11,         /* RULES 7.6 */
+    REFERENCE_NOT_WHOLE = 12,     /* RULES 7.7 */
+    REFERENCE_SHORT_CARRIED = 13, /* RULES 8.4 */
+    REFERENCE_SHORT_OUTPUT = 16   /* RULES 11.5, 11.6 */
 };
 
 /* RULES 7.3: largest width and height, of a frame and of its source. */
@@ -80,6 +82,13 @@ enum {
 /* RULES 5.3: all colours of three bytes, and all luma. */
 #define REFERENCE_COLOURS 16777216u
 #define REFERENCE_LUMAS 256u
+
+/* RULES 11.1: most records of a shift file. RULES 11.4: numbers of an entry. */
+#define REFERENCE_MOST_RECORDS 4096u
+#define REFERENCE_ENTRY_NUMBERS 11u
+
+/* RULES 2.1: Y, U and V. */
+#define REFERENCE_PLANES 3u
 
 /* RULES 3.4, 3.5: both tables of each rounding and transfer, by their codes. */
 struct reference_tables {
@@ -126,6 +135,19 @@ struct reference_planes {
     struct reference_buffer y;
     struct reference_buffer u;
     struct reference_buffer v;
+};
+
+/* RULES 11.3: bytes that are only read: those of a shift file, or records. */
+struct reference_bytes {
+    const uint8_t *bytes;
+    uint64_t length;
+};
+
+/* RULES 11.6: a plane that is only read. */
+struct reference_plane {
+    const uint8_t *bytes;
+    uint64_t length;
+    uint32_t stride;
 };
 
 /* RULES 8.1: what goes from one band call to the next. */
@@ -182,5 +204,25 @@ struct reference_answer reference_open(const struct reference_description *frame
 struct reference_answer reference_band(const struct reference_tables *tables, struct reference_state *state, uint32_t rows,
                                        const struct reference_source *source, const struct reference_planes *planes,
                                        const struct reference_buffer *carried);
+
+/* RULES 11.3: whether bytes are a shift file, and whether they are records back to back; where they are, also how many records. */
+int reference_is_file(const struct reference_bytes *file, uint64_t *records);
+int reference_are_records(const struct reference_bytes *bytes, uint64_t *records);
+
+/*
+ * RULES 10.5, 11.4: reads a shift file. An entry is REFERENCE_ENTRY_NUMBERS of the caller's numbers, of which `given` are lent.
+ * It asks 15, and tells how many records there are and how many entries it wrote.
+ */
+struct reference_answer reference_shift_records(const struct reference_bytes *file, uint64_t first, uint64_t *numbers,
+                                                uint64_t given, uint64_t *records, uint64_t *entries);
+
+/* RULES 11.5: writes a shift file. It asks 15, 16, and tells the size of the file. */
+struct reference_answer reference_shift_write(const struct reference_bytes *records, const struct reference_buffer *output,
+                                              uint64_t *size);
+
+/* RULES 11.6: makes a record from REFERENCE_PLANES planes. It asks 15, 8 to 12, 16, and tells the size of the record. */
+struct reference_answer reference_shift_record(uint32_t crossing, uint32_t width, uint32_t height,
+                                               const struct reference_plane *planes, const struct reference_buffer *output,
+                                               uint64_t *size);
 
 #endif

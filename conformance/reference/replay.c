@@ -1,6 +1,6 @@
 /*
- * Replays a stored list of calls: `replay frames` or `replay bands`, the list on standard input, a line for each call on
- * standard output, both as vectors/README.md describes them: LISTS in the comments below.
+ * Replays a stored list of calls: `replay frames`, `replay bands` or `replay shift`, the list on standard input, a line for each
+ * call on standard output, both as vectors/README.md describes them: LISTS in the comments below.
  */
 #include "digest.h"
 #include "reference.h"
@@ -11,6 +11,9 @@
 
 /* LISTS: the planes and the carried row of a sequence. */
 enum { KEPT_BYTES = 256 };
+
+/* LISTS: the most numbers that are lent to a reading, and what each is before the call. */
+enum { MOST_LENT = 44, LENT = 9 };
 
 static struct reference_tables tables;
 
@@ -25,7 +28,7 @@ static void fail(const char *why)
 /* A block of bytes that is always a valid address, also for length 0. */
 static uint8_t *allocate(uint32_t length)
 {
-    uint8_t *bytes = malloc((size_t)length + 1);
+    uint8_t *bytes = malloc(length > 0 ? length : 1);
 
     if (bytes == NULL) {
         fail("no memory");
@@ -221,26 +224,143 @@ static void replay_sequence(uint32_t line)
     }
 }
 
+/* LISTS: a reading of a shift file and its line (RULES 11.4). */
+static void replay_reading(void)
+{
+    uint32_t length = read_number();
+    uint64_t first = read_number();
+    uint64_t numbers[MOST_LENT];
+    struct reference_buffer buffer;
+    struct reference_bytes file;
+    struct reference_answer answer;
+    uint64_t records;
+    uint64_t entries;
+    uint32_t given;
+    uint32_t place;
+
+    first |= (uint64_t)read_number() << 32;
+    given = read_number();
+    if (given > MOST_LENT) {
+        fail("a call is lent more numbers than there are");
+    }
+    for (place = 0; place < MOST_LENT; place++) {
+        numbers[place] = LENT;
+    }
+    buffer = read_buffer(length);
+    file.bytes = buffer.bytes;
+    file.length = buffer.length;
+    answer = reference_shift_records(&file, first, numbers, given, &records, &entries);
+    print_answer(&answer);
+    printf(" count=%llu told=%llu entries", (unsigned long long)records, (unsigned long long)entries);
+    for (place = 0; place < given; place++) {
+        printf(" %llu", (unsigned long long)numbers[place]);
+    }
+    free(buffer.bytes);
+}
+
+/* LISTS: the size that a call tells, and the digest of the whole output. */
+static void print_output(uint64_t size, const struct reference_buffer *output)
+{
+    printf(" size=%llu", (unsigned long long)size);
+    print_digest("output", output->bytes, output->length);
+}
+
+/* LISTS: a writing of a shift file and its line (RULES 11.5). */
+static void replay_writing(void)
+{
+    uint32_t length = read_number();
+    uint32_t output_length = read_number();
+    struct reference_buffer buffer = read_buffer(length);
+    struct reference_buffer output = read_buffer(output_length);
+    struct reference_bytes records;
+    struct reference_answer answer;
+    uint64_t size;
+
+    records.bytes = buffer.bytes;
+    records.length = buffer.length;
+    answer = reference_shift_write(&records, &output, &size);
+    print_answer(&answer);
+    print_output(size, &output);
+    free(buffer.bytes);
+    free(output.bytes);
+}
+
+/* LISTS: a record from planes and its line (RULES 11.6). */
+static void replay_record(void)
+{
+    uint32_t lengths[4];
+    uint32_t crossing;
+    uint32_t width;
+    uint32_t height;
+    struct reference_plane planes[REFERENCE_PLANES];
+    struct reference_buffer buffers[REFERENCE_PLANES];
+    struct reference_buffer output;
+    struct reference_answer answer;
+    uint64_t size;
+    unsigned plane;
+
+    for (plane = 0; plane < 4; plane++) {
+        lengths[plane] = read_number();
+    }
+    crossing = read_number();
+    width = read_number();
+    height = read_number();
+    for (plane = 0; plane < REFERENCE_PLANES; plane++) {
+        planes[plane].stride = read_number();
+    }
+    for (plane = 0; plane < REFERENCE_PLANES; plane++) {
+        buffers[plane] = read_buffer(lengths[plane]);
+        planes[plane].bytes = buffers[plane].bytes;
+        planes[plane].length = buffers[plane].length;
+    }
+    output = read_buffer(lengths[REFERENCE_PLANES]);
+    answer = reference_shift_record(crossing, width, height, planes, &output, &size);
+    print_answer(&answer);
+    print_output(size, &output);
+    for (plane = 0; plane < REFERENCE_PLANES; plane++) {
+        free(buffers[plane].bytes);
+    }
+    free(output.bytes);
+}
+
+/* LISTS: a call on a shift file; its first number says which. */
+static void replay_shift(uint32_t line)
+{
+    uint32_t call = read_number();
+
+    printf("%lu", (unsigned long)line);
+    if (call == 0) {
+        replay_reading();
+    } else if (call == 1) {
+        replay_writing();
+    } else if (call == 2) {
+        replay_record();
+    } else {
+        fail("a call on a shift file that is none of the three");
+    }
+    printf("\n");
+}
+
 /* LISTS: how many calls or sequences there are, and these; lines count from 1. */
 int main(int count, char **arguments)
 {
-    int bands;
+    static const char *const names[3] = {"frames", "bands", "shift"};
+    static void (*const replays[3])(uint32_t) = {replay_frame, replay_sequence, replay_shift};
+    unsigned list = 0;
     uint32_t calls;
     uint32_t line;
 
-    if (count != 2 || (strcmp(arguments[1], "frames") != 0 && strcmp(arguments[1], "bands") != 0)) {
-        fputs("usage: replay frames|bands < list\n", stderr);
+    while (list < 3 && (count != 2 || strcmp(arguments[1], names[list]) != 0)) {
+        list++;
+    }
+    if (list == 3) {
+        fputs("usage: replay frames|bands|shift < list\n", stderr);
         return EXIT_FAILURE;
     }
-    bands = strcmp(arguments[1], "bands") == 0;
     reference_make_tables(&tables);
     calls = read_number();
     for (line = 1; line <= calls; line++) {
-        if (bands) {
-            replay_sequence(line);
-        } else {
-            replay_frame(line);
-        }
+        replays[list](line);
     }
     if (fgetc(stdin) != EOF) {
         fail("bytes follow the list");

@@ -1576,7 +1576,7 @@ static void test_every_window(void)
     }
 }
 
-/* RULES 6.5: numbers below a bound of at most 2^24, without order but the same in each run. */
+/* RULES 6.5, 11: numbers below a bound of at most 2^24, without order but the same in each run. */
 static uint32_t below(uint32_t bound)
 {
     static uint32_t state = 1;
@@ -1850,6 +1850,611 @@ static void test_worked_greys(void)
     expect_bytes("6.5 V", no_tint, plane_bytes[2], 1);
 }
 
+/* RULES 11.1, 11.2: the two records of the examples, and the file of them. */
+enum { RECORDS_BYTES = 29, FILE_BYTES = 57, FIRST_BYTES = 18, SECOND_BYTES = 11 };
+
+static const uint8_t worked_file[FILE_BYTES] = {
+    0x02, 0x00, 0x00, 0x00,
+    0x1C, 0x00, 0x00, 0x00, 0x00, 0x00, 0x00, 0x00, 0x12, 0x00, 0x00, 0x00,
+    0x2E, 0x00, 0x00, 0x00, 0x00, 0x00, 0x00, 0x00, 0x0B, 0x00, 0x00, 0x00,
+    0x78, 0x05, 0x00, 0x00, 0x03, 0x00, 0x02, 0x00, 0x10, 0x11, 0x12, 0x20, 0x21, 0x22, 0x30, 0x31, 0x40, 0x41,
+    0x70, 0x11, 0x01, 0x00, 0x01, 0x00, 0x01, 0x00, 0x50, 0x60, 0x70,
+};
+static const uint8_t *const worked_records = worked_file + (FILE_BYTES - RECORDS_BYTES);
+static const uint8_t *const second_record = worked_file + (FILE_BYTES - SECOND_BYTES);
+
+/* Bytes of this length on their own, so that a sanitizer finds an access past them. */
+static uint8_t *own_bytes(size_t length)
+{
+    uint8_t *bytes = malloc(length > 0 ? length : 1);
+
+    if (bytes == NULL) {
+        fputs("test: no memory\n", stderr);
+        exit(EXIT_FAILURE);
+    }
+    return bytes;
+}
+
+/* RULES 10.5: the most numbers lent to a reading here, and what each is before it. */
+enum { MOST_LENT = 44, LENT = 9 };
+
+static uint64_t lent[MOST_LENT];
+
+/* RULES 10.5, 11.4: a reading of a copy of these bytes. */
+static struct reference_answer call_reading(const uint8_t *bytes, size_t length, uint64_t first, uint64_t given, uint64_t *records,
+                                            uint64_t *entries)
+{
+    uint8_t *own = own_bytes(length);
+    struct reference_bytes file;
+    struct reference_answer result;
+    size_t place;
+
+    for (place = 0; place < MOST_LENT; place++) {
+        lent[place] = LENT;
+    }
+    memcpy(own, bytes, length);
+    file.bytes = own;
+    file.length = length;
+    result = reference_shift_records(&file, first, lent, given, records, entries);
+    free(own);
+    return result;
+}
+
+/* RULES 11.3: whether 15 holds of these bytes as a file; then nothing is told and no entry is written (RULES 11.4). */
+static void expect_file(const char *rule, long place, const uint8_t *bytes, size_t length, int is_file, uint64_t count)
+{
+    uint64_t records;
+    uint64_t entries;
+    size_t number;
+
+    expect_answer(rule, place, is_file ? 0 : 15, 0, 0, call_reading(bytes, length, 0, MOST_LENT, &records, &entries));
+    expect(rule, place, is_file ? (long long)count : 0, (long long)records);
+    for (number = 0; !is_file && number < MOST_LENT; number++) {
+        expect(rule, place, LENT, (long long)lent[number]);
+    }
+    if (!is_file) {
+        expect(rule, place, 0, (long long)entries);
+    }
+}
+
+/* RULES 11.3: whether 15 holds of these bytes as records. */
+static void expect_records(long place, const uint8_t *bytes, size_t length, int are_records, uint64_t count)
+{
+    uint8_t *own = own_bytes(length);
+    struct reference_bytes records;
+    uint64_t found = 0;
+
+    memcpy(own, bytes, length);
+    records.bytes = own;
+    records.length = length;
+    expect("11.3", place, are_records, reference_are_records(&records, &found));
+    expect("11.3", place, (long long)count, (long long)found);
+    free(own);
+}
+
+/* RULES 11.1 to 11.3, 11.7: lengths, and which bytes are a file. */
+static void test_layout(void)
+{
+    static const struct {
+        unsigned at;
+        unsigned bytes;
+        uint64_t number;
+        int is_file;
+    } changes[] = {
+        {0, 4, 2, 1},
+        {0, 4, 1, 0},
+        {0, 4, 3, 0},
+        {0, 4, 4097, 0},
+        {0, 4, 4294967295u, 0},
+        {4, 8, 27, 0},
+        {4, 8, UINT64_C(4294967324), 0},
+        {16, 8, 45, 0},
+        {16, 8, UINT64_MAX, 0},
+        {12, 4, 17, 0},
+        {32, 2, 0, 0},
+        {32, 2, 16385, 0},
+        {32, 2, 4, 0},
+        {32, 4, 0x00030002, 1}, /* w 2, h 3 */
+        {46, 4, 1400, 1},
+        {56, 1, 0xFF, 1},
+    };
+    static const struct {
+        uint32_t side[2];
+        long long length;
+    } sizes[] = {
+        {{3, 2}, 18}, {{1, 1}, 11}, {{2, 2}, 14}, {{3, 3}, 25}, {{1920, 1080}, 3110408}, {{16384, 16384}, 402653192},
+    };
+    static const uint8_t zeros[5] = {0};
+    static uint8_t bytes[4097 * SECOND_BYTES];
+    size_t place;
+
+    for (place = 0; place < sizeof sizes / sizeof sizes[0]; place++) {
+        expect("11.2", (long)place, sizes[place].length, (long long)extent(sizes[place].side[0], sizes[place].side[1]).length);
+    }
+    expect("11.1", 0, 1649267523588, (long long)(table_bytes(4096) + 4096 * extent(16384, 16384).length));
+    expect("11.4", 0, 1648864870396, (long long)(table_bytes(4096) + 4095 * extent(16384, 16384).length));
+    for (place = 0; place < sizeof changes / sizeof changes[0]; place++) {
+        memcpy(bytes, worked_file, FILE_BYTES);
+        put_number(bytes + changes[place].at, changes[place].number, changes[place].bytes);
+        expect_file("11.3", (long)place, bytes, FILE_BYTES, changes[place].is_file, 2);
+    }
+    memcpy(bytes, worked_file, FILE_BYTES);
+    memcpy(bytes + 4, worked_file + 16, 12);
+    memcpy(bytes + 16, worked_file + 4, 12);
+    expect_file("11.3 pairs", 0, bytes, FILE_BYTES, 0, 0);
+    memcpy(bytes, worked_file, FILE_BYTES);
+    bytes[FILE_BYTES] = 0;
+    expect_file("11.3 behind", 0, bytes, FILE_BYTES + 1, 0, 0);
+    for (place = 0; place <= sizeof zeros; place++) {
+        expect_file("11.3 zeros", (long)place, zeros, place, place == 4, 0);
+    }
+    memset(bytes, 0xFF, 4);
+    memset(bytes + 4, 0, 4);
+    expect_file("11.7", 4, bytes, 4, 0, 0);
+    expect_file("11.7", 8, bytes, 8, 0, 0);
+    memcpy(bytes + 4, worked_file, FILE_BYTES);
+    expect_file("11.7", 61, bytes, 4 + FILE_BYTES, 0, 0);
+
+    expect_records(0, worked_records, 0, 1, 0);
+    expect_records(1, worked_records, RECORDS_BYTES, 1, 2);
+    expect_records(2, worked_records, RECORDS_BYTES - 1, 0, 0);
+    memcpy(bytes, worked_records, RECORDS_BYTES);
+    memcpy(bytes + RECORDS_BYTES, second_record, 7);
+    expect_records(3, bytes, RECORDS_BYTES + 7, 0, 0);
+    expect_records(4, worked_file, FILE_BYTES, 0, 0);
+    for (place = 0; place < 4097; place++) {
+        memcpy(bytes + place * SECOND_BYTES, second_record, SECOND_BYTES);
+    }
+    expect_records(5, bytes, 4096 * SECOND_BYTES, 1, 4096);
+    expect_records(6, bytes, 4097 * SECOND_BYTES, 0, 0);
+}
+
+/* RULES 10.5, 11.4: readings of the file of the examples. */
+static void test_reading(void)
+{
+    static const uint64_t wanted_entries[2 * REFERENCE_ENTRY_NUMBERS] = {
+        1400, 3, 2, 28, 18, 36, 6, 42, 2, 44, 2, 70000, 1, 1, 46, 11, 54, 1, 55, 1, 56, 1,
+    };
+    static const struct {
+        size_t length;
+        uint64_t first;
+        uint64_t given;
+        uint32_t number;
+        uint64_t records;
+        uint64_t entries;
+    } wanted[] = {
+        {FILE_BYTES, 0, 22, 0, 2, 2},
+        {FILE_BYTES, 0, 21, 0, 2, 1},
+        {FILE_BYTES, 1, 40, 0, 2, 1},
+        {FILE_BYTES, 2, 22, 0, 2, 0},
+        {FILE_BYTES, UINT64_MAX, 22, 0, 2, 0},
+        {FILE_BYTES - 1, 0, 22, 15, 0, 0},
+        {FILE_BYTES, 0, 11, 0, 2, 1},
+        {FILE_BYTES, 1, 11, 0, 2, 1},
+        {FILE_BYTES, 0, 10, 0, 2, 0},
+        {FILE_BYTES, 0, 0, 0, 2, 0},
+        {FILE_BYTES, 0, MOST_LENT, 0, 2, 2},
+        {FILE_BYTES, UINT64_C(4294967296), MOST_LENT, 0, 2, 0},
+        {FILE_BYTES - 1, UINT64_MAX, MOST_LENT, 15, 0, 0},
+    };
+    size_t place;
+    size_t number;
+
+    for (place = 0; place < sizeof wanted / sizeof wanted[0]; place++) {
+        size_t written = (size_t)wanted[place].entries * REFERENCE_ENTRY_NUMBERS;
+        uint64_t records = 77;
+        uint64_t entries = 77;
+
+        expect_answer("11.4", (long)place, wanted[place].number, 0, 0,
+                      call_reading(worked_file, wanted[place].length, wanted[place].first, wanted[place].given, &records,
+                                   &entries));
+        expect("11.4 records", (long)place, (long long)wanted[place].records, (long long)records);
+        expect("11.4 entries", (long)place, (long long)wanted[place].entries, (long long)entries);
+        for (number = 0; number < MOST_LENT; number++) {
+            uint64_t entry = number < written ? wanted_entries[number + (size_t)wanted[place].first * REFERENCE_ENTRY_NUMBERS]
+                                              : LENT;
+
+            expect("11.4 number", (long)place, (long long)entry, (long long)lent[number]);
+        }
+    }
+}
+
+/* RULES 11.1, 11.4: a file of this many records, all of them the second of the examples, and an entry of its last one. */
+static void test_many(uint64_t count)
+{
+    static uint8_t bytes[4 + 4097 * (12 + SECOND_BYTES)];
+    uint64_t offset = 4 + 12 * count;
+    uint64_t records;
+    uint64_t entries;
+    uint64_t record;
+
+    put_number(bytes, count, 4);
+    for (record = 0; record < count; record++) {
+        put_number(bytes + 4 + 12 * record, offset, 8);
+        put_number(bytes + 12 + 12 * record, SECOND_BYTES, 4);
+        memcpy(bytes + offset, second_record, SECOND_BYTES);
+        offset += SECOND_BYTES;
+    }
+    expect_file("11.1", (long)count, bytes, (size_t)offset, count <= 4096, count);
+    if (count <= 4096) {
+        expect_answer("11.4", (long)count, 0, 0, 0,
+                      call_reading(bytes, (size_t)offset, count - 1, MOST_LENT, &records, &entries));
+        expect("11.4 entries", (long)count, 1, (long long)entries);
+        expect("11.4 offset", (long)count, (long long)(offset - SECOND_BYTES), (long long)lent[3]);
+        expect("11.4 V", (long)count, (long long)(offset - 1), (long long)lent[9]);
+    }
+}
+
+/* RULES 11.5: a writing; all bytes of the output EE before it. The output stays for the caller to free. */
+static struct reference_answer call_writing(const uint8_t *bytes, size_t length, struct reference_buffer *output,
+                                            size_t output_length, uint64_t *size)
+{
+    uint8_t *own = own_bytes(length);
+    struct reference_bytes records;
+    struct reference_answer result;
+
+    memcpy(own, bytes, length);
+    records.bytes = own;
+    records.length = length;
+    output->bytes = own_bytes(output_length);
+    output->length = output_length;
+    memset(output->bytes, 0xEE, output_length);
+    result = reference_shift_write(&records, output, size);
+    free(own);
+    return result;
+}
+
+/*
+ * RULES 11.3, 11.5: the file of the examples cut at each byte, and with each of its bits changed. Crossing numbers and bytes of
+ * planes are free; no other bit is, and no bit of w or h leaves its record as long. Bytes are a file exactly where they are
+ * written of what follows the pairs.
+ */
+static void test_every_bit(void)
+{
+    uint8_t bytes[FILE_BYTES];
+    size_t place;
+    unsigned bit;
+
+    for (place = 0; place < FILE_BYTES; place++) {
+        expect_file("11.3 cut", (long)place, worked_file, place, 0, 0);
+    }
+    for (place = 0; place < FILE_BYTES; place++) {
+        int is_free = (place >= 28 && place < 32) || (place >= 36 && place < 50) || place >= 54;
+
+        for (bit = 0; bit < 8; bit++) {
+            struct reference_buffer output;
+            struct reference_answer written;
+            uint64_t size;
+
+            memcpy(bytes, worked_file, FILE_BYTES);
+            bytes[place] = (uint8_t)(bytes[place] ^ 1u << bit);
+            expect_file("11.3 bit", (long)(8 * place + bit), bytes, FILE_BYTES, is_free, 2);
+            written = call_writing(bytes + (FILE_BYTES - RECORDS_BYTES), RECORDS_BYTES, &output, FILE_BYTES, &size);
+            expect("11.5 bit", (long)(8 * place + bit), is_free,
+                   written.number == 0 && size == FILE_BYTES && memcmp(output.bytes, bytes, FILE_BYTES) == 0);
+            free(output.bytes);
+        }
+    }
+}
+
+/* RULES 10.5, 11.5: writings, accepted and refused. */
+static void test_writing(void)
+{
+    static const uint8_t one[27] = {
+        0x01, 0x00, 0x00, 0x00, 0x10, 0x00, 0x00, 0x00, 0x00, 0x00, 0x00, 0x00, 0x0B, 0x00,
+        0x00, 0x00, 0x70, 0x11, 0x01, 0x00, 0x01, 0x00, 0x01, 0x00, 0x50, 0x60, 0x70,
+    };
+    static const uint8_t none[4] = {0};
+    const struct {
+        const uint8_t *records;
+        size_t length;
+        size_t output_length;
+        uint32_t number;
+        uint64_t size;
+        const uint8_t *file;
+    } wanted[] = {
+        {second_record, SECOND_BYTES, 30, 0, 27, one},
+        {second_record, SECOND_BYTES, 27, 0, 27, one},
+        {second_record, SECOND_BYTES, 26, 16, 27, NULL},
+        {second_record, 0, 5, 0, 4, none},
+        {second_record, 0, 4, 0, 4, none},
+        {second_record, 0, 3, 16, 4, NULL},
+        {second_record, 0, 0, 16, 4, NULL},
+        {second_record, SECOND_BYTES - 1, 0, 15, 0, NULL},
+        {second_record, SECOND_BYTES - 1, 60, 15, 0, NULL},
+        {worked_records, RECORDS_BYTES, 57, 0, 57, worked_file},
+        {worked_records, RECORDS_BYTES, 56, 16, 57, NULL},
+        {worked_records, RECORDS_BYTES, 28, 16, 57, NULL},
+        {worked_file, FILE_BYTES, 200, 15, 0, NULL},
+    };
+    size_t place;
+    size_t byte;
+
+    for (place = 0; place < sizeof wanted / sizeof wanted[0]; place++) {
+        size_t written = wanted[place].number == 0 ? (size_t)wanted[place].size : 0;
+        struct reference_buffer output;
+        uint64_t size = 77;
+
+        expect_answer("11.5", (long)place, wanted[place].number, 0, 0,
+                      call_writing(wanted[place].records, wanted[place].length, &output, wanted[place].output_length, &size));
+        expect("11.5 size", (long)place, (long long)wanted[place].size, (long long)size);
+        for (byte = 0; byte < wanted[place].output_length; byte++) {
+            expect("11.5 output", (long)place, byte < written ? wanted[place].file[byte] : 0xEE, output.bytes[byte]);
+        }
+        free(output.bytes);
+    }
+}
+
+/* RULES 11.6: planes of these lengths and strides, each a buffer of its own. */
+static void make_planes(struct reference_plane *planes, uint8_t **bytes, const uint32_t *strides, const uint64_t *lengths)
+{
+    unsigned plane;
+
+    for (plane = 0; plane < REFERENCE_PLANES; plane++) {
+        bytes[plane] = own_bytes((size_t)lengths[plane]);
+        memset(bytes[plane], 0x99, (size_t)lengths[plane]);
+        planes[plane].bytes = bytes[plane];
+        planes[plane].length = lengths[plane];
+        planes[plane].stride = strides[plane];
+    }
+}
+
+/* RULES 11.6: compares one call, whose planes are filled, with its answer, its size and the output, EE before it. */
+static void expect_record(long place, const uint32_t *size, const struct reference_plane *planes, size_t output_length,
+                          uint32_t number, uint64_t expected, uint64_t received, uint64_t told, const uint8_t *record)
+{
+    struct reference_buffer output;
+    uint64_t got = 77;
+    size_t byte;
+
+    output.bytes = own_bytes(output_length);
+    output.length = output_length;
+    memset(output.bytes, 0xEE, output_length);
+    expect_answer("11.6", place, number, expected, received, reference_shift_record(1400, size[0], size[1], planes, &output, &got));
+    expect("11.6 size", place, (long long)told, (long long)got);
+    for (byte = 0; byte < output_length; byte++) {
+        expect("11.6 output", place, number == 0 && byte < told ? record[byte] : 0xEE, output.bytes[byte]);
+    }
+    free(output.bytes);
+}
+
+/* RULES 10.5, 11.6: records from planes of 3 × 2, and refusals. */
+static void test_record(void)
+{
+    static const uint8_t filled[REFERENCE_PLANES][8] = {
+        {0x10, 0x11, 0x12, 0x99, 0x20, 0x21, 0x22, 0x99}, {0x30, 0x31, 0x99}, {0x40, 0x41},
+    };
+    static const struct {
+        uint32_t size[2];
+        uint32_t strides[3];
+        uint64_t lengths[3];
+        size_t output_length;
+        uint32_t number;
+        uint64_t expected;
+        uint64_t received;
+        uint64_t told;
+    } wanted[] = {
+        {{3, 2}, {4, 3, 2}, {8, 3, 2}, 20, 0, 0, 0, 18},
+        {{3, 2}, {4, 3, 2}, {8, 3, 2}, 18, 0, 0, 0, 18},
+        {{3, 2}, {4, 3, 2}, {8, 3, 2}, 17, 16, 0, 0, 18},
+        {{3, 2}, {2, 3, 2}, {8, 3, 2}, 17, 8, 6, 4, 0},
+        {{3, 2}, {2, 3, 2}, {8, 3, 2}, 0, 8, 6, 4, 0},
+        {{3, 2}, {4, 3, 2}, {6, 3, 2}, 18, 9, 7, 6, 0},
+        {{3, 2}, {4, 1, 2}, {8, 3, 2}, 18, 10, 2, 1, 0},
+        {{3, 2}, {4, 3, 2}, {8, 1, 2}, 18, 10, 2, 1, 0},
+        {{3, 2}, {4, 3, 1}, {8, 3, 2}, 18, 11, 2, 1, 0},
+        {{3, 2}, {4, 3, 2}, {8, 3, 1}, 18, 11, 2, 1, 0},
+        {{3, 2}, {4, 3, 2}, {7, 3, 2}, 18, 12, 8, 7, 0},
+        {{3, 2}, {4, 3, 2}, {8, 2, 3}, 18, 12, 3, 2, 0},
+        {{3, 2}, {4, 3, 2}, {8, 3, 3}, 18, 12, 2, 3, 0},
+        {{0, 0}, {0, 0, 0}, {0, 0, 0}, 0, 15, 0, 0, 0},
+        {{0, 2}, {0, 0, 0}, {0, 0, 0}, 0, 15, 0, 0, 0},
+        {{3, 0}, {4, 3, 2}, {8, 3, 2}, 18, 15, 0, 0, 0},
+        {{16385, 2}, {16385, 8193, 8193}, {32770, 8193, 8193}, 60, 15, 0, 0, 0},
+        {{3, 4294967295u}, {4, 3, 2}, {8, 3, 2}, 60, 15, 0, 0, 0},
+        {{65539, 2}, {4, 3, 2}, {8, 3, 2}, 60, 15, 0, 0, 0},
+        {{3, 16384}, {4294967295u, 3, 2}, {8, 3, 2}, 60, 9, UINT64_C(70364449193988), 8, 0},
+    };
+    size_t place;
+    unsigned plane;
+
+    for (place = 0; place < sizeof wanted / sizeof wanted[0]; place++) {
+        struct reference_plane planes[REFERENCE_PLANES];
+        uint8_t *bytes[REFERENCE_PLANES];
+
+        make_planes(planes, bytes, wanted[place].strides, wanted[place].lengths);
+        for (plane = 0; plane < REFERENCE_PLANES; plane++) {
+            size_t length = (size_t)wanted[place].lengths[plane];
+
+            memcpy(bytes[plane], filled[plane], length < 8 ? length : 8);
+        }
+        expect_record((long)place, wanted[place].size, planes, wanted[place].output_length, wanted[place].number,
+                      wanted[place].expected, wanted[place].received, wanted[place].told, worked_records);
+        for (plane = 0; plane < REFERENCE_PLANES; plane++) {
+            free(bytes[plane]);
+        }
+    }
+}
+
+/* RULES 7.1, 11.6: every combination of its conditions, of which the first in order is answered; 5 × 3, so 3 × 2 of chroma. */
+static void test_record_order(void)
+{
+    enum { CONDITIONS = 7 };
+    static const uint32_t numbers[CONDITIONS] = {15, 8, 9, 10, 11, 12, 16};
+    static const uint64_t expected[CONDITIONS] = {0, 15, 17, 6, 7, 8, 0};
+    static const uint64_t received[CONDITIONS] = {0, 12, 16, 4, 0, 9, 0};
+    unsigned faults;
+    unsigned plane;
+
+    for (faults = 1; faults < 1u << CONDITIONS; faults++) {
+        uint32_t size[2] = {5, 3};
+        uint32_t strides[3] = {6, 4, 4};
+        uint64_t lengths[3] = {18, 8, 8};
+        size_t output_length = (faults & 64u) != 0 ? 34 : 35;
+        struct reference_plane planes[REFERENCE_PLANES];
+        uint8_t *bytes[REFERENCE_PLANES];
+        unsigned first = 0;
+
+        size[0] = (faults & 1u) != 0 ? 0 : 5;
+        strides[0] = (faults & 2u) != 0 ? 4 : 6;
+        lengths[0] = (faults & 4u) != 0 ? 16 : 18;
+        strides[1] = (faults & 8u) != 0 ? 2 : 4;
+        lengths[2] = (faults & 32u) != 0 ? 9 : 8;
+        lengths[2] = (faults & 16u) != 0 ? 0 : lengths[2];
+        while ((faults >> first & 1u) == 0) {
+            first++;
+        }
+        make_planes(planes, bytes, strides, lengths);
+        expect_record((long)faults, size, planes, output_length, numbers[first], expected[first], received[first],
+                      numbers[first] == 16 ? 35 : 0, NULL);
+        for (plane = 0; plane < REFERENCE_PLANES; plane++) {
+            free(bytes[plane]);
+        }
+    }
+}
+
+/*
+ * RULES 11.2 to 11.6: a list of records of any small size. Each is made from planes with padding; the file that is written of
+ * them is read, by entries that fit all at once and one by one; each plane is found where its entry says; what follows the pairs
+ * of the file are the records again.
+ */
+static void test_list(long place)
+{
+    enum { MOST = 4, MOST_BYTES = MOST * (8 + 81 + 50) };
+    static uint8_t list[MOST_BYTES];
+    uint32_t crossings[MOST];
+    uint32_t sides[MOST][2];
+    uint8_t *kept[MOST][REFERENCE_PLANES];
+    struct reference_plane planes[MOST][REFERENCE_PLANES];
+    struct reference_buffer file;
+    uint64_t length = 0;
+    uint64_t size;
+    uint64_t records;
+    uint64_t entries;
+    uint64_t numbers[MOST_LENT];
+    uint32_t count = below(MOST + 1);
+    uint32_t record;
+    unsigned plane;
+    size_t byte;
+
+    for (record = 0; record < count; record++) {
+        uint32_t strides[REFERENCE_PLANES];
+        uint64_t lengths[REFERENCE_PLANES];
+        struct reference_buffer output;
+
+        crossings[record] = below(65536) << 16 | below(65536);
+        sides[record][0] = 1 + below(9);
+        sides[record][1] = 1 + below(9);
+        for (plane = 0; plane < REFERENCE_PLANES; plane++) {
+            uint32_t half = plane == 0 ? 1 : 2;
+
+            strides[plane] = (sides[record][0] + half - 1) / half + below(3);
+            lengths[plane] = strides[plane] * (uint64_t)((sides[record][1] + half - 1) / half);
+        }
+        make_planes(planes[record], kept[record], strides, lengths);
+        for (plane = 0; plane < REFERENCE_PLANES; plane++) {
+            for (byte = 0; byte < lengths[plane]; byte++) {
+                kept[record][plane][byte] = (uint8_t)below(256);
+            }
+        }
+        output.bytes = list + (size_t)length;
+        output.length = MOST_BYTES - length;
+        expect_answer("11.6 list", place, 0, 0, 0,
+                      reference_shift_record(crossings[record], sides[record][0], sides[record][1], planes[record], &output,
+                                             &size));
+        length += size;
+    }
+    expect_answer("11.5 list", place, 0, 0, 0,
+                  call_writing(list, (size_t)length, &file, 4 + 12 * (size_t)count + (size_t)length, &size));
+    expect("11.5 list", place, (long long)file.length, (long long)size);
+    expect_bytes("11.5 list", list, file.bytes + 4 + 12 * count, (size_t)length);
+    expect_answer("11.4 list", place, 0, 0, 0, call_reading(file.bytes, (size_t)size, 0, MOST_LENT, &records, &entries));
+    expect("11.4 list", place, count, (long long)records);
+    expect("11.4 list", place, count, (long long)entries);
+    memcpy(numbers, lent, sizeof numbers);
+    length = 4 + 12 * (uint64_t)count;
+    for (record = 0; record < count; record++) {
+        const uint64_t *entry = numbers + record * REFERENCE_ENTRY_NUMBERS;
+
+        expect("11.4 crossing", place, crossings[record], (long long)entry[0]);
+        expect("11.4 w", place, sides[record][0], (long long)entry[1]);
+        expect("11.4 h", place, sides[record][1], (long long)entry[2]);
+        expect("11.4 offset", place, (long long)length, (long long)entry[3]);
+        expect("11.4 length", place, (long long)(8 + entry[6] + entry[8] + entry[10]), (long long)entry[4]);
+        length += entry[4];
+        for (plane = 0; plane < REFERENCE_PLANES; plane++) {
+            uint32_t half = plane == 0 ? 1 : 2;
+            uint32_t columns = (sides[record][0] + half - 1) / half;
+            uint32_t rows = (sides[record][1] + half - 1) / half;
+
+            expect("11.4 plane", place, (long long)columns * rows, (long long)entry[6 + 2 * plane]);
+            for (byte = 0; byte < columns * (size_t)rows; byte++) {
+                expect("11.6 plane", place, kept[record][plane][byte / columns * planes[record][plane].stride + byte % columns],
+                       file.bytes[(size_t)entry[5 + 2 * plane] + byte]);
+            }
+        }
+        expect_answer("11.4 one", place, 0, 0, 0,
+                      call_reading(file.bytes, (size_t)size, record, REFERENCE_ENTRY_NUMBERS, &records, &entries));
+        expect("11.4 one", place, 1, (long long)entries);
+        for (byte = 0; byte < REFERENCE_ENTRY_NUMBERS; byte++) {
+            expect("11.4 one", place, (long long)entry[byte], (long long)lent[byte]);
+        }
+        for (plane = 0; plane < REFERENCE_PLANES; plane++) {
+            free(kept[record][plane]);
+        }
+    }
+    expect("11.1 end", place, (long long)size, (long long)length);
+    free(file.bytes);
+}
+
+/* RULES 2.4, 11.6: a frame's planes with padding make the record of its planes without. */
+static void test_frame_record(void)
+{
+    static const uint32_t padded[3] = {6, 4, 5};
+    static const uint32_t bare[3] = {5, 3, 3};
+    static const uint64_t padded_lengths[4] = {45, 18, 8, 10};
+    static const uint64_t bare_lengths[4] = {45, 15, 6, 6};
+    struct reference_description frame;
+    struct reference_plane planes[REFERENCE_PLANES];
+    struct reference_buffer output;
+    uint8_t record[35];
+    uint64_t size;
+    size_t byte;
+    unsigned plane;
+
+    for (byte = 0; byte < 45; byte++) {
+        source_bytes[byte] = (uint8_t)below(256);
+    }
+    frame = describe(5, 3, REFERENCE_RGB, REFERENCE_420, REFERENCE_LIMITED, REFERENCE_BT601, REFERENCE_SRGB, padded);
+    expect_answer("11.6 frame", 0, 0, 0, 0, call_frame(&frame, 15, padded_lengths));
+    for (plane = 0; plane < REFERENCE_PLANES; plane++) {
+        planes[plane].bytes = plane_bytes[plane];
+        planes[plane].length = padded_lengths[plane + 1];
+        planes[plane].stride = padded[plane];
+    }
+    output.bytes = record;
+    output.length = sizeof record;
+    expect_answer("11.6 frame", 1, 0, 0, 0, reference_shift_record(4294967295u, 5, 3, planes, &output, &size));
+    expect("11.6 frame", 2, sizeof record, (long long)size);
+    expect("11.6 frame", 3, 4294967295, (long long)number_at(record, 4));
+    frame = describe(5, 3, REFERENCE_RGB, REFERENCE_420, REFERENCE_LIMITED, REFERENCE_BT601, REFERENCE_SRGB, bare);
+    expect_answer("11.6 frame", 4, 0, 0, 0, call_frame(&frame, 15, bare_lengths));
+    expect_bytes("11.6 frame", plane_bytes[0], record + 8, 15);
+    expect_bytes("11.6 frame", plane_bytes[1], record + 23, 6);
+    expect_bytes("11.6 frame", plane_bytes[2], record + 29, 6);
+}
+
+/* RULES 11: lists of records by chance. */
+static void test_lists(void)
+{
+    enum { LISTS = 300 };
+    long list;
+
+    for (list = 0; list < LISTS; list++) {
+        test_list(list);
+    }
+}
+
 /* All examples, one chapter after the other. */
 int main(void)
 {
@@ -1884,6 +2489,18 @@ int main(void)
     test_worked_greys();
     test_grey_weights();
     test_grey_frames();
+    test_layout();
+    test_reading();
+    test_many(1);
+    test_many(4095);
+    test_many(4096);
+    test_many(4097);
+    test_every_bit();
+    test_writing();
+    test_record();
+    test_record_order();
+    test_lists();
+    test_frame_record();
     printf("%lu comparisons, %lu differ\n", asked, differing);
     return differing == 0 ? EXIT_SUCCESS : EXIT_FAILURE;
 }
