@@ -2,7 +2,7 @@
  * Lists a shift file, or makes one of records (RULES 11.1, 11.2).
  *
  *     shift list FILE             a line for each record: its number, crossing, size, where it and its Y, U and V start, and its length
- *     shift pack RECORDS FILE     RECORDS has records, one behind the other: FILE becomes the shift file of them
+ *     shift pack RECORDS FILE     RECORDS has records, one behind the other: FILE, which must not be there yet, becomes their shift file
  *
  * The file is read on a memory map, so it may be larger than memory; of its planes nothing is read.
  */
@@ -61,7 +61,7 @@ static int pack(segvartin_bytes records, const char *name) {
     size_t size;
     segvartin_answer a = segvartin_write_shift_file(records, file, &size);
     if (a.number != SEGVARTIN_OUTPUT_TOO_SHORT) return refused(a);
-    int out = open(name, O_RDWR | O_CREAT | O_TRUNC, 0666);
+    int out = open(name, O_RDWR | O_CREAT | O_EXCL, 0666);
     if (out < 0 || ftruncate(out, (off_t)size) != 0) return fail("cannot write the file");
     file.at = mmap(NULL, size, PROT_READ | PROT_WRITE, MAP_SHARED, out, 0);
     if (file.at == MAP_FAILED) return fail("cannot map the file");

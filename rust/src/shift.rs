@@ -103,7 +103,7 @@ impl<'a> ShiftFile<'a> {
         }
     }
 
-    /// The record of which the library told these numbers. The parts lie in the file, as it is proved to tell.
+    /// The record of which the library told these numbers. The parts lie in the file, as the reader tells them.
     fn part_of(&self, numbers: &[u64; NUMBERS]) -> ShiftRecord<'a> {
         let [crossing, width, height, parts @ ..] = *numbers;
         let [offset, length, y, y_length, u, u_length, v, v_length] = parts.map(|n| n as usize);
