@@ -16,8 +16,8 @@
  * calls of its chapter 10.
  *
  * Every function answers finished work (0) or the number of one refusal, and a refusal writes no byte of a plane, of the carried row, of a record
- * or of a file, no entry and no count of colours. This holds for all values of all numbers: sizes, strides, lengths, codes, kr, kb, and all bytes of a file. What no
- * function can check, and the caller must see to:
+ * or of a file, no entry and no count of colours. This holds for all values of all numbers: sizes, strides, lengths, codes, kr, kb, and all
+ * bytes of a file. What no function can check, and the caller must see to:
  *   - a pointer is not NULL, also where its length is 0, and points to as many bytes as the length beside it says; counts to 256 numbers;
  *   - what a call is lent (source, y, u, v, carried, counts, done, expected, received; records, file, size, count, read) does not overlap.
  *
