@@ -46,8 +46,10 @@ module _ (f : SummaryEntry → ℕ) (es : List SummaryEntry) where
       sym (keys-done keys i h) ∙ same ∙ filled d (keysFrom 0 (map f es)) (keys-length 0 (map f es) ∙ length-map es f ∙ e)
 
   -- sorted, they name entries
-  keys-places : (keys : List ℕ) → length es ≤ 4096 → keys ≡ sorted (keysFrom 0 (map f es)) → Places (length es) keys
-  keys-places keys few e = record { place = λ i h. all-at (λ k. k % 4096 < length es) 0 keys i (rw e (keys-named noEntry f es few)) h }
+  pub keys-places : (keys : List ℕ) → length keys ≡ length es → length es ≤ 4096 → keys ≡ sorted (keysFrom 0 (map f es)) → Places (length keys) keys
+  keys-places keys long few e = record {
+    place = λ i h. let within = all-at (λ k. k % 4096 < length es) 0 keys i (rw e (keys-named noEntry f es few)) h in omega arith;
+  }
 
 pub same-records : (form : ShiftForm) (file : List ℕ) (n m : ℕ) → HasRecords form file n → m ≡ n → HasRecords form file m
 same-records form file n m h e = record { is-file = h .is-file; count-is = h .count-is ∙ sym e }
@@ -57,8 +59,8 @@ pub file-places : (form : ShiftForm) (file : List ℕ) (n : ℕ) (f : SummaryEnt
     → keys ≡ sorted (keysFrom 0 (map f (entriesOf form (recordsIn form file)))) → Places (length keys) keys
 file-places form file n f keys h long e =
     let rs = recordsIn form file in
-    let many : length (entriesOf form rs) ≡ length keys = length-entries (recordsAt form (length rs)) rs ∙ h .count-is ∙ sym long in
-    rw many at (keys-places f (entriesOf form rs) keys (omega (arith, h .is-file .has .few, h .count-is)) e)
+    let many = length-entries (recordsAt form (length rs)) rs in
+    keys-places f (entriesOf form rs) keys (omega (arith, h .count-is)) (omega (arith, h .is-file .has .few)) e
 
 -- ---- the entries that keys name
 
