@@ -36,6 +36,7 @@ pub fn error_numbers(e: YuvError) -> AnswerNumbers
         YuvError::WindowOutsideSource => AnswerNumbers { number: 14, size },
         YuvError::MalformedShiftFile => AnswerNumbers { number: 15, size },
         YuvError::OutputTooShort => AnswerNumbers { number: 16, size },
+        YuvError::SummaryMismatch => AnswerNumbers { number: 17, size },
     }
 }
 

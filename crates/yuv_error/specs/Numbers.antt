@@ -9,7 +9,7 @@ use Rattle.yuv_error.specs.declared.YuvError.the-variants.{MalformedRequ
 use Rattle.yuv_error.specs.declared.YuvError.the-variants.{DestinationSizeMismatch, MinimumStrideSizeMismatch, LumaPlaneMinimumSizeMismatch}
 use Rattle.yuv_error.specs.declared.YuvError.the-variants.{LumaPlaneSizeMismatch, UPlaneMinimumSizeMismatch, VPlaneMinimumSizeMismatch}
 use Rattle.yuv_error.specs.declared.YuvError.the-variants.{WholeRowsMismatch, CarriedRowSizeMismatch, WindowOutsideSource}
-use Rattle.yuv_error.specs.declared.YuvError.the-variants.{MalformedShiftFile, OutputTooShort}
+use Rattle.yuv_error.specs.declared.YuvError.the-variants.{MalformedShiftFile, OutputTooShort, SummaryMismatch}
 use Rattle.yuv_error.specs.declared.YuvAnswer.{YuvAnswer}
 use Rattle.yuv_error.specs.declared.YuvAnswer.the-variants.{Finished, Refused}
 
@@ -45,6 +45,7 @@ errorNumbers (CarriedRowSizeMismatch m) = sized 13 m
 errorNumbers WindowOutsideSource = numbers 14 0 0
 errorNumbers MalformedShiftFile = numbers 15 0 0
 errorNumbers OutputTooShort = numbers 16 0 0
+errorNumbers SummaryMismatch = numbers 17 0 0
 
 -- RULES 7.1: finished work is number 0
 abbrev pub numbersOf : YuvAnswer → Numbers
@@ -70,7 +71,8 @@ answers m =
     Refused (CarriedRowSizeMismatch m) ∷
     Refused WindowOutsideSource ∷
     Refused MalformedShiftFile ∷
-    Refused OutputTooShort ∷ []
+    Refused OutputTooShort ∷
+    Refused SummaryMismatch ∷ []
 
 -- RULES 7.1: the answer of these numbers, the other way round
 abbrev pub answerOf : Numbers → YuvAnswer

@@ -40,6 +40,7 @@ pub enum YuvError {
     WindowOutsideSource,
     MalformedShiftFile,
     OutputTooShort,
+    SummaryMismatch,
 }
 
 // What a call answers: finished work, or one refusal.

@@ -54,10 +54,14 @@ returns-15 c = sym (ap errorNumbers (c .enum-told7 .given .1))
 returns-16 : tie.Need-returns-16
 returns-16 c = sym (ap errorNumbers (c .enum-told8 .given .1))
 
+returns-17 : tie.Need-returns-17
+returns-17 c = sym (ap errorNumbers (c .enum-told9 .given .1))
+
 pub error-numbers-spec : {M : Type 1} → statement M
 error-numbers-spec =
     tie.close
     (tie.spec
+    (λ c. search needs)
     (λ c. search needs)
     (λ c. search needs)
     (λ c. search needs)
@@ -89,4 +93,5 @@ error-numbers-spec =
     returns-13
     returns-14
     returns-15
-    returns-16)
+    returns-16
+    returns-17)
