@@ -7,13 +7,15 @@ use borrow.Author.Tests.{le-leb}
 use lib.ListN.{length, getD}
 use Rattle.merge_sort.specs.Order.{Ordered}
 use Rattle.merge_sort.specs.Ascending.{key}
+use Rattle.merge_sort.proofs.Permuted.{permuted-length}
 use Rattle.merge_sort.proofs.Keys.{ascending-ordered}
 use Rattle.summary_entry.specs.Entry.{noEntry}
 use Rattle.summary_entry.specs.Order.{InOrder}
+use Rattle.summary_entry.proofs.Entry.{length-entries as length-bytes}
 use Rattle.shift_file.specs.declared.ShiftForm.{ShiftForm}
 use Rattle.shift_file.specs.File.{ShiftRecord, HasFile, recordsAt}
 use Rattle.shift_summary.specs.Summary.{entriesOf}
-use Rattle.shift_summary.specs.Built.{crossingOf, inOrder, Built}
+use Rattle.shift_summary.specs.Built.{crossingOf, inOrder, summaryOf, Built}
 use Rattle.shift_summary.proofs.Entries.{length-entries}
 
 module _ (form : ShiftForm) (rs : List ShiftRecord) (h : HasFile form rs) where
@@ -29,6 +31,15 @@ module _ (form : ShiftForm) (rs : List ShiftRecord) (h : HasFile form rs) where
 
   pub in-order : Ordered InOrder (entriesOf form rs) (inOrder form rs)
   in-order = ascending-ordered noEntry crossingOf (entriesOf form rs) entries-few InOrder keys-tell
+
+  pub built-length : length (summaryOf form rs) ≡ 13 * length rs
+  built-length =
+      omega (
+        arith,
+        length-bytes (inOrder form rs),
+        permuted-length (in-order .permuted),
+        length-entries (recordsAt form (length rs)) rs,
+      )
 
 pub built : Built
 built form rs h = record { entries = inOrder form rs; ordered = in-order form rs h; same = refl }

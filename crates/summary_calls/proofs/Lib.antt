@@ -1,0 +1,2 @@
+-- The laws of looking up.
+pub mod Found
