@@ -18,6 +18,7 @@ use Rattle.merge_sort.proofs.Keys.{ascending-ordered}
 use Rattle.summary_entry.specs.declared.SummaryEntry.{SummaryEntry}
 use Rattle.summary_entry.specs.Entry.{entriesBytes, entriesIn, sameEntry, noEntry}
 use Rattle.summary_entry.proofs.Entry.{Fits, same-true, same-itself, length-read, length-entries, entries-back, entries-again}
+use Rattle.summary_entry.specs.Order.{InOrder}
 use Rattle.shift_file.specs.declared.ShiftForm.{ShiftForm}
 use Rattle.shift_file.specs.File.{ShiftRecord, HasFile, recordsAt}
 use Rattle.shift_summary.specs.Summary.{entriesOf, IsSummary}
@@ -51,20 +52,27 @@ module _ (form : ShiftForm) (rs : List ShiftRecord) (h : HasFile form rs) (es : 
 
 -- ---- both ways
 
+pub checked-entries : (form : ShiftForm) (rs : List ShiftRecord) (s : List ℕ) → HasFile form rs → isSummary form rs s ≡ true
+    → (13 * length rs ≤ length s) × Ordered InOrder (entriesOf form rs) (entriesIn (length rs) s)
+unfolding isSummary
+checked-entries form rs s h e =
+    let es = entriesIn (length rs) s in
+    let p = and-eq-true-iff (leb (13 * length rs) (length s)) _ .0 e in
+    let q = and-eq-true-iff (follows noEntry es) _ .0 (p .1) in
+    let o = by-offset es (omega (arith, length-read (length rs) s, h .few)) in
+    let moved : Permutation es (entriesOf form rs) = rw (entries-same _ _ (q .1)) at (o .permuted) in
+    (leb-true _ _ (p .0), record { sorted = order-true es (q .0); permuted = permutation-sym moved })
+
 module _ (form : ShiftForm) (rs : List ShiftRecord) (s : List ℕ) (h : HasFile form rs) (b : Bytes s) where
   yes : isSummary form rs s ≡ true → (13 * length rs ≤ length s) × IsSummary form rs (take (13 * length rs) s)
-  unfolding isSummary
   yes e =
+      let p = checked-entries form rs s h e in
       let es = entriesIn (length rs) s in
-      let p = and-eq-true-iff (leb (13 * length rs) (length s)) _ .0 e in
-      let q = and-eq-true-iff (follows noEntry es) _ .0 (p .1) in
-      let long : 13 * length rs ≤ length s = leb-true _ _ (p .0) in
-      let o = by-offset es (omega (arith, length-read (length rs) s, h .few)) in
-      let moved : Permutation es (entriesOf form rs) = rw (entries-same _ _ (q .1)) at (o .permuted) in
-      let bytes : entriesBytes es ≡ take (13 * length rs) s =
-      sym (take-at (entriesBytes es) (drop (13 * length rs) s) (13 * length rs) (length-entries es ∙ ap (λ (n : ℕ). 13 * n) (length-read (length rs) s)))
-      ∙ ap (take (13 * length rs)) (entries-again (length rs) s b long) in
-      (long, record { entries = es; ordered = record { sorted = order-true es (q .0); permuted = permutation-sym moved }; same = bytes })
+      let n = 13 * length rs in
+      let bytes : entriesBytes es ≡ take n s =
+      sym (take-at (entriesBytes es) (drop n s) n (length-entries es ∙ ap (λ (m : ℕ). 13 * m) (length-read (length rs) s)))
+      ∙ ap (take n) (entries-again (length rs) s b (p .0)) in
+      (p .0, record { entries = es; ordered = p .1; same = bytes })
 
   is : 13 * length rs ≤ length s → IsSummary form rs (take (13 * length rs) s) → isSummary form rs s ≡ true
   unfolding isSummary
