@@ -3,3 +3,4 @@ pub mod Answered
 pub mod Lists
 pub mod Counts
 pub mod Shift
+pub mod Summary

@@ -17,7 +17,7 @@ use Rattle.segvartin.specs.Shift.{ExportedRecord, rulesOfRecord, RecordK
 use Rattle.segvartin.proofs.Lists.{is-refused}
 
 -- rules that say no size
-abbrev Plain : List Rule → Type 0
+abbrev pub Plain : List Rule → Type 0
 Plain [] = Unit {0}
 Plain (r ∷ rs) = (r .says ≡ numbers (r .says .number) 0 0) × Plain rs
 
@@ -30,7 +30,7 @@ plain-first [] p = refl
 plain-first (r ∷ rs) p = plain-step (r .holds) (r .says) (firstOf rs) (p .0) (plain-first rs (p .1))
 
 -- a number alone tells such an answer
-alone : (rs : List Rule) {n : ℕ} (a : YuvAnswer) → Plain rs → n ≡ numbersOf a .number → numbersOf a ≡ firstOf rs → numbers n 0 0 ≡ firstOf rs
+pub alone : (rs : List Rule) {n : ℕ} (a : YuvAnswer) → Plain rs → n ≡ numbersOf a .number → numbersOf a ≡ firstOf rs → numbers n 0 0 ≡ firstOf rs
 alone rs a plain is e = ap (λ (n : ℕ). numbers n 0 0) (is ∙ ap (λ (x : Numbers). x .number) e) ∙ sym (plain-first rs plain)
 
 -- an output that a refused call left

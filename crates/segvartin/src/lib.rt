@@ -7,6 +7,9 @@ use shift_file::ShiftForm;
 use shift_reader::ShiftReading;
 use shift_record::RecordFrame;
 use shift_writer::ShiftWritten;
+use summary_calls::FoundRecord;
+use summary_calls::SummaryFinding;
+use summary_calls::SummaryVerdict;
 use yuv_error::YuvAnswer;
 use yuv_error::YuvError;
 ghost use mathlib.Core.Path.{_≡_};
@@ -18,6 +21,8 @@ ghost use Rattle.segvartin.specs.Calls.{exportedFrame, FrameAnswered, Fr
 ghost use Rattle.segvartin.specs.Calls.{exportedOpening, OpenAnswered, OpenKept};
 ghost use Rattle.segvartin.specs.Calls.{exportedBand, BandAnswered, BandKept};
 ghost use Rattle.segvartin.specs.Counts.{exportedCounts, CountsAnswered, CountsKept};
+ghost use Rattle.segvartin.specs.Summary.{exportedBuild, BuildKept, exportedCheck, asNumber, CheckKept};
+ghost use Rattle.segvartin.specs.Summary.{exportedFind, foundCount, foundPlace, FindKept, exportedUpdate, UpdateKept};
 ghost use Rattle.segvartin.specs.Shift.{exportedReading, ReadingKept, exportedWriting, WritingKept, exportedRecord, RecordKept};
 
 // What stands before the description: the source's stride of a frame; the rows done, the rows and the source's stride of a band.
@@ -266,4 +271,110 @@ pub extern "C" fn segvartin_call_shift_record(
     };
     let written = shift_record::write_record(frame, y, u, v, record);
     tell_written(written, told)
+}
+
+// ---- The summary of a shift file. Its refusals 15 and 17 come without expected and received.
+
+fn number_of(answer: YuvAnswer) -> u32
+    ensures { λ n. ⌜ n ≡ numbersOf answer .number ⌝ }
+{
+    let numbered = error_numbers::answer_numbers(answer);
+    numbered.number
+}
+
+// Writes a shift file's summary, 13 bytes a record, at the start of `summary` (0); or answers 15 where these bytes are no file, 17 where `summary` is
+// shorter, and writes nothing.
+#[no_mangle]
+pub extern "C" fn segvartin_call_summary_build(file: &[u8], summary: &mut [u8]) -> u32
+    ensures { λ n. ⌜ BuildKept (exportedBuild (now (file .entry)) (now (summary .entry)) n (now (summary .exit))) ⌝ }
+{
+    let answer = summary_calls::build_summary(ShiftForm::WithoutSettings, file, summary);
+    number_of(answer)
+}
+
+fn yes_or_no(yes: bool) -> usize
+    ensures { λ r. ⌜ r ≡ asNumber yes ⌝ }
+{
+    if yes { 1 } else { 0 }
+}
+
+fn tell_verdict(verdict: SummaryVerdict, told: &mut [usize]) -> u32
+    requires { ⌜ 1 ≤ length (now told) ⌝ }
+    ensures { λ n. ⌜ (n ≡ numbersOf (verdict .answer) .number) × (now (told .exit) ≡ set (now (told .entry)) 0 (asNumber (verdict .«is_summary»))) ⌝ }
+{
+    let answer = verdict.answer;
+    told[0] = yes_or_no(verdict.is_summary);
+    number_of(answer)
+}
+
+// Whether `summary` starts with a summary of a shift file (0), or 15 where these bytes are no file. told: 1 for yes, 0 for no.
+#[no_mangle]
+pub extern "C" fn segvartin_call_summary_check(
+    file: &[u8],
+    summary: &[u8],
+    told: &mut [usize; 1],
+) -> u32
+    ensures { λ n. ⌜ CheckKept (exportedCheck (now (file .entry)) (now (summary .entry)) n (now (told .exit))) ⌝ }
+{
+    let verdict = summary_calls::check_summary(ShiftForm::WithoutSettings, file, summary);
+    tell_verdict(verdict, told)
+}
+
+fn found_count(found: FoundRecord) -> usize
+    ensures { λ r. ⌜ r ≡ foundCount found ⌝ }
+{
+    match found {
+        FoundRecord::At(_) => 1,
+        FoundRecord::Nowhere => 0,
+    }
+}
+
+fn found_place(found: FoundRecord) -> usize
+    ensures { λ r. ⌜ r ≡ foundPlace found ⌝ }
+{
+    match found {
+        FoundRecord::At(k) => k,
+        FoundRecord::Nowhere => 0,
+    }
+}
+
+fn tell_finding(finding: SummaryFinding, told: &mut [usize]) -> u32
+    requires { ⌜ 2 ≤ length (now told) ⌝ }
+    ensures { λ n. ⌜ (n ≡ numbersOf (finding .answer) .number)
+        × (now (told .exit) ≡ set (set (now (told .entry)) 0 (foundCount (finding .found))) 1 (foundPlace (finding .found))) ⌝ }
+{
+    let answer = finding.answer;
+    let found = finding.found;
+    told[0] = found_count(found);
+    told[1] = found_place(found);
+    number_of(answer)
+}
+
+// The record of a crossing, the first by offset if several (0); or answers 15 where these bytes are no file, 17 where `summary` does not start with
+// its summary. told: how many were found, 1 or 0, and the number of that record, from 0.
+#[no_mangle]
+pub extern "C" fn segvartin_call_summary_find(
+    file: &[u8],
+    summary: &[u8],
+    crossing: u32,
+    told: &mut [usize; 2],
+) -> u32
+    ensures { λ n. ⌜ FindKept (exportedFind (now (file .entry)) (now (summary .entry)) crossing n (now (told .exit))) ⌝ }
+{
+    let finding = summary_calls::find_record(ShiftForm::WithoutSettings, file, summary, crossing);
+    tell_finding(finding, told)
+}
+
+// Rewrites a shift file's summary as that of the file with the record `added` at its end (0), in 13 bytes more; or answers 15 where these bytes are no
+// file, no record, or a file that may not grow, 17 where `summary` is shorter or not the file's summary, and writes nothing.
+#[no_mangle]
+pub extern "C" fn segvartin_call_summary_update(
+    file: &[u8],
+    added: &[u8],
+    summary: &mut [u8],
+) -> u32
+    ensures { λ n. ⌜ UpdateKept (exportedUpdate (now (file .entry)) (now (added .entry)) (now (summary .entry)) n (now (summary .exit))) ⌝ }
+{
+    let answer = summary_update::update_summary(ShiftForm::WithoutSettings, file, added, summary);
+    number_of(answer)
 }
