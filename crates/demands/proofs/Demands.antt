@@ -3,7 +3,7 @@
 -- Assumes nothing.
 use Prim.Native.Nat.{ℕ, _≤_}
 use mathlib.Core.Path.{_≡_, refl, sym, ap, subst, _∙_}
-use mathlib.Core.Bool.{Bool, true, false}
+use mathlib.Core.Bool.{Bool, true, false, cond, not, _&&_}
 use mathlib.Core.List.{List, [], _∷_}
 use native.Mathlib.Omega.{arith}
 use lib.Dec.{T}
@@ -13,7 +13,7 @@ use Rattle.yuv_support.specs.Matrix.{accepted as accepted-matrix}
 use Rattle.yuv_error.specs.declared.YuvError.{YuvError}
 use Rattle.yuv_error.specs.declared.YuvAnswer.{YuvAnswer}
 use Rattle.yuv_error.specs.declared.YuvAnswer.the-variants.{Finished, Refused}
-use Rattle.yuv_error.specs.Numbers.{Numbers, numbersOf}
+use Rattle.yuv_error.specs.Numbers.{Numbers, numbers, numbersOf}
 use Rattle.yuv_error.specs.Rules.{Rule, rule, firstOf, matrixRules}
 use Rattle.yuv_error.specs.Lowest.{Lowest, inOrder}
 use Rattle.yuv_error.proofs.Numbers.{is-finished}
@@ -51,6 +51,20 @@ use Rattle.shift_writer.specs.Writing.{writeRules}
 use Rattle.shift_record.specs.Record.{recordRules}
 use Rattle.segvartin.specs.Shift.{rulesOfReading, rulesOfWriting, rulesOfRecord}
 use Rattle.segvartin.proofs.Shift.{unwritten, reading-first, reading-writes-nothing, writing-first, writing-writes-nothing, record-first, record-writes-nothing}
+use Rattle.shift_file.specs.declared.ShiftForm.{ShiftForm}
+use Rattle.shift_file.specs.declared.ShiftForm.the-variants.{WithoutSettings}
+use Rattle.shift_file.specs.Read.{recordsIn}
+use Rattle.shift_file.specs.Check.{isFile}
+use Rattle.summary_check.specs.Check.{isSummary}
+use Rattle.summary_calls.specs.declared.FoundRecord.{FoundRecord}
+use Rattle.summary_calls.specs.declared.FoundRecord.the-variants.{Nowhere}
+use Rattle.summary_calls.specs.declared.SummaryVerdict.{SummaryVerdict}
+use Rattle.summary_calls.specs.declared.SummaryFinding.{SummaryFinding}
+use Rattle.summary_calls.specs.Found.{foundAmong}
+use Rattle.summary_calls.specs.Calls.{buildRules, CheckPost, findRules, foundTold, FindPost}
+use Rattle.summary_update.specs.Update.{updateRules}
+use Rattle.segvartin.specs.Summary.{asNumber, foundCount, foundPlace, rulesOfBuild, rulesOfCheck, rulesOfFind, rulesOfUpdate}
+use Rattle.segvartin.proofs.Summary.{build-first, build-writes-nothing, check-first, find-first, update-first, update-writes-nothing}
 use Rattle.demands.specs.Demands.{Replied, CountsReplied, Demand1, Demand2, Demand3, WholeFrame, FrameBytes}
 
 -- the promise's equation, read as the sentence of RULES 7.1
@@ -65,6 +79,22 @@ refusal (Refused e) l = (e, refl)
 request-writes-nothing : {input output output′ : List ℕ} (r : Response) → RequestPost input output r output′ → 1 ≤ responseNumbers r .number → output′ ≡ output
 request-writes-nothing (Planes n) p l = absurd (omega arith)
 request-writes-nothing (Refuses e) p l = painted-same (p .written)
+
+-- a check that is refused says no
+says-no : (form : ShiftForm) (file summary : List ℕ) (r : SummaryVerdict) → CheckPost form file summary r → 1 ≤ numbersOf (r .answer) .number
+    → r .«is_summary» ≡ false
+says-no form file summary r p l = p .verdict ∙ no (isFile form file) (ap (λ (x : Numbers). x .number) (p .answered))
+  where
+    no : (t : Bool) → numbersOf (r .answer) .number ≡ cond (not t) (numbers 15 0 0) (numbers 0 0 0) .number
+        → (t && isSummary form (recordsIn form file) summary) ≡ false
+    no true e = absurd (omega arith)
+    no false e = refl
+
+-- and a lookup finds nothing
+finds-nothing : (form : ShiftForm) (file summary : List ℕ) (crossing : ℕ) (r : SummaryFinding) → FindPost form file summary crossing r
+    → 1 ≤ numbersOf (r .answer) .number → r .found ≡ Nowhere
+finds-nothing form file summary crossing r p l =
+    p .found ∙ ap (λ (a : YuvAnswer). foundTold a (foundAmong crossing (recordsIn form file))) (refusal (r .answer) l .1)
 
 -- what the first rule that holds says is the only right answer, and `reply` goes by its number
 replied : (input bytes : List ℕ) → bytes ≡ reply input → Replied input bytes
@@ -118,6 +148,17 @@ demand-1 = record {
     lowest = lowest (recordRules f y u v (length before)) refl (p .answered);
     writes-nothing = λ l. unwritten (r .answer) _ l (p .written);
   };
+  summary-build = λ form file before a after p. record {
+    lowest = lowest (buildRules form file (length before)) refl (p .answered);
+    writes-nothing = λ l. unwritten a _ l (p .written);
+  };
+  summary-check = λ form file summary r p. (lowest (fileRules form file) refl (p .answered), says-no form file summary r p);
+  summary-find = λ form file summary crossing r p.
+      (lowest (findRules form file summary) refl (p .answered), finds-nothing form file summary crossing r p);
+  summary-update = λ form file added before a after p. record {
+    lowest = lowest (updateRules form file added before) refl (p .answered);
+    writes-nothing = λ l. unwritten a _ l (p .written);
+  };
   reply = λ input output n output′ p. replied input (take n output′) (p .written);
   counts-reply = λ input output n output′ p. counts-replied input (take n output′) (p .written);
   request = λ input output r output′ p. record { lowest = lowest (requestRules input) refl (p .answered); writes-nothing = request-writes-nothing r p };
@@ -128,6 +169,17 @@ demand-1 = record {
   linked-shift-reading = λ k p. record { lowest = lowest (rulesOfReading k) refl (reading-first p); writes-nothing = reading-writes-nothing p };
   linked-shift-writing = λ k p. record { lowest = lowest (rulesOfWriting k) refl (writing-first p); writes-nothing = writing-writes-nothing p };
   linked-shift-record = λ k p. record { lowest = lowest (rulesOfRecord k) refl (record-first p); writes-nothing = record-writes-nothing p };
+  linked-summary-build = λ k p. record { lowest = lowest (rulesOfBuild k) refl (build-first p); writes-nothing = build-writes-nothing p };
+  linked-summary-check = λ k p. (
+    lowest (rulesOfCheck k) refl (check-first p),
+    λ l. p .told ∙ ap (λ (b : Bool). asNumber b ∷ []) (says-no WithoutSettings (k .file) (k .summary) (p .verdict) (p .checked) (rw (p .number) at l)),
+  );
+  linked-summary-find = λ k p. (
+    lowest (rulesOfFind k) refl (find-first p),
+    λ l. p .told ∙ ap (λ (f : FoundRecord). foundCount f ∷ foundPlace f ∷ [])
+        (finds-nothing WithoutSettings (k .file) (k .summary) (k .crossing) (p .finding) (p .found) (rw (p .number) at l)),
+  );
+  linked-summary-update = λ k p. record { lowest = lowest (rulesOfUpdate k) refl (update-first p); writes-nothing = update-writes-nothing p };
 }
 
 is-true : (b : Bool) → T b → b ≡ true

@@ -3,3 +3,4 @@ pub mod Demands
 pub mod Grey
 pub mod Counts
 pub mod ShiftFiles
+pub mod ShiftSummaries

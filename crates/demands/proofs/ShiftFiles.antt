@@ -51,7 +51,7 @@ use Rattle.demands.proofs.Demands.{whole, bytes}
 -- ---- 15 by a test that says whether there is something
 
 -- the first rule is 15, and no other has its number
-by-test : {B : List ShiftRecord → Type 0} (test : Bool) (rest : Numbers) {n : ℕ} → (test ≡ true) ↔ ((rs : List ShiftRecord) × B rs) → (rest .number ≡ 15 → ⊥)
+pub by-test : {B : List ShiftRecord → Type 0} (test : Bool) (rest : Numbers) {n : ℕ} → (test ≡ true) ↔ ((rs : List ShiftRecord) × B rs) → (rest .number ≡ 15 → ⊥)
     → n ≡ cond (not test) (numbers 15 0 0) rest .number → (n ≡ 15) ↔ ((rs : List ShiftRecord) → B rs → ⊥)
 by-test true rest is other e = (λ z. absurd (other (sym e ∙ z)), λ none. let some = is .0 refl in absurd (none (some .0) (some .1)))
 by-test false rest is other e = (λ z rs b. true≢false (sym (is .1 (rs, b))), λ none. e)
@@ -86,7 +86,7 @@ module _ (form : ShiftForm) (records before : List ℕ) (r : ShiftWritten) (afte
     made-is : fileMade form records ≡ fileOf form rs
     made-is = ap (fileOf form) (these-records form records rs b)
 
-    its-file : r .answer ≡ Finished → IsFileOf form (take (r .size) after) rs
+    pub its-file : r .answer ≡ Finished → IsFileOf form (take (r .size) after) rs
     its-file is = record { has = b .has; same = sym (front is .0 ∙ made-is) }
 
 -- ---- one record

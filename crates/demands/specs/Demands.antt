@@ -1,12 +1,13 @@
 -- The three demands, one after the other, and what else is claimed of all calls. Each cites definitions alone: the promises of the calls
--- (`FramePost`, `OpenPost`, `BandPost`, `CountsPost`, `ReadPost`, `WritePost`, `RecordPost`, `RequestPost`, `Begins`, `FrameKept`, `OpenKept`,
--- `BandKept`, `CountsKept`, `ReadingKept`, `WritingKept`, `RecordKept`, the very predicates of their `ensures`), which hold of every call whatever it is
--- given, and the rules, rows, planes, curves and files that they speak of. Their proofs are `demand-1`, `demand-2` and `demand-3` of
--- proofs/Demands.antt, `grey` of proofs/Grey.antt, `counts` of proofs/Counts.antt and `shift-files` of proofs/ShiftFiles.antt.
+-- (`FramePost`, `OpenPost`, `BandPost`, `CountsPost`, `ReadPost`, `WritePost`, `RecordPost`, `BuildPost`, `CheckPost`, `FindPost`, `UpdatePost`,
+-- `RequestPost`, `Begins`, `FrameKept`, `OpenKept`, `BandKept`, `CountsKept`, `ReadingKept`, `WritingKept`, `RecordKept`, `BuildKept`, `CheckKept`,
+-- `FindKept`, `UpdateKept`, the very predicates of their `ensures`), which hold of every call whatever it is given, and the rules, rows, planes, curves,
+-- files and summaries that they speak of. Their proofs are `demand-1`, `demand-2` and `demand-3` of proofs/Demands.antt, `grey` of proofs/Grey.antt,
+-- `counts` of proofs/Counts.antt, `shift-files` of proofs/ShiftFiles.antt and `shift-summaries` of proofs/ShiftSummaries.antt.
 -- Assumes nothing.
 use Prim.Native.Nat.{ℕ, _+_, _*_, _≤_, _<_}
 use mathlib.Core.Path.{_≡_}
-use mathlib.Core.Bool.{true}
+use mathlib.Core.Bool.{true, false}
 use mathlib.Core.List.{List, [], _∷_, _++_}
 use mathlib.Core.Logic.{_↔_}
 use lib.Dec.{T}
@@ -50,10 +51,10 @@ use Rattle.grey.specs.Grey.{greyOf, GreyRows, LumaOfGrey, GreyPlanes}
 use Rattle.little_endian.specs.Number.{Bytes}
 use Rattle.shift_file.specs.declared.ShiftForm.{ShiftForm}
 use Rattle.shift_file.specs.declared.ShiftForm.the-variants.{WithoutSettings}
-use Rattle.shift_file.specs.File.{ShiftRecord, Allowed, recordsAt, bytesOf, fileOf, IsFileOf}
+use Rattle.shift_file.specs.File.{ShiftRecord, Allowed, recordsAt, bytesOf, fileOf, HasFile, IsFileOf}
 use Rattle.shift_file.specs.Means.{SomeList, OneList, ReadBack, Rewritten, OneForm}
 use Rattle.shift_reader.specs.declared.ShiftReading.{ShiftReading}
-use Rattle.shift_reader.specs.Entry.{entriesOf}
+use Rattle.shift_reader.specs.Entry.{nth, entriesOf}
 use Rattle.shift_reader.specs.Reading.{fileRules, ReadPost}
 use Rattle.shift_writer.specs.declared.ShiftWritten.{ShiftWritten}
 use Rattle.shift_writer.specs.Records.{BackToBack}
@@ -63,6 +64,16 @@ use Rattle.shift_record.specs.Record.{recordMade, recordSize, recordRules, Reco
 use Rattle.segvartin.specs.Shift.{ExportedReading, rulesOfReading, ReadingKept}
 use Rattle.segvartin.specs.Shift.{ExportedWriting, rulesOfWriting, WritingKept}
 use Rattle.segvartin.specs.Shift.{ExportedRecord, rulesOfRecord, RecordKept}
+use Rattle.shift_summary.specs.Summary.{IsSummary}
+use Rattle.summary_calls.specs.declared.FoundRecord.the-variants.{At, Nowhere}
+use Rattle.summary_calls.specs.declared.SummaryVerdict.{SummaryVerdict}
+use Rattle.summary_calls.specs.declared.SummaryFinding.{SummaryFinding}
+use Rattle.summary_calls.specs.Found.{IsFirst}
+use Rattle.summary_calls.specs.Calls.{buildRules, BuildPost, CheckPost, findRules, FindPost}
+use Rattle.summary_update.specs.Update.{updateRules, UpdatePost}
+use Rattle.summary_update.specs.Summaries.{Left}
+use Rattle.segvartin.specs.Summary.{ExportedBuild, rulesOfBuild, BuildKept, ExportedCheck, rulesOfCheck, CheckKept}
+use Rattle.segvartin.specs.Summary.{ExportedFind, rulesOfFind, FindKept, ExportedUpdate, rulesOfUpdate, UpdateKept}
 
 -- ---- 1. Every call answers finished work or one numbered refusal, for all sizes, strides, buffers and settings; a refusal writes no byte.
 
@@ -84,8 +95,9 @@ CountsReplied input bytes =
     (x : Numbers) → Lowest (rule 1 (malformed input) 0 0 ∷ []) x
     → (x .number ≡ 0 → bytes ≡ lines (countOf (rangeOf input) (matrixOf input)) 256) × (1 ≤ x .number → bytes ≡ refusalLine (x .number))
 
--- RULES 7.1, 7.2: of the calls of Rattle, which are frame, opening, band, a count of colours, reading and writing a shift file, one record of it, and
--- a request of the program; then of those that C and Rust link, whose numbers come first to be refused
+-- RULES 7.1, 7.2: of the calls of Rattle, which are frame, opening, band, a count of colours, reading and writing a shift file, one record of it,
+-- building, checking, asking and updating its summary, and a request of the program; then of those that C and Rust link, whose numbers come first to be
+-- refused
 pub record Demand1 : Type 0 where
   pub frame : (k : FrameCall) → FramePost k → Answered (frameRules k) (numbersOf (k .answer)) (Unwritten k)
   pub opening : (d : FrameDescription) (r : FrameAnswer) → OpenPost d r → Lowest (openingRules d) (numbersOf (r .answer))
@@ -98,6 +110,15 @@ pub record Demand1 : Type 0 where
       → Answered (writeRules form records (length before)) (numbersOf (r .answer)) (after ≡ before)
   pub shift-record : (f : RecordFrame) (y u v before : List ℕ) (r : ShiftWritten) (after : List ℕ) → RecordPost f y u v before r after
       → Answered (recordRules f y u v (length before)) (numbersOf (r .answer)) (after ≡ before)
+  pub summary-build : (form : ShiftForm) (file before : List ℕ) (a : YuvAnswer) (after : List ℕ) → BuildPost form file before a after
+      → Answered (buildRules form file (length before)) (numbersOf a) (after ≡ before)
+  -- these two are lent nothing to write in: refused, the one says no and the other finds nothing
+  pub summary-check : (form : ShiftForm) (file summary : List ℕ) (r : SummaryVerdict) → CheckPost form file summary r
+      → Lowest (fileRules form file) (numbersOf (r .answer)) × (1 ≤ numbersOf (r .answer) .number → r .«is_summary» ≡ false)
+  pub summary-find : (form : ShiftForm) (file summary : List ℕ) (crossing : ℕ) (r : SummaryFinding) → FindPost form file summary crossing r
+      → Lowest (findRules form file summary) (numbersOf (r .answer)) × (1 ≤ numbersOf (r .answer) .number → r .found ≡ Nowhere)
+  pub summary-update : (form : ShiftForm) (file added before : List ℕ) (a : YuvAnswer) (after : List ℕ) → UpdatePost form file added before a after
+      → Answered (updateRules form file added before) (numbersOf a) (after ≡ before)
   pub request : (input output : List ℕ) (response : Response) (output′ : List ℕ) → RequestPost input output response output′
       → Answered (requestRules input) (responseNumbers response) (output′ ≡ output)
   -- and what the program writes for it: the planes where no condition holds, or the line of the first number whose condition holds
@@ -108,10 +129,16 @@ pub record Demand1 : Type 0 where
   pub linked-band : (k : ExportedBand) → BandKept k
       → Answered (rulesOfBand k) (numbersTold (k .number) (k .told)) (Kept k (doneTold (k .told)))
   pub linked-counts : (k : ExportedCounts) → CountsKept k → Answered (rulesOfCounts k) (numbersTold (k .number) (k .told)) (k .counts′ ≡ k .counts)
-  -- 15 and 16 come without expected and received, so the number alone tells the answer of these two
+  -- 15, 16 and 17 come without expected and received, so the number alone tells the answer of these two, and of the summary's four
   pub linked-shift-reading : (k : ExportedReading) → ReadingKept k → Answered (rulesOfReading k) (numbers (k .number) 0 0) (k .entries′ ≡ k .entries)
   pub linked-shift-writing : (k : ExportedWriting) → WritingKept k → Answered (rulesOfWriting k) (numbers (k .number) 0 0) (k .file′ ≡ k .file)
   pub linked-shift-record : (k : ExportedRecord) → RecordKept k → Answered (rulesOfRecord k) (numbersTold (k .number) (k .told)) (k .output′ ≡ k .output)
+  pub linked-summary-build : (k : ExportedBuild) → BuildKept k → Answered (rulesOfBuild k) (numbers (k .number) 0 0) (k .summary′ ≡ k .summary)
+  pub linked-summary-check : (k : ExportedCheck) → CheckKept k
+      → Lowest (rulesOfCheck k) (numbers (k .number) 0 0) × (1 ≤ k .number → k .told ≡ 0 ∷ [])
+  pub linked-summary-find : (k : ExportedFind) → FindKept k
+      → Lowest (rulesOfFind k) (numbers (k .number) 0 0) × (1 ≤ k .number → k .told ≡ 0 ∷ 0 ∷ [])
+  pub linked-summary-update : (k : ExportedUpdate) → UpdateKept k → Answered (rulesOfUpdate k) (numbers (k .number) 0 0) (k .summary′ ≡ k .summary)
 
 -- ---- 2. Frames of 1 to 16,384 pixels a side, anywhere in a source of at most 16,384 a side in whole rows, with any channel order, sampling, range,
 -- transfer, rounding and accepted matrix: every byte of the planes is the one that the rules name, which is that of the Rust over our stated curve
@@ -298,3 +325,59 @@ pub record ShiftFiles : Type 0 where
   pub frame-accepted : (k : FrameCall) (f : RecordFrame) (before : List ℕ) (r : ShiftWritten) (after : List ℕ) → FramePost k → k .answer ≡ Finished
       → OfFrame k f → RecordPost f (k .y′) (k .u′) (k .v′) before r after → recordSize (f .width) (f .height) ≤ length before → r .answer ≡ Finished
   pub frame : (k : FrameCall) (f : RecordFrame) → FramePost k → k .answer ≡ Finished → OfFrame k f → RecordBytes k (recordMade f (k .y′) (k .u′) (k .v′))
+
+-- ---- The summary of a shift file: what is built is a summary, the check says yes exactly where there is one, a lookup finds the first record of a
+-- crossing, or none exactly where there is none, and an update leaves a summary of the grown file, which is the one that the writer makes of the old
+-- records and the new one. 15 and 17 are answered exactly where there is no such file, and no such room or summary. In both forms.
+
+-- RULES 12.5: what is lent starts with a summary of these records
+abbrev pub HasSummary : ShiftForm → List ShiftRecord → (lent : List ℕ) → Type 0
+HasSummary form rs lent = (13 * length rs ≤ length lent) × IsSummary form rs (take (13 * length rs) lent)
+
+-- RULES 12.6: none of these records has the crossing
+abbrev pub NoRecordOf : (crossing : ℕ) → List ShiftRecord → Type 0
+NoRecordOf crossing rs = (i : ℕ) → i < length rs → nth rs i .crossing ≡ crossing → ⊥
+
+-- RULES 12.7: the file is that of some records, what is added is one more, and together they have a file
+pub record Grows (form : ShiftForm) (file added : List ℕ) (rs : List ShiftRecord) (r : ShiftRecord) : Type 0 where
+  pub old : IsFileOf form file rs
+  pub new : bytesOf r ≡ added
+  pub has : HasFile form (rs ++ r ∷ [])
+
+-- RULES 12.3, 12.4, 12.5, 12.6, 12.7
+pub record ShiftSummaries : Type 0 where
+  -- building
+  pub build-refused : (form : ShiftForm) (file before : List ℕ) (a : YuvAnswer) (after : List ℕ) → Bytes file → BuildPost form file before a after
+      → (numbersOf a .number ≡ 15) ↔ NoFile form file
+  pub build-short : (form : ShiftForm) (file before : List ℕ) (a : YuvAnswer) (after : List ℕ) (rs : List ShiftRecord) → IsFileOf form file rs
+      → BuildPost form file before a after → (numbersOf a .number ≡ 17) ↔ (length before < 13 * length rs)
+  pub built : (form : ShiftForm) (file before : List ℕ) (a : YuvAnswer) (after : List ℕ) (rs : List ShiftRecord) → IsFileOf form file rs
+      → BuildPost form file before a after → a ≡ Finished → Left form rs (13 * length rs) before after
+  -- checking
+  pub check-refused : (form : ShiftForm) (file summary : List ℕ) (r : SummaryVerdict) → Bytes file → CheckPost form file summary r
+      → (numbersOf (r .answer) .number ≡ 15) ↔ NoFile form file
+  pub checked : (form : ShiftForm) (file summary : List ℕ) (r : SummaryVerdict) (rs : List ShiftRecord) → IsFileOf form file rs → Bytes summary
+      → CheckPost form file summary r → (r .«is_summary» ≡ true) ↔ HasSummary form rs summary
+  -- looking up
+  pub find-refused : (form : ShiftForm) (file summary : List ℕ) (crossing : ℕ) (r : SummaryFinding) → Bytes file → FindPost form file summary crossing r
+      → (numbersOf (r .answer) .number ≡ 15) ↔ NoFile form file
+  pub find-mismatch : (form : ShiftForm) (file summary : List ℕ) (crossing : ℕ) (r : SummaryFinding) (rs : List ShiftRecord) → IsFileOf form file rs
+      → Bytes summary → FindPost form file summary crossing r → (numbersOf (r .answer) .number ≡ 17) ↔ (HasSummary form rs summary → ⊥)
+  pub found : (form : ShiftForm) (file summary : List ℕ) (crossing : ℕ) (r : SummaryFinding) (rs : List ShiftRecord) → IsFileOf form file rs
+      → FindPost form file summary crossing r → r .answer ≡ Finished → (k : ℕ) → (r .found ≡ At k) ↔ IsFirst crossing rs k
+  pub found-none : (form : ShiftForm) (file summary : List ℕ) (crossing : ℕ) (r : SummaryFinding) (rs : List ShiftRecord) → IsFileOf form file rs
+      → FindPost form file summary crossing r → r .answer ≡ Finished → (r .found ≡ Nowhere) ↔ NoRecordOf crossing rs
+  -- updating
+  pub update-refused : (form : ShiftForm) (file added before : List ℕ) (a : YuvAnswer) (after : List ℕ) → Bytes file → Bytes added
+      → UpdatePost form file added before a after
+      → (numbersOf a .number ≡ 15) ↔ ((rs : List ShiftRecord) (r : ShiftRecord) → Grows form file added rs r → ⊥)
+  pub update-mismatch : (form : ShiftForm) (file added before : List ℕ) (a : YuvAnswer) (after : List ℕ) (rs : List ShiftRecord) (r : ShiftRecord)
+      → Grows form file added rs r → Bytes before → UpdatePost form file added before a after
+      → (numbersOf a .number ≡ 17) ↔ ((13 * (length rs + 1) ≤ length before) × HasSummary form rs before → ⊥)
+  pub updated : (form : ShiftForm) (file added before : List ℕ) (a : YuvAnswer) (after : List ℕ) (rs : List ShiftRecord) (r : ShiftRecord)
+      → Grows form file added rs r → Bytes file → Bytes added → UpdatePost form file added before a after → a ≡ Finished
+      → Left form (rs ++ r ∷ []) (13 * (length rs + 1)) before after
+  -- and the file that the writer makes of the old records and the new one is that of the records that it is a summary of
+  pub grown : (form : ShiftForm) (file added before : List ℕ) (w : ShiftWritten) (after : List ℕ) (rs : List ShiftRecord) (r : ShiftRecord)
+      → Grows form file added rs r → WritePost form (drop (recordsAt form (length rs)) file ++ added) before w after → w .answer ≡ Finished
+      → IsFileOf form (take (w .size) after) (rs ++ r ∷ [])
