@@ -9,6 +9,7 @@ read out of the tables of docs/RULES.md itself (rules 1.2 to 1.4, 3.1, 4.1, 4.3)
 """
 import bisect
 import functools
+import itertools
 import re
 import struct
 import sys
@@ -514,6 +515,59 @@ def record_call(crossing, w, h, strides, planes, output):
             for plane, stride, row, count in zip(planes, strides, (w, cw, cw), (h, ch, ch))]
     record = record_of(crossing, w, h, rows)
     return (put(output, record), 0, 0), len(record)
+
+
+# ---- chapter 12
+
+def entry_of(entry, data):
+    """12.1, 12.2: the 13 bytes of a record's entry."""
+    plane = data[entry.y:entry.y + entry.y_length]
+    return low_first(entry.crossing, 4) + low_first(entry.offset, 8) + low_first(sum(plane) // (entry.w * entry.h), 1)
+
+
+def crossing_in(entry):
+    return int.from_bytes(entry[:4], 'little')
+
+
+def summaries_of(data):
+    """12.3: every summary of a file."""
+    entries = sorted((entry_of(entry, data) for entry in entries_of(data)), key=crossing_in)
+    groups = [[b''.join(some) for some in itertools.permutations(group)] for _, group in itertools.groupby(entries, crossing_in)]
+    return {b''.join(parts) for parts in itertools.product(*groups)}
+
+
+def check_call(data, buffer):
+    """12.5: the answer, and whether it is yes."""
+    if entries_of(data) is None:
+        return 15, False
+    return 0, bytes(buffer[:13 * len(entries_of(data))]) in summaries_of(data)
+
+
+def build_call(data, buffer):
+    """12.4: the answer; the summary that is written is one of several where crossings are equal."""
+    if entries_of(data) is None:
+        return 15
+    made = min(summaries_of(data))
+    return 17 if put(buffer, made) else 0
+
+
+def find_call(data, buffer, crossing):
+    """12.6: the answer, and the record's number or None."""
+    number, yes = check_call(data, buffer)
+    if number or not yes:
+        return number or 17, None
+    found = [k for k, entry in enumerate(entries_of(data)) if entry.crossing == crossing]
+    return 0, min(found, default=None)
+
+
+def update_call(data, record, buffer):
+    """12.7: the answer."""
+    records, added = records_of(data), records_in(record)
+    if records is None or added is None or len(added) != 1 or len(records) == MOST_RECORDS:
+        return 15
+    if len(buffer) < 13 * (len(records) + 1) or not check_call(data, buffer)[1]:
+        return 17
+    return build_call(file_of(records + added), buffer)
 
 
 # ---- the examples, by the number of their rule
@@ -1512,6 +1566,24 @@ def _():
         yield f'shift_record, numbers {numbers((1400, 3, 2, *strides))}, planes of {", ".join(map(str, lengths))}, output of {length} bytes: {told(*answer, size)}'
 
 
+@example('10.6')
+def _():
+    data, made, record = file_of(THREE), summary_of(THREE), TWO[0]
+    for said, given, length in (('the file of 12.1', data, 39), ('the file of 12.1', data, 38), ('that file without its last byte', data[:-1], 39)):
+        yield f'summary_build, {said}, buffer of {length} bytes: returns {build_call(given, filled(length))}'
+    for said, given, buffer in (('the file of 12.1, its summary', data, made), ('the file of 12.1, its summary and a byte behind', data, made + b'\0'),
+                                ('the file of 12.1, its summary without the last byte', data, made[:-1]), ('that file without its last byte, its summary', data[:-1], made)):
+        number, yes = check_call(given, buffer)
+        yield f'summary_check, {said}: {told(number, int(yes))}'
+    for said, given, buffer, crossing in (('the file of 12.1, its summary', data, made, 1400), ('the file of 12.1, its summary', data, made, 70000),
+                                          ('the file of 12.1, its summary', data, made, 7), ('the file of 12.1, no bytes', data, b'', 1400),
+                                          ('that file without its last byte, no bytes', data[:-1], b'', 1400)):
+        number, found = find_call(given, buffer, crossing)
+        yield f'summary_find, {said}, crossing {crossing}: {told(number, int(found is not None), found or 0)}'
+    for said, buffer in (('its summary and 13 bytes behind', made + filled(13)), ('its summary and 12 bytes behind', made + filled(12)), ('52 bytes EE', filled(52))):
+        yield f'summary_update, the file of 12.1, record 0 of 11.2, {said}: returns {update_call(data, record, bytearray(buffer))}'
+
+
 # ---- chapter 11
 
 TWO = [record_of(1400, 3, 2, [bytes([0x10, 0x11, 0x12, 0x20, 0x21, 0x22]), bytes([0x30, 0x31]), bytes([0x40, 0x41])]),
@@ -1626,6 +1698,124 @@ def _():
     mark = b'\xff' * 4
     for said, given in (('FF FF FF FF', mark), ('FF FF FF FF 00 00 00 00', mark + bytes(4)), ('FF FF FF FF and behind it the file of 11.1', mark + file_of(TWO))):
         yield f'{said}: ' + ('15' if records_of(given) is None else 'not 15')
+
+
+# ---- chapter 12
+
+THREE = [record_of(70000, 1, 1, [b'\x50', b'\x60', b'\x70']), TWO[0], record_of(70000, 2, 1, [b'\x80\x83', b'\x60', b'\x70'])]
+
+
+def summary_of(records):
+    """A summary of the file of these records."""
+    buffer = bytearray(13 * len(records))
+    assert build_call(file_of(records), buffer) == 0
+    return bytes(buffer)
+
+
+def entry_lines(data):
+    return [hexes(data[at:at + 13]) for at in range(0, len(data), 13)]
+
+
+@example('12.1')
+def _():
+    data = file_of(THREE)
+    yield f'the file of three records, {len(data)} bytes in hexadecimal:'
+    lines = [(data[:4], f'{len(THREE)} records')]
+    lines += [(data[4 + 12 * k:16 + 12 * k], f'pair {k}: offset {entry.offset}, length {entry.length}') for k, entry in enumerate(entries_of(data))]
+    lines += [(record, f'record {k}: crossing {crossing_in(record)}') for k, record in enumerate(THREE)]
+    lines += [(entry_of(entry, data), f'entry of record {k}: crossing {entry.crossing}, offset {entry.offset}, mean luma {entry_of(entry, data)[12]}')
+              for k, entry in enumerate(entries_of(data))]
+    width = max(len(hexes(part)) for part, _ in lines)
+    for part, said in lines:
+        yield f'{hexes(part):<{width}}   {said}'
+
+
+@example('12.2')
+def _():
+    for w, h, plane in ((1, 1, [80]), (3, 2, [16, 17, 18, 32, 33, 34]), (2, 1, [128, 131]), (2, 2, [0, 0, 0, 3]), (2, 2, [255, 255, 255, 254])):
+        yield f'{w} × {h}, Y {numbers(plane)}: s {sum(plane)}, mean luma {sum(plane) // (w * h)}'
+    most = 255 * 16384 * 16384
+    yield f'16384 × 16384, each byte 255: s {most}, of {most.bit_length()} bits, mean luma {most // (16384 * 16384)}'
+    yield f'the same, the last byte 254: s {most - 1}, mean luma {(most - 1) // (16384 * 16384)}'
+
+
+@example('12.3')
+def _():
+    data = file_of(THREE)
+    zero, one, two = (entry_of(entry, data) for entry in entries_of(data))
+
+    def with_(entry, at, value):
+        return entry[:at] + bytes([value]) + entry[at + 1:]
+    yield 'the file of 12.1; its entries by the number of their record'
+    for said, given in (
+            ('1, 0, 2', one + zero + two), ('1, 2, 0', one + two + zero), ('0, 1, 2, the order of the file', zero + one + two), ('0, 2, 1', zero + two + one),
+            ('1, 0, 0', one + zero + zero), ('1, 0', one + zero), ('1, 0, 2, and 13 bytes behind', one + zero + two + bytes(13)),
+            ('1, 0, 2, the last mean one more', one + zero + with_(two, 12, two[12] + 1)), ('1, 0, 2, the offset of 0 twelve less', one + with_(zero, 4, zero[4] - 12) + two),
+            ('1, 0, 2, the crossing of 1 another', with_(one, 0, 0x79) + zero + two), ('1, 0, 2, the highest byte of an offset not 0', one + zero + with_(two, 11, 1))):
+        number, yes = check_call(data, given)
+        yield f'{said}: ' + ('a summary' if yes else 'none') + (', of which the first 39 bytes are meant' if len(given) > 39 else '')
+    yield f'it has {len(summaries_of(data))} summaries'
+    assert summaries_of(file_of([])) == {b''}
+    yield 'the file without records: no bytes are its summary'
+
+
+@example('12.4')
+def _():
+    yield 'all bytes of the buffer EE before'
+    data = file_of(THREE[:2])
+    for said, given, length in (('the first two records of 12.1', data, 28), ('the first two records of 12.1', data, 26), ('the first two records of 12.1', data, 25),
+                                ('the file without records', file_of([]), 2), ('a file without its last byte', data[:-1], 0)):
+        buffer = filled(length)
+        number = build_call(given, buffer)
+        yield f'{said}, buffer of {length} bytes: {number}' + (f'; the buffer is {hexes(buffer)}' if number == 0 else '')
+    yield f'the file of 12.1, buffer of 39 bytes: {build_call(file_of(THREE), filled(39))}; the buffer is one of {len(summaries_of(file_of(THREE)))} summaries'
+
+
+@example('12.5')
+def _():
+    data, made = file_of(THREE), summary_of(THREE)
+    yield 'the file of 12.1 and a summary of it'
+    for said, given, buffer in (('nothing changed', data, made), ('a byte behind the summary', data, made + b'\0'), ('no last byte of the summary', data, made[:-1]),
+                                ('the last byte of the summary another', data, made[:-1] + bytes([made[-1] ^ 1])),
+                                ('the summary of the first two records', data, summary_of(THREE[:2])),
+                                ('no last byte of the file', data[:-1], made), ('the last byte of the file another, which no rule here is about', data[:-1] + b'\xff', made),
+                                ('the last luma of record 2 three less', data[:-3] + b'\x80' + data[-2:], made), ('the file without records, no summary', file_of([]), b'')):
+        number, yes = check_call(given, buffer)
+        yield f'{said}: {number}, ' + ('yes' if yes else 'no')
+
+
+@example('12.6')
+def _():
+    data, made = file_of(THREE), summary_of(THREE)
+    yield 'the file of 12.1 and a summary of it'
+    for said, given, buffer, crossing in (('', data, made, 1400), ('', data, made, 70000), ('', data, made, 0), ('', data, made, 4294967295),
+                                          ('no last byte of the summary, ', data, made[:-1], 1400), ('entries exchanged, ', data, made[26:] + made[:26], 1400),
+                                          ('no last byte of both, ', data[:-1], made[:-1], 1400)):
+        number, found = find_call(given, buffer, crossing)
+        said_found = '' if number else f', record {found} at byte {entries_of(given)[found].offset}' if found is not None else ', no record'
+        yield f'{said}crossing {crossing}: {number}{said_found}'
+
+
+@example('12.7')
+def _():
+    data, made = file_of(THREE[:2]), summary_of(THREE[:2])
+    yield 'the first two records of 12.1, a summary of their file, and bytes EE behind it'
+    for said, record, buffer in (('the first of 11.2 with crossing 5, buffer of 41 bytes', low_first(5, 4) + TWO[0][4:], made + filled(15)),
+                                 ('the same, buffer of 39 bytes', low_first(5, 4) + TWO[0][4:], made + filled(13)),
+                                 ('the same, buffer of 38 bytes', low_first(5, 4) + TWO[0][4:], made + filled(12)),
+                                 ('a summary with the last byte another', TWO[0], made[:-1] + bytes([made[-1] ^ 1]) + filled(13)),
+                                 ('a record without its last byte, buffer of 0 bytes', TWO[0][:-1], b''), ('no record', b'', made + filled(13)),
+                                 ('two records', TWO[0] + TWO[1], made + filled(26))):
+        buffer = bytearray(buffer)
+        number = update_call(data, record, buffer)
+        yield f'{said}: {number}' + (f'; the buffer is {hexes(buffer)}' if number == 0 else '')
+    buffer = bytearray(made + filled(13))
+    number = update_call(data, THREE[2], buffer)
+    grown = file_of(THREE)
+    assert bytes(buffer) in summaries_of(grown)
+    yield f'record 2 of 12.1: {number}; the buffer is one of the {len(summaries_of(grown))} summaries of the file of 12.1'
+    many = [TWO[1][:4] + record[4:] for record in [TWO[1]] * 4096]
+    yield f'a file of 4096 records, no buffer: {update_call(file_of(many), TWO[1], bytearray())}'
 
 
 # ---- appendix A
