@@ -19,6 +19,7 @@ pub mod refusals;
 pub mod row;
 pub mod settings;
 pub mod shift;
+pub mod summary;
 mod whole;
 mod window;
 
