@@ -10,20 +10,22 @@
  * window (the frame is a rectangle inside a larger source): segvartin_convert_frame_with, segvartin_open_frame_with and
  * segvartin_convert_band_with. How many colours share a luma, in a matrix and range: segvartin_luma_counts. A record of a shift file from planes:
  * segvartin_write_shift_record; a file from records: segvartin_write_shift_file; its records where they stand in it: segvartin_read_shift_file.
- * All only pass numbers on to the library's segvartin_call_ functions below.
+ * The summary of a file, by which the record of a crossing is found: segvartin_build_summary, segvartin_check_summary, segvartin_find_record,
+ * segvartin_update_summary. All only pass numbers on to the library's segvartin_call_ functions below.
  *
- * docs/RULES.md has the rules that fix each byte and each answer; RULES 7.1 below names one of them. The library's seven functions are the
+ * docs/RULES.md has the rules that fix each byte and each answer; RULES 7.1 below names one of them. The library's eleven functions are the
  * calls of its chapter 10.
  *
- * Every function answers finished work (0) or the number of one refusal, and a refusal writes no byte of a plane, of the carried row, of a record
- * or of a file, no entry and no count of colours. This holds for all values of all numbers: sizes, strides, lengths, codes, kr, kb, and all
- * bytes of a file. What no function can check, and the caller must see to:
+ * Every function answers finished work (0) or the number of one refusal, and a refusal writes no byte of a plane, of the carried row, of a record,
+ * of a file or of a summary, no entry and no count of colours. This holds for all values of all numbers: sizes, strides, lengths, codes, kr, kb, and all bytes of a file
+ * and of a summary. What no function can check, and the caller must see to:
  *   - a pointer is not NULL, also where its length is 0, and points to as many bytes as the length beside it says; counts to 256 numbers;
- *   - what a call is lent (source, y, u, v, carried, counts, done, expected, received; records, file, size, count, read) does not overlap.
+ *   - what a call is lent (source, y, u, v, carried, counts, done, expected, received; records, file, size, count, read; summary, record, yes,
+ *     found) does not overlap.
  *
  * The caller's floating-point mode (rounding, denormals, trapped exceptions) does not matter: each call is made in the default mode, and the
  * caller's mode and exception flags are put back as they were. Only SEGVARTIN_FCC and SEGVARTIN_CUSTOM use floats at all; the calls on shift
- * files take the mode as it is.
+ * files and summaries take the mode as it is.
  *
  * Write w, h for width and height; W, H for those of the source, which are w, h where no window says otherwise; c for the bytes of a pixel,
  * 3 (RGB, BGR) or 4; cw for w / 2 rounded up; ch for h in 4:2:2, and for h / 2 rounded up in 4:2:0. Strides are in bytes, from the start of a
@@ -74,13 +76,16 @@ enum { SEGVARTIN_SRGB = 0, SEGVARTIN_REC709 = 1, SEGVARTIN_GAMMA2P2 = 2, SEGVART
 enum { SEGVARTIN_TRUNCATED = 0, SEGVARTIN_NEAREST = 1 };
 
 /*
- * What a call answers (RULES 7.1). Where several conditions hold, the first in the order below is answered: 15, 1, 2, 3, 4, 14, 5, 6 and so on to
- * 13, 16. In parentheses: what *expected and *received get; where nothing stands there, and after finished work, both get 0.
+ * What a call answers (RULES 7.1). Where several conditions hold, the first in the order below is answered: 15, 17, 1, 2, 3, 4, 14, 5, 6 and so on
+ * to 13, 16. In parentheses: what *expected and *received get; where nothing stands there, and after finished work, both get 0.
  */
 enum {
     SEGVARTIN_FINISHED = 0,
-    /* shift files only: the file, or what is to be written, breaks their layout; w or h of a record to be made is not from 1 to 16384 */
+    /* shift files and summaries only: the file, or what is to be written, breaks their layout; w or h of a record to be made is not from 1 to 16384;
+     * a summary is to be updated with what is not one record, or for a file that has 4096 */
     SEGVARTIN_MALFORMED_SHIFT_FILE = 15,
+    /* summaries only: the summary lent is too short; in a lookup or an update also: it is not the file's */
+    SEGVARTIN_SUMMARY_MISMATCH = 17,
     /* a code of channels, sampling, range, matrix, transfer or rounding without a meaning; of segvartin_call_ also another count of numbers */
     SEGVARTIN_MALFORMED_REQUEST = 1,
     /* w or h is 0 */
@@ -118,6 +123,9 @@ enum {
 /* Records of a shift file, at most (RULES 11.1). */
 #define SEGVARTIN_MAX_RECORDS 4096
 
+/* Bytes of an entry of a summary (RULES 12.1). */
+#define SEGVARTIN_SUMMARY_ENTRY 13
+
 /*
  * What the library exports. A program has no need of these: they are what the functions below call. They need the default floating-point
  * mode, MXCSR 0x1f80 but for its exception flags: in another, Fcc and Custom may give other bytes and Custom other answers, and a trapped
@@ -135,8 +143,9 @@ enum {
  *                    the fields of segvartin_shift_record, in their order
  *   told             gets expected, received, and in open and band the rows done: 0, and what they are after the band. shift_records: how many
  *                    records the file has, and how many entries were written. shift_write: the file's size. shift_record: expected, received,
- *                    the record's size
- *   the others       as below; numbers, custom, entries and told overlap nothing either. The three shift_ calls need no mode
+ *                    the record's size. summary_check: 1 for yes, 0 for no. summary_find: 1 and the record's number, from 0; or 0 and 0
+ *   the others       as below; numbers, custom, entries and told overlap nothing either. The three shift_ calls and the four summary_ calls need
+ *                    no mode
  */
 /* Made by tools/declarations.py from the library's source: change that, and run it. */
 uint32_t segvartin_call_frame(const uint32_t *numbers, size_t numbers_len, const float custom[2], const uint8_t *source, size_t source_len,
@@ -158,6 +167,16 @@ uint32_t segvartin_call_shift_write(const uint8_t *records, size_t records_len, 
 
 uint32_t segvartin_call_shift_record(const uint32_t numbers[6], const uint8_t *y, size_t y_len, const uint8_t *u, size_t u_len,
                                      const uint8_t *v, size_t v_len, uint8_t *record, size_t record_len, size_t told[3]);
+
+uint32_t segvartin_call_summary_build(const uint8_t *file, size_t file_len, uint8_t *summary, size_t summary_len);
+
+uint32_t segvartin_call_summary_check(const uint8_t *file, size_t file_len, const uint8_t *summary, size_t summary_len, size_t told[1]);
+
+uint32_t segvartin_call_summary_find(const uint8_t *file, size_t file_len, const uint8_t *summary, size_t summary_len, uint32_t crossing,
+                                     size_t told[2]);
+
+uint32_t segvartin_call_summary_update(const uint8_t *file, size_t file_len, const uint8_t *added, size_t added_len, uint8_t *summary,
+                                       size_t summary_len);
 /* End of what tools/declarations.py makes. */
 
 /* MXCSR: the floating-point mode and the exception flags. */
@@ -618,6 +637,82 @@ static inline segvartin_answer segvartin_write_shift_record(uint32_t crossing, c
     a.expected = told[0];
     a.received = told[1];
     *size = told[2];
+    return a;
+}
+
+/*
+ * Summaries of shift files (RULES 12.1 to 12.7). A summary has an entry of SEGVARTIN_SUMMARY_ENTRY bytes for each record of its file: crossing
+ * number (4 bytes), offset of the record in the file (8), the mean of its Y rounded down (1), each low byte first. They stand by ascending crossing
+ * number; entries of one crossing may stand in any order among themselves. So a file of n records has a summary of 13 * n bytes. Where a call is lent
+ * more, the bytes behind these are not looked at.
+ *
+ * Each of the four calls goes through the Y planes of all records of the file, for their means.
+ */
+
+/*
+ * Builds the summary of a shift file (RULES 12.4). Answers 0, or a refusal: 15, 17.
+ *
+ *   file             the whole file, and nothing behind it
+ *   summary          gets a summary at its start, 13 bytes a record; what lies past it is left as it is. 17 where it does not fit
+ */
+static inline segvartin_answer segvartin_build_summary(segvartin_bytes file, segvartin_bytes_mut summary) {
+    segvartin_answer a;
+    a.number = segvartin_call_summary_build(file.at, file.len, summary.at, summary.len);
+    a.expected = a.received = 0;
+    return a;
+}
+
+/*
+ * Checks a summary (RULES 12.5). Answers 0, or a refusal: 15.
+ *
+ *   file             the whole file, and nothing behind it
+ *   summary          what may be its summary, at its start
+ *   yes              gets 1 where it is, exactly; else 0, so where it is too short, and after a refusal
+ */
+static inline segvartin_answer segvartin_check_summary(segvartin_bytes file, segvartin_bytes summary, int *yes) {
+    size_t told[1];
+    segvartin_answer a;
+    a.number = segvartin_call_summary_check(file.at, file.len, summary.at, summary.len, told);
+    a.expected = a.received = 0;
+    *yes = told[0] != 0;
+    return a;
+}
+
+/*
+ * Finds the record of a crossing, the first in the file where there are several (RULES 12.6). Answers 0, or a refusal: 15, 17. The summary is checked
+ * first.
+ *
+ *   file             the whole file, and nothing behind it
+ *   summary          its summary; 17 where the check above would not say yes
+ *   crossing         any number
+ *   record           gets the record, as segvartin_read_shift_file tells it: segvartin_shift_y and the others cut its planes out of the file. Where none
+ *                    is found it is left as it is
+ *   found            gets 1 where a record has the number; else 0, and after a refusal
+ */
+static inline segvartin_answer segvartin_find_record(segvartin_bytes file, segvartin_bytes summary, uint32_t crossing,
+                                                     segvartin_shift_record *record, int *found) {
+    size_t told[2], count, read;
+    segvartin_answer a;
+    a.number = segvartin_call_summary_find(file.at, file.len, summary.at, summary.len, crossing, told);
+    a.expected = a.received = 0;
+    *found = told[0] != 0;
+    if (*found) segvartin_read_shift_file(file, told[1], record, 1, &count, &read);
+    return a;
+}
+
+/*
+ * Makes of a file's summary that of the file with one record more at its end (RULES 12.7), which is then to be written by
+ * segvartin_write_shift_file. Answers 0, or a refusal: 15, 17. The summary is checked first.
+ *
+ *   file             the file as it is, without the record; it is not changed
+ *   record           one whole record. 15 where it is none, or more; and where the file has 4096 already
+ *   summary          the file's summary, and room for 13 bytes more: for n records n + 1 entries are written at its start, the offsets of the old ones
+ *                    being those of the file with the record. What lies past them is left as it is. 17 where they do not fit
+ */
+static inline segvartin_answer segvartin_update_summary(segvartin_bytes file, segvartin_bytes record, segvartin_bytes_mut summary) {
+    segvartin_answer a;
+    a.number = segvartin_call_summary_update(file.at, file.len, record.at, record.len, summary.at, summary.len);
+    a.expected = a.received = 0;
     return a;
 }
 

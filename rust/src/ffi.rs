@@ -78,4 +78,37 @@ unsafe extern "C" {
         record_len: usize,
         told: &mut [usize; 3],
     ) -> u32;
+
+    pub(crate) fn segvartin_call_summary_build(
+        file: *const u8,
+        file_len: usize,
+        summary: *mut u8,
+        summary_len: usize,
+    ) -> u32;
+
+    pub(crate) fn segvartin_call_summary_check(
+        file: *const u8,
+        file_len: usize,
+        summary: *const u8,
+        summary_len: usize,
+        told: &mut [usize; 1],
+    ) -> u32;
+
+    pub(crate) fn segvartin_call_summary_find(
+        file: *const u8,
+        file_len: usize,
+        summary: *const u8,
+        summary_len: usize,
+        crossing: u32,
+        told: &mut [usize; 2],
+    ) -> u32;
+
+    pub(crate) fn segvartin_call_summary_update(
+        file: *const u8,
+        file_len: usize,
+        added: *const u8,
+        added_len: usize,
+        summary: *mut u8,
+        summary_len: usize,
+    ) -> u32;
 }
