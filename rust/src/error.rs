@@ -15,8 +15,11 @@ pub struct MismatchedSize {
 #[derive(Debug, Copy, Clone, Eq, PartialEq)]
 #[non_exhaustive]
 pub enum YuvError {
-    /// 15: a shift file, or what is to be written, breaks the layout; or a record's width or height is not from 1 to 16,384.
+    /// 15: a shift file, or what is to be written, breaks the layout; or a record's width or height is not from 1 to 16,384; or a summary is to be
+    /// updated with what is not one record, or for a file that has 4,096.
     MalformedShiftFile,
+    /// 17: the memory lent for a summary is too short; or, in a lookup or an update, it is not the file's summary.
+    SummaryMismatch,
     /// 1: a setting without a meaning. The enums of this crate have none, so no call here answers it.
     MalformedRequest,
     /// 2: width or height is 0.
@@ -55,6 +58,7 @@ impl YuvError {
     pub fn number(&self) -> u32 {
         match self {
             YuvError::MalformedShiftFile => 15,
+            YuvError::SummaryMismatch => 17,
             YuvError::MalformedRequest => 1,
             YuvError::ZeroBaseSize => 2,
             YuvError::SizeTooLarge => 3,
@@ -78,6 +82,7 @@ impl YuvError {
     pub fn size(&self) -> Option<MismatchedSize> {
         match *self {
             YuvError::MalformedShiftFile
+            | YuvError::SummaryMismatch
             | YuvError::MalformedRequest
             | YuvError::ZeroBaseSize
             | YuvError::SizeTooLarge
@@ -102,6 +107,7 @@ impl YuvError {
         Err(match number {
             0 => return Ok(()),
             15 => YuvError::MalformedShiftFile,
+            17 => YuvError::SummaryMismatch,
             2 => YuvError::ZeroBaseSize,
             3 => YuvError::SizeTooLarge,
             4 => YuvError::MatrixNotAccepted,
@@ -125,6 +131,7 @@ impl Display for YuvError {
     fn fmt(&self, f: &mut Formatter<'_>) -> std::fmt::Result {
         let what = match self {
             YuvError::MalformedShiftFile => "the layout of a shift file is broken",
+            YuvError::SummaryMismatch => "the summary is too short, or not the shift file's",
             YuvError::MalformedRequest => "a setting has no meaning",
             YuvError::ZeroBaseSize => "width or height is 0",
             YuvError::SizeTooLarge => {

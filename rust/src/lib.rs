@@ -1,10 +1,10 @@
 //! RGB frames to planar YUV 4:2:0 and 4:2:2 over the proved library, under the names and with the argument order of yuvutils-rs's sharp path; and
-//! [shift files](ShiftFile), which hold the planes of many frames.
+//! [shift files](ShiftFile), which hold the planes of many frames, with [summaries](ShiftFile::build_summary) by which a frame is found in one.
 //!
 //! Every call answers finished work or one numbered refusal ([`YuvError`]), for all sizes, strides, lengths and settings; a refusal writes no
 //! byte. The rules that fix each byte and each answer are docs/RULES.md of the repository; RULES 7.1 in a comment is one of them.
 //!
-//! No frame or band call panics, and neither does [`luma_counts`], which tells how many colours share a luma, nor a call on shift files.
+//! No frame or band call panics, and neither does [`luma_counts`], which tells how many colours share a luma, nor a call on shift files or summaries.
 //! [`YuvPlanarImageMut::alloc`] makes the planes as [`Vec`]s, and ends as those do where memory does not suffice.
 //!
 //! The caller's floating-point mode (rounding, denormals, trapped exceptions) does not matter: each call is made in the default mode, and the
@@ -28,6 +28,7 @@ mod image;
 mod mode;
 mod settings;
 mod shift;
+mod summary;
 
 pub use bands::{FrameState, FrameStateWith};
 pub use counts::luma_counts;
@@ -42,3 +43,4 @@ pub use shift::{
     ShiftFile, ShiftRecord, ShiftRecords, shift_file_size, shift_record, shift_record_size,
     write_shift_file,
 };
+pub use summary::SUMMARY_ENTRY;
