@@ -30,6 +30,11 @@ pub trait Case: Clone {
         None
     }
 
+    /// What is told beside an accepted answer, where that is to be counted.
+    fn told(&self) -> Option<&'static str> {
+        None
+    }
+
     /// Whether the frame is not all of its source.
     fn is_inside(&self) -> bool {
         false

@@ -3,6 +3,7 @@
 //! has no such refusal.
 
 use crate::request::{BandRequest, FrameRequest, Lent, Shape};
+use crate::summary::{Ask, ENTRY};
 use model::shift::RecordRequest;
 use model::{Answer, FrameState, Refusal, Settings, Window, YuvStandardMatrix};
 
@@ -10,7 +11,7 @@ use model::{Answer, FrameState, Refusal, Settings, Window, YuvStandardMatrix};
 type Condition = (u8, bool, u128, u128);
 
 /// The order in which they are asked.
-const ORDER: [u8; 16] = [15, 1, 2, 3, 4, 14, 5, 6, 7, 8, 9, 10, 11, 12, 13, 16];
+const ORDER: [u8; 17] = [15, 17, 1, 2, 3, 4, 14, 5, 6, 7, 8, 9, 10, 11, 12, 13, 16];
 
 /// A mistake in a condition that a window brings, so that a list of calls can be held to catch it.
 #[derive(Clone, Copy, PartialEq)]
@@ -208,6 +209,19 @@ pub fn of_shift_record(
     let answer = first(Without, all);
     let told = matches!(answer, Ok(()) | Err(Refusal { number: 16, .. }));
     (answer, if told { size } else { 0 })
+}
+
+/// RULES 12.4 to 12.7, of a file that is one: how many records there are, those that an update adds
+/// among them; how many it adds; and whether the check says yes.
+pub fn of_summary(ask: &Ask, records: usize, added: usize, yes: bool, buffer: &[u8]) -> Answer {
+    let short = buffer.len() < ENTRY * records;
+    let (broken, mismatch) = match ask {
+        Ask::Build => (false, short),
+        Ask::Check => (false, false),
+        Ask::Find(_) => (false, !yes),
+        Ask::Update(_) => (added != 1 || records > 4_096, short || !yes),
+    };
+    first(Without, vec![(17, mismatch, 0, 0), (15, broken, 0, 0)])
 }
 
 /// 8 to 12 of planes that come without a source.

@@ -47,7 +47,7 @@ pub trait Converter {
         None
     }
 
-    /// Whether it has the three calls on shift files.
+    /// Whether it has the three calls on shift files, and the four on summaries.
     fn has_shift_files(&self) -> bool {
         false
     }
@@ -70,6 +70,26 @@ pub trait Converter {
         _planes: &[Vec<u8>; 3],
         _output: &mut [u8],
     ) -> (Answer, u64) {
+        unreachable!("has_shift_files() says so")
+    }
+
+    /// Builds the summary of a shift file.
+    fn summary_build(&self, _file: &[u8], _buffer: &mut [u8]) -> Answer {
+        unreachable!("has_shift_files() says so")
+    }
+
+    /// Checks a summary: the answer, and whether it says yes.
+    fn summary_check(&self, _file: &[u8], _buffer: &[u8]) -> (Answer, bool) {
+        unreachable!("has_shift_files() says so")
+    }
+
+    /// Looks a crossing up: the answer, and the record's number where there is one.
+    fn summary_find(&self, _file: &[u8], _buffer: &[u8], _crossing: u32) -> (Answer, Option<u64>) {
+        unreachable!("has_shift_files() says so")
+    }
+
+    /// Updates a summary with a record.
+    fn summary_update(&self, _file: &[u8], _record: &[u8], _buffer: &mut [u8]) -> Answer {
         unreachable!("has_shift_files() says so")
     }
 }
@@ -153,6 +173,22 @@ impl Converter for Model {
         output: &mut [u8],
     ) -> (Answer, u64) {
         model::shift::write_shift_record(request, y, u, v, output)
+    }
+
+    fn summary_build(&self, file: &[u8], buffer: &mut [u8]) -> Answer {
+        model::summary::build_summary(file, buffer)
+    }
+
+    fn summary_check(&self, file: &[u8], buffer: &[u8]) -> (Answer, bool) {
+        model::summary::check_summary(file, buffer)
+    }
+
+    fn summary_find(&self, file: &[u8], buffer: &[u8], crossing: u32) -> (Answer, Option<u64>) {
+        model::summary::find_record(file, buffer, crossing)
+    }
+
+    fn summary_update(&self, file: &[u8], record: &[u8], buffer: &mut [u8]) -> Answer {
+        model::summary::update_summary(file, record, buffer)
     }
 }
 

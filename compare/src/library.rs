@@ -213,6 +213,104 @@ impl Converter for Library {
         assert!(copy == output, "the crate leaves other bytes");
         (answer, size as u64)
     }
+
+    /// By its numbers, and then by the crate on a copy, which must come out the same.
+    fn summary_build(&self, file: &[u8], buffer: &mut [u8]) -> Answer {
+        let mut copy = buffer.to_vec();
+        // SAFETY: as above.
+        let number = unsafe {
+            segvartin_call_summary_build(
+                file.as_ptr(),
+                file.len(),
+                buffer.as_mut_ptr(),
+                buffer.len(),
+            )
+        };
+        let answer = answered(number, [0, 0]);
+        let built = ShiftFile::open(file).and_then(|file| file.build_summary(&mut copy));
+        let size = ShiftFile::open(file).map_or(0, |file| 13 * file.len());
+        assert_eq!(built.map_err(refusal), answer.map(|()| size));
+        assert!(copy == buffer, "the crate leaves other bytes");
+        answer
+    }
+
+    /// By its numbers, and then by the crate.
+    fn summary_check(&self, file: &[u8], buffer: &[u8]) -> (Answer, bool) {
+        let mut told = [7; 1];
+        // SAFETY: as above.
+        let number = unsafe {
+            segvartin_call_summary_check(
+                file.as_ptr(),
+                file.len(),
+                buffer.as_ptr(),
+                buffer.len(),
+                &mut told,
+            )
+        };
+        let answer = answered(number, [0, 0]);
+        assert!(told[0] < 2, "neither yes nor no");
+        let yes = told[0] == 1;
+        let checked = ShiftFile::open(file).map(|file| file.check_summary(buffer));
+        assert_eq!(checked.map_err(refusal), answer.map(|()| yes));
+        (answer, yes)
+    }
+
+    /// By its numbers, and then by the crate, which must have the record at its place in the file.
+    fn summary_find(&self, file: &[u8], buffer: &[u8], crossing: u32) -> (Answer, Option<u64>) {
+        let mut told = [7; 2];
+        // SAFETY: as above.
+        let number = unsafe {
+            segvartin_call_summary_find(
+                file.as_ptr(),
+                file.len(),
+                buffer.as_ptr(),
+                buffer.len(),
+                crossing,
+                &mut told,
+            )
+        };
+        let answer = answered(number, [0, 0]);
+        let found = match told {
+            [0, 0] => None,
+            [1, k] => Some(k),
+            _ => panic!("told {told:?}"),
+        };
+        let opened = ShiftFile::open(file);
+        let record = (opened).and_then(|file| file.find_record(buffer, crossing));
+        let should = (opened).map(|file| found.and_then(|k| file.record(k)));
+        assert_eq!(
+            record.is_ok(),
+            answer.is_ok(),
+            "the crate answers otherwise"
+        );
+        match record {
+            Ok(record) => assert_eq!(Ok(record), should, "the crate finds another record"),
+            Err(error) => assert_eq!(Err(refusal(error)), answer),
+        }
+        (answer, found.map(|k| k as u64))
+    }
+
+    /// By its numbers, and then by the crate on a copy, which must come out the same.
+    fn summary_update(&self, file: &[u8], record: &[u8], buffer: &mut [u8]) -> Answer {
+        let mut copy = buffer.to_vec();
+        // SAFETY: as above.
+        let number = unsafe {
+            segvartin_call_summary_update(
+                file.as_ptr(),
+                file.len(),
+                record.as_ptr(),
+                record.len(),
+                buffer.as_mut_ptr(),
+                buffer.len(),
+            )
+        };
+        let answer = answered(number, [0, 0]);
+        let updated = ShiftFile::open(file).and_then(|file| file.update_summary(record, &mut copy));
+        let size = ShiftFile::open(file).map_or(0, |file| 13 * (file.len() + 1));
+        assert_eq!(updated.map_err(refusal), answer.map(|()| size));
+        assert!(copy == buffer, "the crate leaves other bytes");
+        answer
+    }
 }
 
 /// The answer of an exported call.
@@ -243,6 +341,39 @@ fn equal_records(file: &[u8], record: &segvartin::ShiftRecord, numbers: &[u64]) 
 // By its numbers, so that those without a meaning can be handed to it too. The mode of the
 // floating-point unit is the default one here.
 unsafe extern "C" {
+    fn segvartin_call_summary_build(
+        file: *const u8,
+        file_len: usize,
+        summary: *mut u8,
+        summary_len: usize,
+    ) -> u32;
+
+    fn segvartin_call_summary_check(
+        file: *const u8,
+        file_len: usize,
+        summary: *const u8,
+        summary_len: usize,
+        told: &mut [usize; 1],
+    ) -> u32;
+
+    fn segvartin_call_summary_find(
+        file: *const u8,
+        file_len: usize,
+        summary: *const u8,
+        summary_len: usize,
+        crossing: u32,
+        told: &mut [usize; 2],
+    ) -> u32;
+
+    fn segvartin_call_summary_update(
+        file: *const u8,
+        file_len: usize,
+        added: *const u8,
+        added_len: usize,
+        summary: *mut u8,
+        summary_len: usize,
+    ) -> u32;
+
     fn segvartin_call_shift_records(
         file: *const u8,
         file_len: usize,

@@ -19,6 +19,7 @@ mod shift;
 mod shifts;
 mod smaller;
 mod stored;
+mod summary;
 mod vectors;
 mod worked;
 
@@ -33,6 +34,7 @@ use std::path::Path;
 use std::process::exit;
 use std::sync::atomic::Ordering;
 use std::time::Instant;
+use summary::Summing;
 
 const USAGE: &str = "compare [--quick] [OPTION NUMBER]..
 compare --vectors ROOT | --check ROOT | --mistakes | --flat
@@ -51,6 +53,9 @@ compare --vectors ROOT | --check ROOT | --mistakes | --flat
   --shifts N     shift files that are read, good and broken (100000); a half as many lists of records that are
                  written, a fifth as many records made from planes, a hundredth as many lists of frames that are
                  converted, made records, written and read back
+  --summaries N  summaries of shift files that are built, as many that are checked, looked up and updated (100000
+                 each), good and damaged ones, of good files and broken ones; a thousandth as many of files that
+                 have 4,094 to 4,096 records, updated
   --side N       sizes to N by N (64); some are 1,920 by 1,080, some up to 16,384 long and thin;
                  four of five lie in a source that is larger by up to 18 each way, or all it may be
   --seed N       seed of all of these (1)
@@ -88,6 +93,7 @@ struct Options {
     tables: u64,
     counts: u64,
     shifts: u64,
+    summaries: u64,
     side: u64,
     seed: u64,
     list: u64,
@@ -105,6 +111,7 @@ fn options() -> Option<Options> {
         tables: 12,
         counts: 200,
         shifts: 100_000,
+        summaries: 100_000,
         side: 64,
         seed: 1,
         list: 0,
@@ -123,6 +130,7 @@ fn options() -> Option<Options> {
                 options.tables = 2;
                 options.counts /= 10;
                 options.shifts /= 10;
+                options.summaries /= 10;
                 continue;
             }
             "--frames" => &mut options.frames,
@@ -135,6 +143,7 @@ fn options() -> Option<Options> {
             "--tables" => &mut options.tables,
             "--counts" => &mut options.counts,
             "--shifts" => &mut options.shifts,
+            "--summaries" => &mut options.summaries,
             "--side" => &mut options.side,
             "--seed" => &mut options.seed,
             "--list" => &mut options.list,
@@ -207,6 +216,7 @@ fn main() {
         println!("target/bin/{COUNTING} is not here: it was run on no input");
     }
     shifts(&options, &converters);
+    summaries(&options, &converters);
     let input = |case| random::input(&mut Random::new(seed, 4, case), side);
     let grey_input = |case| GreyInput::random(&mut Random::new(seed, 13, case));
     compare("program inputs", options.programs, &converters, input);
@@ -241,6 +251,23 @@ fn shifts(options: &Options, converters: &Converters) {
     compare(kind, files / 100, converters, |case| {
         Shift::random(&mut Random::new(seed, 17, case), side)
     });
+}
+
+/// Summaries of shift files: built, checked, looked up and updated.
+fn summaries(options: &Options, converters: &Converters) {
+    let (seed, files) = (options.seed, options.summaries);
+    type Make = fn(&mut Random) -> Summing;
+    for (kind, stream, files, make) in [
+        ("summaries built", 18, files, Summing::build as Make),
+        ("summaries checked", 19, files, Summing::check),
+        ("records found by crossing", 21, files, Summing::find),
+        ("summaries updated", 22, files, Summing::update),
+        ("summaries of full files", 23, files / 1_000, summary::full),
+    ] {
+        compare(kind, files, converters, |case| {
+            make(&mut Random::new(seed, stream, case))
+        });
+    }
 }
 
 /// The program that counts colours.
@@ -302,6 +329,7 @@ fn compare<C: Case>(kind: &str, cases: u64, converters: &Converters, make: impl 
     let start = Instant::now();
     let mut answers: BTreeMap<u8, u64> = BTreeMap::new();
     let mut combinations = BTreeSet::new();
+    let mut told: BTreeMap<&str, u64> = BTreeMap::new();
     let (mut large, mut long, mut inside) = (0, 0, 0);
     for case in 0..cases {
         let request = make(case);
@@ -309,6 +337,9 @@ fn compare<C: Case>(kind: &str, cases: u64, converters: &Converters, make: impl 
             Ok(number) => {
                 *answers.entry(number).or_default() += 1;
                 combinations.extend(request.combination().filter(|_| number == 0));
+                if let Some(said) = request.told() {
+                    *told.entry(said).or_default() += 1;
+                }
                 let (w, h) = request.size().filter(|_| number == 0).unwrap_or((0, 0));
                 large += u64::from((w, h) == (1_920, 1_080));
                 long += u64::from(w.max(h) == 16_384);
@@ -329,6 +360,10 @@ fn compare<C: Case>(kind: &str, cases: u64, converters: &Converters, make: impl 
         text += &format!(
             " ({combinations} of 3584 combinations, {large} of 1920 by 1080, {long} with a side of 16384)"
         );
+    }
+    if !told.is_empty() {
+        let told = told.iter().map(|(said, count)| format!("{said}: {count}"));
+        text += &format!(" ({})", told.collect::<Vec<_>>().join(", "));
     }
     if inside > 0 {
         text += &format!(", {inside} of them inside a larger source");

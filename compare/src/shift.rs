@@ -26,12 +26,12 @@ fn number(answer: &Answer) -> u8 {
 }
 
 /// Those that have the calls.
-fn having(converters: &Converters) -> impl Iterator<Item = &dyn Converter> {
+pub fn having(converters: &Converters) -> impl Iterator<Item = &dyn Converter> {
     let having = converters.iter().filter(|one| one.has_shift_files());
     having.map(|converter| &**converter)
 }
 
-fn equal<T: PartialEq + std::fmt::Debug>(
+pub fn equal<T: PartialEq + std::fmt::Debug>(
     name: &str,
     what: &str,
     is: T,
@@ -44,7 +44,7 @@ fn equal<T: PartialEq + std::fmt::Debug>(
 }
 
 /// What is lent for writing, with other values around it.
-fn around<T: Copy + PartialEq, R>(
+pub fn around<T: Copy + PartialEq, R>(
     name: &str,
     values: &[T],
     other: T,
@@ -172,7 +172,7 @@ impl Case for Reading {
 }
 
 /// The same bytes without some of them, half, and fewer and fewer.
-fn fewer(bytes: &[u8]) -> Vec<Vec<u8>> {
+pub fn fewer(bytes: &[u8]) -> Vec<Vec<u8>> {
     let mut all = Vec::new();
     let mut size = bytes.len() / 2;
     while size > 0 {
@@ -482,7 +482,7 @@ fn chroma_of(w: u16, h: u16) -> u64 {
     u64::from(w).div_ceil(2) * u64::from(h).div_ceil(2)
 }
 
-fn good_record(random: &mut Random, side: u32) -> Vec<u8> {
+pub fn good_record(random: &mut Random, side: u32) -> Vec<u8> {
     let mut side = || match random.below(4) {
         0 => 1,
         _ => random.from(1, side) as u16,
@@ -492,7 +492,7 @@ fn good_record(random: &mut Random, side: u32) -> Vec<u8> {
 }
 
 /// Often few, now and then many or all that there may be, and then small.
-fn good_records(random: &mut Random) -> Vec<Vec<u8>> {
+pub fn good_records(random: &mut Random) -> Vec<Vec<u8>> {
     if random.one_in(500) {
         let count = random.pick(&[MOST - 1, MOST]);
         return (0..count).map(|_| good_record(random, 1)).collect();
@@ -510,7 +510,7 @@ fn good_records(random: &mut Random) -> Vec<Vec<u8>> {
     (0..count).map(|_| good_record(random, side)).collect()
 }
 
-fn file_of(records: &[Vec<u8>]) -> Vec<u8> {
+pub fn file_of(records: &[Vec<u8>]) -> Vec<u8> {
     let records: Vec<&[u8]> = records.iter().map(Vec::as_slice).collect();
     conditions::file_of(&records)
 }
@@ -823,7 +823,7 @@ fn mutate(random: &mut Random, file: &mut Vec<u8>) {
 }
 
 /// A good file, one with one to three changes, one with a slip, or any bytes.
-fn any_file(random: &mut Random) -> Vec<u8> {
+pub fn any_file(random: &mut Random) -> Vec<u8> {
     match random.below(20) {
         0..=4 => file_of(&good_records(random)),
         5..=8 => {
