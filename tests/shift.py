@@ -1,5 +1,5 @@
 #!/usr/bin/env python3
-"""Shift files by a writer in Python, against the library: what it lists of them, and what it writes of the same records.
+"""Shift files by a writer in Python, against the library: what it lists of them, what it writes of the same records, and their summaries.
 
     tests/shift.py SHIFT OUT [WORDS..]     SHIFT is examples/c/shift.c, built; OUT a folder for the files; it is run under WORDS
 
@@ -53,6 +53,25 @@ def listing(sizes):
     return text
 
 
+def entry(crossing, offset, w, h, planes):
+    return struct.pack('<IQB', crossing, offset, sum(planes[:w * h]) // (w * h))
+
+
+def summary(sizes, records):
+    """The entries by crossing number, those of one crossing in the order of the file."""
+    offset, entries = 4 + 12 * len(sizes), []
+    for (crossing, w, h), data in zip(sizes, records):
+        entries.append((crossing, entry(crossing, offset, w, h, data[8:])))
+        offset += len(data)
+    return [data for _, data in sorted(entries, key=lambda one: one[0])]
+
+
+def found(sizes, crossing):
+    """What is printed of the first record of a crossing."""
+    lines = [line.split(': ', 1)[1] + '\n' for line in listing(sizes).splitlines()]
+    return next((line for line, size in zip(lines, sizes) if size[0] == crossing), 'none\n')
+
+
 # ---- the comparison
 
 runs = 0
@@ -90,6 +109,32 @@ def packs(name, records, data):
         expect(text == '' and made.read_bytes() == data, f'{name}: packed otherwise')
 
 
+def same(made, entries):
+    """Whether these bytes are these entries, those of one crossing in any order among themselves."""
+    crossing = struct.Struct('<I').unpack_from
+    parts = [made[at:at + 13] for at in range(0, len(made), 13)]
+    return sorted(parts) == sorted(entries) and [crossing(one) for one in parts] == [crossing(one) for one in entries]
+
+
+def sums(name, sizes, records):
+    """A summary made, each crossing found in it, and it brought up to date with the last record."""
+    path, made, last = OUT / 'python.shift', OUT / 'made.summary', OUT / 'last.record'
+    path.write_bytes(shift_file(records))
+    made.unlink(missing_ok=True)
+    expect(said('sum', path, made) == '' and same(made.read_bytes(), summary(sizes, records)), f'{name}: another summary')
+    for crossing in [0, 1, 4294967295, *[size[0] for size in sizes[:3]]]:
+        expect(said('find', path, made, str(crossing)) == found(sizes, crossing), f'{name}: crossing {crossing} found otherwise')
+    if made.stat().st_size:
+        path.write_bytes(shift_file(records[:-1]))
+        expect(said('find', path, made, '0') == ('refused 17\n' if len(records) > 1 else 'none\n'), f'{name}: the summary of another file')
+        expect(said('sum', path, made) == '', f'{name}: no summary of fewer records')
+        last.write_bytes(records[-1])
+        expect(said('add', path, made, last) == '' and same(made.read_bytes(), summary(sizes, records)), f'{name}: brought up to date otherwise')
+    if len(records) == 4096:
+        path.write_bytes(shift_file(records))
+        expect(said('add', path, made, last) == 'refused 15\n', f'{name}: one record too many is not refused')
+
+
 def some(numbers, count, side):
     sizes = [(numbers.randrange(1 << 32), numbers.randint(1, side), numbers.randint(1, side)) for _ in range(count)]
     return sizes, [record(crossing, w, h, numbers.randbytes(record_size(w, h) - 8)) for crossing, w, h in sizes]
@@ -103,6 +148,9 @@ def main():
         data = shift_file(records)
         lists(f'{count} records', data, listing(sizes))
         packs(f'{count} records', b''.join(records), data)
+        sums(f'{count} records', sizes, records)
+        few = [(one[0] % 3, *one[1:]) for one in sizes]
+        sums(f'{count} records of three crossings', few, [struct.pack('<I', one[0]) + data[4:] for one, data in zip(few, records)])
     sizes, records = some(numbers, 4097, 1)
     lists('4097 records', shift_file(records), 'refused 15\n')
     packs('4097 records', b''.join(records), None)
@@ -131,7 +179,7 @@ def main():
         file.write(struct.pack('<Q', (len(start) + sum(lengths[:11])) % (1 << 32)))
     expect(said('list', path) == 'refused 15\n', 'an offset of 32 bits: not refused')
     path.unlink()
-    print(f'shift.py: {runs} files listed or packed')
+    print(f'shift.py: {runs} runs: files listed and packed, summaries made, looked up and brought up to date')
 
 
 main()

@@ -1,10 +1,14 @@
 /*
- * Lists a shift file, or makes one of records (RULES 11.1, 11.2).
+ * Lists a shift file, makes one of records (RULES 11.1, 11.2), or finds the record of a crossing by the file's summary (RULES 12.1 to 12.7).
  *
- *     shift list FILE             a line for each record: its number, crossing, size, where it and its Y, U and V start, and its length
- *     shift pack RECORDS FILE     RECORDS has records, one behind the other: FILE, which must not be there yet, becomes their shift file
+ *     shift list FILE                  a line for each record: its number, crossing, size, where it and its Y, U and V start, and its length
+ *     shift pack RECORDS FILE          RECORDS has records, one behind the other: FILE becomes the shift file of them
+ *     shift sum FILE SUMMARY           SUMMARY becomes a summary of FILE
+ *     shift find FILE SUMMARY NUMBER   the record of this crossing, the first if several; or "none"
+ *     shift add FILE SUMMARY RECORD    SUMMARY becomes a summary of FILE with RECORD at its end; FILE is not changed
  *
- * The file is read on a memory map, so it may be larger than memory; of its planes nothing is read.
+ * The file is read on a memory map, so it may be larger than memory. To list it nothing is read of its planes, and for the means of its summary the Y
+ * planes are.
  */
 #define _DEFAULT_SOURCE
 #include "segvartin.h"
@@ -12,6 +16,7 @@
 #include <fcntl.h>
 #include <inttypes.h>
 #include <stdio.h>
+#include <stdlib.h>
 #include <string.h>
 #include <sys/mman.h>
 #include <sys/stat.h>
@@ -42,15 +47,19 @@ static segvartin_bytes mapped(const char *name) {
     return bytes;
 }
 
+static void print_record(const segvartin_shift_record *r) {
+    printf("crossing %" PRIu64 ", %" PRIu64 " x %" PRIu64 ", at %" PRIu64 ", Y %" PRIu64 ", U %" PRIu64 ", V %" PRIu64 ", %" PRIu64 " bytes\n", r->crossing,
+           r->width, r->height, r->offset, r->y_offset, r->u_offset, r->v_offset, r->length);
+}
+
 static int list(segvartin_bytes file) {
     static segvartin_shift_record records[SEGVARTIN_MAX_RECORDS]; /* all of a file at once */
     size_t count, read;
     segvartin_answer a = segvartin_read_shift_file(file, 0, records, SEGVARTIN_MAX_RECORDS, &count, &read);
     if (a.number != SEGVARTIN_FINISHED) return refused(a);
     for (size_t k = 0; k < read; k++) {
-        const segvartin_shift_record *r = records + k;
-        printf("%zu: crossing %" PRIu64 ", %" PRIu64 " x %" PRIu64 ", at %" PRIu64 ", Y %" PRIu64 ", U %" PRIu64 ", V %" PRIu64 ", %" PRIu64 " bytes\n",
-               k, r->crossing, r->width, r->height, r->offset, r->y_offset, r->u_offset, r->v_offset, r->length);
+        printf("%zu: ", k);
+        print_record(records + k);
     }
     return 0;
 }
@@ -71,10 +80,63 @@ static int pack(segvartin_bytes records, const char *name) {
     return a.number == SEGVARTIN_FINISHED ? 0 : refused(a);
 }
 
+/* Room for the summary of any file, and so many bytes of it. */
+static uint8_t summary_bytes[SEGVARTIN_SUMMARY_ENTRY * SEGVARTIN_MAX_RECORDS];
+
+static int write_summary(const char *name, size_t count) {
+    FILE *out = fopen(name, "wb");
+    size_t size = SEGVARTIN_SUMMARY_ENTRY * count;
+    if (out == NULL || fwrite(summary_bytes, 1, size, out) != size || fclose(out) != 0) return fail("cannot write the summary");
+    return 0;
+}
+
+static int sum(segvartin_bytes file, const char *name) {
+    segvartin_bytes_mut summary = {summary_bytes, sizeof summary_bytes};
+    segvartin_shift_record none;
+    size_t count, read;
+    segvartin_answer a = segvartin_build_summary(file, summary);
+    if (a.number != SEGVARTIN_FINISHED) return refused(a);
+    segvartin_read_shift_file(file, 0, &none, 0, &count, &read);
+    return write_summary(name, count);
+}
+
+static int find(segvartin_bytes file, segvartin_bytes summary, const char *number) {
+    segvartin_shift_record r;
+    int found;
+    segvartin_answer a = segvartin_find_record(file, summary, (uint32_t)strtoul(number, NULL, 10), &r, &found);
+    if (a.number != SEGVARTIN_FINISHED) return refused(a);
+    if (found)
+        print_record(&r);
+    else
+        printf("none\n");
+    return 0;
+}
+
+static int add(segvartin_bytes file, segvartin_bytes summary, segvartin_bytes record, const char *name) {
+    segvartin_bytes_mut room = {summary_bytes, summary.len + SEGVARTIN_SUMMARY_ENTRY};
+    segvartin_answer a;
+    if (room.len > sizeof summary_bytes) room.len = sizeof summary_bytes;
+    memcpy(summary_bytes, summary.at, summary.len < room.len ? summary.len : room.len);
+    a = segvartin_update_summary(file, record, room);
+    return a.number == SEGVARTIN_FINISHED ? write_summary(name, room.len / SEGVARTIN_SUMMARY_ENTRY) : refused(a);
+}
+
 int main(int argc, char **argv) {
-    int listing = argc == 3 && strcmp(argv[1], "list") == 0, packing = argc == 4 && strcmp(argv[1], "pack") == 0;
-    if (!listing && !packing) return fail("usage: shift list FILE, or shift pack RECORDS FILE");
-    segvartin_bytes bytes = mapped(argv[2]);
-    if (bytes.at == NULL) return fail("cannot read the file");
-    return listing ? list(bytes) : pack(bytes, argv[3]);
+    static const char *const words[5] = {"list", "pack", "sum", "find", "add"};
+    static const int counts[5] = {3, 4, 4, 5, 5};
+    segvartin_bytes first, second;
+    int word = 0;
+    while (word < 5 && (argc != counts[word] || strcmp(argv[1], words[word]) != 0)) word++;
+    if (word == 5) return fail("usage: shift list FILE, pack RECORDS FILE, sum FILE SUMMARY, find FILE SUMMARY NUMBER or add FILE SUMMARY RECORD");
+    first = mapped(argv[2]);
+    if (first.at == NULL) return fail("cannot read the file");
+    if (word == 0) return list(first);
+    if (word == 1) return pack(first, argv[3]);
+    if (word == 2) return sum(first, argv[3]);
+    second = mapped(argv[3]);
+    if (second.at == NULL) return fail("cannot read the summary");
+    if (word == 3) return find(first, second, argv[4]);
+    segvartin_bytes record = mapped(argv[4]);
+    if (record.at == NULL) return fail("cannot read the record");
+    return add(first, second, record, argv[3]);
 }

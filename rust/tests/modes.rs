@@ -336,7 +336,7 @@ fn the_export_takes_denormals_as_its_caller() {
     }
 }
 
-/// Shift files are made of whole numbers: no mode is set for them, and none matters.
+/// Shift files and summaries are made of whole numbers: no mode is set for them, and none matters.
 #[test]
 fn the_same_shift_file_in_every_mode() {
     let mut image = YuvPlanarImageMut::<u8>::alloc(5, 3, YuvChromaSubsampling::Yuv420);
@@ -352,8 +352,15 @@ fn the_same_shift_file_in_every_mode() {
             (file.len(), file.record(0).unwrap().bytes),
             (1, &record[..])
         );
+        let mut summary = [0; 2 * SUMMARY_ENTRY];
+        file.build_summary(&mut summary)?;
+        let found = file.find_record(&summary, 1400)?;
+        assert_eq!(found.map(|record| record.bytes), Some(&record[..]));
+        file.update_summary(&record, &mut summary)?;
+        assert!(!file.check_summary(&summary));
         bytes.truncate(50);
         assert_eq!(ShiftFile::open(&bytes), Err(YuvError::MalformedShiftFile));
+        record.extend(summary);
         Ok::<_, YuvError>(record)
     };
     let usual = call().unwrap();

@@ -59,7 +59,9 @@ typedef struct outcome {
     uint32_t counts[256];
     uint8_t y[W * H], u[CW * H], v[CW * H], carried[3 * W];
     uint8_t record[RECORD], file[16 + RECORD];
-    segvartin_shift_record read;
+    segvartin_shift_record read, found;
+    uint8_t summary[2 * SEGVARTIN_SUMMARY_ENTRY];
+    int yes, is_found;
 } outcome;
 
 typedef void call(const segvartin_description *d, outcome *o);
@@ -195,6 +197,17 @@ static void shift_file(const segvartin_description *d, outcome *o) {
     told(o, segvartin_write_shift_record(1400, d, y, u, v, record, &size));
     if (o->number == SEGVARTIN_FINISHED) told(o, segvartin_write_shift_file(segvartin_read_only(record), file, &size));
     if (o->number == SEGVARTIN_FINISHED) told(o, segvartin_read_shift_file(segvartin_read_only(file), 0, &o->read, 1, &count, &read));
+}
+
+/* Of that file, by all four calls. */
+static void summary(const segvartin_description *d, outcome *o) {
+    segvartin_bytes_mut file = {o->file, sizeof o->file}, lent = {o->summary, sizeof o->summary}, record = {o->record, sizeof o->record};
+    shift_file(d, o);
+    if (o->number == SEGVARTIN_FINISHED) told(o, segvartin_build_summary(segvartin_read_only(file), lent));
+    if (o->number == SEGVARTIN_FINISHED) told(o, segvartin_check_summary(segvartin_read_only(file), segvartin_read_only(lent), &o->yes));
+    if (o->number == SEGVARTIN_FINISHED)
+        told(o, segvartin_find_record(segvartin_read_only(file), segvartin_read_only(lent), 1400, &o->found, &o->is_found));
+    if (o->number == SEGVARTIN_FINISHED) told(o, segvartin_update_summary(segvartin_read_only(file), segvartin_read_only(record), lent));
 }
 
 /* As colours, by the exported function alone. */
@@ -359,7 +372,7 @@ static void counts_of_colours(void) {
     }
 }
 
-/* Shift files are made of whole numbers: no mode is set for them, and none matters. */
+/* Shift files and summaries are made of whole numbers: no mode is set for them, and none matters. */
 static void shift_files(void) {
     segvartin_description d = description(W, H, SEGVARTIN_YUV420, SEGVARTIN_LIMITED, SEGVARTIN_FCC);
     outcome usual;
@@ -367,6 +380,10 @@ static void shift_files(void) {
     in_mode(0, shift_file, &d, &usual, mxcsr);
     EXPECT(usual.number == SEGVARTIN_FINISHED && usual.file[0] == 1 && usual.read.crossing == 1400 && usual.read.v_offset == 16 + RECORD - 2 * CW);
     as_usual(shift_file, &d, &usual);
+    in_mode(0, summary, &d, &usual, mxcsr);
+    EXPECT(usual.number == SEGVARTIN_FINISHED && usual.yes == 1 && usual.is_found == 1 && usual.found.offset == 16);
+    EXPECT(usual.summary[4] + usual.summary[SEGVARTIN_SUMMARY_ENTRY + 4] == 28 + (28 + RECORD) && usual.summary[12] != 0);
+    as_usual(summary, &d, &usual);
     d.width = 0;
     in_mode(0, shift_file, &d, &usual, mxcsr);
     EXPECT(usual.number == SEGVARTIN_MALFORMED_SHIFT_FILE && usual.record[0] == 0);
@@ -413,7 +430,7 @@ static void another_end(void) {
     segvartin_description d = description(W, H, SEGVARTIN_YUV420, SEGVARTIN_FULL, SEGVARTIN_FCC);
     EXPECT(!ends(frame, &d) && !ends(bands, &d) && !ends(frame_with, &d) && !ends(bands_with, &d) && ends(bare, &d));
     EXPECT(!ends(frame_in_window, &d) && !ends(bands_in_window, &d));
-    EXPECT(!ends(colours, &d) && ends(bare_colours, &d) && !ends(shift_file, &d));
+    EXPECT(!ends(colours, &d) && ends(bare_colours, &d) && !ends(summary, &d));
     d.matrix = SEGVARTIN_BT709;
     EXPECT(!ends(bare, &d) && !ends(bare_colours, &d));
 }

@@ -2,7 +2,7 @@
  * The lines of C that README.md shows, one block after another, on a frame of flat green 10 with the rear of a truck in it, flat white. tests/run
  * takes them out of it. The last call but one is that with nearest tables: V of green is 124, and 125 by truncated ones (RULES 5.2, Bt601 Limited: of
  * green 10 and of green 9). The last is the window onto the rear, which is white alone; behind its planes there is still what the call before left.
- * Behind the frames come the counts of colours, and the shift file of the rear.
+ * Behind the frames come the counts of colours, the shift file of the rear, and its summary, which at the end is that of the file with its record twice.
  */
 #include "expect.h"
 
@@ -30,6 +30,8 @@ int main(void) {
     EXPECT(count == 1 && read == 1 && r.crossing == 1400 && r.width == 640 && r.height == 480 && size == sizeof file_bytes);
     EXPECT(plane.at == file_bytes + 24 && plane.len == 640 * 480 && all_are(file_bytes, 24, 24 + 640 * 480, 235));
     EXPECT(all_are(file_bytes, 24 + 640 * 480, sizeof file_bytes, 128) && r.v_offset + r.v_length == sizeof file_bytes);
+    EXPECT(found == 1 && truck.crossing == 1400 && truck.offset == 16 && truck.length == sizeof record_bytes);
+    EXPECT(summary_bytes[12] == 235 && summary_bytes[25] == 235 && memcmp(summary_bytes, summary_bytes + 13, 4) == 0);
     EXPECT(a.number == SEGVARTIN_FINISHED);
     EXPECT(all_are(luma, 0, y.len, 235) && all_are(cb, 0, u.len, 128) && all_are(cr, 0, v.len, 128));
     EXPECT(y.len == 640 * 480 && u.len == 320 * 240 && v.len == u.len);

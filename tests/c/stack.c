@@ -1,7 +1,8 @@
 /*
  * The stack that a call takes, for every setting, without options and with: nearest tables, and a window onto a larger source; that of a count of
- * colours, for every range and matrix; and that of the calls on shift files. Each call runs on a thread whose stack is filled with one byte first; from where the call is made down to the
- * lowest byte that changed is what it took. Bytes that a call reserves and never writes are not seen.
+ * colours, for every range and matrix; that of the calls on shift files; and that of the calls on summaries, of a file with as many records as there
+ * may be. Each call runs on a thread whose stack is filled with one byte first; from where the call is made down to the lowest byte that changed is
+ * what it took. Bytes that a call reserves and never writes are not seen.
  */
 #include <pthread.h>
 #include <stdint.h>
@@ -98,6 +99,38 @@ static void *shift_files(void *unused) {
     return a.number == SEGVARTIN_FINISHED && read == SEVERAL ? unused : &description;
 }
 
+/* All four calls on the summary of a file of MANY records; the update is with one fewer. */
+static void *summaries(void *unused) {
+    enum { MANY = SEGVARTIN_MAX_RECORDS, RECORD = 11 };
+    static uint8_t record_bytes[MANY * RECORD], file_bytes[4 + MANY * (12 + RECORD)], summary_bytes[MANY * SEGVARTIN_SUMMARY_ENTRY];
+    static segvartin_shift_record found_record;
+    static size_t size;
+    static int yes, found;
+    segvartin_bytes from = {record_bytes, sizeof record_bytes}, one = {record_bytes, RECORD};
+    segvartin_bytes_mut file = {file_bytes, sizeof file_bytes}, summary = {summary_bytes, sizeof summary_bytes};
+    segvartin_answer a;
+    uint32_t k;
+    for (k = 0; k < MANY; k++) {
+        uint8_t *record = record_bytes + k * RECORD;
+        uint32_t crossing = k * 2654435761u;
+        record[0] = (uint8_t)crossing, record[1] = (uint8_t)(crossing >> 8), record[2] = (uint8_t)(crossing >> 16), record[3] = (uint8_t)(crossing >> 24);
+        record[4] = record[6] = 1;
+    }
+    called_from = __builtin_frame_address(0);
+    a = segvartin_write_shift_file(from, file, &size);
+    if (a.number == SEGVARTIN_FINISHED) a = segvartin_build_summary(segvartin_read_only(file), summary);
+    if (a.number == SEGVARTIN_FINISHED) a = segvartin_check_summary(segvartin_read_only(file), segvartin_read_only(summary), &yes);
+    if (a.number == SEGVARTIN_FINISHED)
+        a = segvartin_find_record(segvartin_read_only(file), segvartin_read_only(summary), 2654435761u, &found_record, &found);
+    if (a.number != SEGVARTIN_FINISHED || !yes || !found) return &description;
+    from.len -= RECORD;
+    a = segvartin_write_shift_file(from, file, &size);
+    file.len = size;
+    if (a.number == SEGVARTIN_FINISHED) a = segvartin_build_summary(segvartin_read_only(file), summary);
+    if (a.number == SEGVARTIN_FINISHED) a = segvartin_update_summary(segvartin_read_only(file), one, summary);
+    return a.number == SEGVARTIN_FINISHED ? unused : &description;
+}
+
 static size_t taken(void *(*call)(void *)) {
     pthread_attr_t attributes;
     pthread_t thread;
@@ -119,7 +152,7 @@ static size_t taken(void *(*call)(void *)) {
 }
 
 int main(void) {
-    size_t most[4] = {0, 0, 0, 0};
+    size_t most[5] = {0, 0, 0, 0, 0};
     uint32_t code;
     description.width = W, description.height = H, description.kr = 0.25f, description.kb = 0.125f;
     description.y_stride = W, description.u_stride = description.v_stride = CW;
@@ -144,6 +177,8 @@ int main(void) {
         if (c > most[2]) most[2] = c;
     }
     most[3] = taken(shift_files);
-    printf("stack, at most: a frame call %zu bytes, a band call %zu, a count of colours %zu, shift files %zu\n", most[0], most[1], most[2], most[3]);
-    return most[0] < PROMISED && most[1] < PROMISED && most[2] < PROMISED && most[3] < PROMISED ? 0 : 1;
+    most[4] = taken(summaries);
+    printf("stack, at most: a frame call %zu bytes, a band call %zu, a count of colours %zu, shift files %zu, summaries %zu\n", most[0], most[1], most[2],
+           most[3], most[4]);
+    return most[0] < PROMISED && most[1] < PROMISED && most[2] < PROMISED && most[3] < PROMISED && most[4] < PROMISED ? 0 : 1;
 }
