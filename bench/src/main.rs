@@ -1,9 +1,10 @@
-//! Times this converter and the unaltered Rust on the same frames, in one run, on one thread; a count of colours beside a loop in C; and shift files
-//! beside memcpy.
+//! Times this converter and the unaltered Rust on the same frames, in one run, on one thread; a count of colours beside a loop in C; shift files
+//! beside memcpy; and their summaries beside a sum in C.
 //!
 //! Each figure is the least of many turns. The two, or a frame's forms, take turns, so that a busy
 //! moment of the machine falls on both alike.
 mod shift;
+mod summary;
 
 use segvartin::{FrameDescription, FrameOptions, FrameState, TableRounding, Window, YuvChromaSubsampling, YuvSourceChannels};
 use std::time::Instant;
@@ -280,16 +281,23 @@ fn main() {
     let processor = std::fs::read_to_string("/proc/cpuinfo").unwrap_or_default();
     let processor = processor.lines().find_map(|l| l.strip_prefix("model name")).map_or("unknown", |l| l.trim_start_matches(['\t', ':', ' ']));
     println!("{}; {processor}; one thread; Full, Bt601, sRGB; least of {TURNS} turns", env!("BENCH_RUSTC"));
-    if std::env::args().nth(1).as_deref() != Some("shift") {
+    let only = std::env::args().nth(1);
+    let asked = |name: &str| only.as_deref().is_none_or(|only| only == name);
+    if asked("frames") {
         frames(&mut bars);
     }
-    shift::report(&mut bars);
+    if asked("shift") {
+        shift::report(&mut bars);
+    }
+    if asked("summary") {
+        summary::report(&mut bars);
+    }
     if !bars.0 {
         std::process::exit(1);
     }
 }
 
-/// All but shift files.
+/// All but shift files and summaries.
 fn frames(bars: &mut Bars) {
     println!("\n1,920 x 1,080, ms; bar: {LEAST_RATIO} times the Rust");
     println!("{:<8}{:<6}{:<7}{:>8}{:>8}{:>8}{:>24}", "content", "order", "chroma", "Rust", "ours", "times", "U, V bytes that differ");

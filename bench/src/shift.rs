@@ -16,7 +16,7 @@ const MOST_OVER_COPY: f64 = 2.;
 const MOST_OF_CHECK: f64 = 1000.;
 
 /// The least time of each form, in milliseconds: they take turns.
-fn least<S, const N: usize>(on: &mut S, turns: usize, forms: [&dyn Fn(&mut S); N]) -> [f64; N] {
+pub fn least<S, const N: usize>(on: &mut S, turns: usize, forms: [&dyn Fn(&mut S); N]) -> [f64; N] {
     let mut least = [f64::MAX; N];
     for _ in 0..turns {
         for (form, time) in forms.iter().zip(&mut least) {

@@ -19,6 +19,7 @@ mod shift;
 mod shifts;
 mod smaller;
 mod stored;
+mod summaries;
 mod summary;
 mod vectors;
 mod worked;
@@ -63,13 +64,13 @@ compare --vectors ROOT | --check ROOT | --mistakes | --flat
 
 A mismatch is printed as the smallest request found that shows it, in the form of --list.
 
-  --vectors ROOT   write the stored lists of frame calls, band sequences and calls on shift files into the
-                   repository ROOT
+  --vectors ROOT   write the stored lists of frame calls, band sequences and calls on shift files and on
+                   summaries into the repository ROOT
   --check ROOT     say whether the lists in ROOT are what --vectors writes
   --mistakes       for each mistake near at hand the call made for it, and how many calls catch it;
                    for each way to lose tables or window between calls, and for each mistake in a
                    condition of bands, the first sequence that catches it, and how many do; the same
-                   of mistakes in a reader or a writer of shift files
+                   of mistakes in a reader or a writer of shift files, and in a call on summaries
   --flat           for each transfer and rounding, how many of the 256 values of a flat channel
                    come back through both tables, and how far off the others are at most";
 
@@ -287,9 +288,9 @@ fn timed(check: impl Fn() -> Result<String, String>) {
 
 type OnList = fn(&Path, &Converters) -> Result<String, String>;
 
-/// The lists of frame calls, of band sequences and of calls on shift files: what is said of all, an
-/// error where one is wrong.
-fn each(root: &Path, converters: &Converters, lists: [OnList; 3]) -> Result<String, String> {
+/// The lists of frame calls, of band sequences, of calls on shift files and of calls on summaries: what is
+/// said of all, an error where one is wrong.
+fn each(root: &Path, converters: &Converters, lists: [OnList; 4]) -> Result<String, String> {
     let said = lists.map(|list| list(root, converters));
     let wrong = said.iter().any(Result::is_err);
     let all = said.map(|said| said.unwrap_or_else(|wrong| wrong));
@@ -308,17 +309,28 @@ fn told(converters: &Converters) -> Option<Result<String, String>> {
         ["--vectors", root] => Some(each(
             Path::new(root),
             converters,
-            [vectors::write, bands::write, shifts::write],
+            [
+                vectors::write,
+                bands::write,
+                shifts::write,
+                summaries::write,
+            ],
         )),
         ["--check", root] => Some(each(
             Path::new(root),
             converters,
-            [vectors::check, bands::check, shifts::check],
+            [
+                vectors::check,
+                bands::check,
+                shifts::check,
+                summaries::check,
+            ],
         )),
         ["--mistakes"] => Some(vectors::report(converters).and_then(|frames| {
             let sequences = bands::report(converters)?;
             let shifts = shifts::report(converters)?;
-            Ok([frames, sequences, shifts].join("\n\n"))
+            let summaries = summaries::report(converters)?;
+            Ok([frames, sequences, shifts, summaries].join("\n\n"))
         })),
         ["--flat"] => Some(Ok(worked::flat_colours())),
         _ => None,
