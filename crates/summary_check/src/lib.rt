@@ -46,11 +46,11 @@ fn offset_keys(summary: &[u8], keys: &mut [u64])
     requires { ⌜ (length (now keys) ≤ 4096) × (13 * length (now keys) ≤ length (now summary)) ⌝ }
     ensures { λ _. ⌜ now (keys .exit) ≡ sorted (keysFrom 0 (map offsetIn (entriesIn (length (now (keys .entry))) (now (summary .entry))))) ⌝ }
 {
-    let mut i = 0;
-    while i < keys.len() {
-        let entry = summary_entry::read_entry(summary, ENTRY * i);
-        keys[i] = shift_summary::key_of(entry.offset % LONGEST, i);
-        i += 1;
+    let mut k = 0;
+    while k < keys.len() {
+        let entry = summary_entry::read_entry(summary, ENTRY * k);
+        keys[k] = shift_summary::key_of(entry.offset % LONGEST, k);
+        k += 1;
     }
     merge_sort::sort(keys);
 }

@@ -62,7 +62,8 @@ differs c =
     let place = c .before .before .before .before .place-in .ensures in
     let read = c .before .before .before .read-entry .ensures ∙ ap (λ (k : ℕ). entryIn (drop (13 * k) (now (s .args .summary)))) place in
     let entry = read ∙ sym (entry-at n (getD keys i 0 % 4096) (now (s .args .summary)) (s .pre .1 .0 .place i (omega arith))) in
-    let same = sym (ap₂ sameEntry entry (c .before .before .entry-at .ensures)) ∙ sym (c .before .is-same .ensures) in
+    let its : c .before .before .entry-at .result ≡ getD (entriesOf form rs) i noEntry = c .before .before .entry-at .ensures in
+    let same = sym (ap₂ sameEntry entry its) ∙ sym (c .before .is-same .ensures) in
     sym (step ∙ rw (same ∙ not-true _ (c .if1 .taken))) ∙ known .1
 
 loop-again : tie.Need-loop-again Inv-loop μ-loop

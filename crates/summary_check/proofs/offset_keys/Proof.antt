@@ -17,12 +17,12 @@ use Rattle.summary_check.proofs.offset_keys.Statement.{statement}
 use Rattle.summary_check.proofs.offset_keys.Tie as tie
 
 abbrev Inv-loop : tie.InvT-loop
-Inv-loop summary keys₀ i₀ keys i =
+Inv-loop summary keys₀ k₀ keys k =
     let es = entriesIn (length keys₀) summary in
-    (i ≤ length keys) × (length keys ≡ length keys₀) × (sets keys i (keysFrom i (map offsetIn (drop i es))) ≡ sets keys₀ 0 (keysFrom 0 (map offsetIn es)))
+    (k ≤ length keys) × (length keys ≡ length keys₀) × (sets keys k (keysFrom k (map offsetIn (drop k es))) ≡ sets keys₀ 0 (keysFrom 0 (map offsetIn es)))
 
 abbrev μ-loop : tie.MeasureT-loop
-μ-loop summary keys₀ i₀ keys i = length keys - i
+μ-loop summary keys₀ k₀ keys k = length keys - k
 
 loop-holds : tie.Need-loop-holds Inv-loop μ-loop
 loop-holds c = (omega arith, refl, refl)
@@ -34,9 +34,9 @@ loop-again c =
     let n = length (now (s .args .keys)) in
     let es = entriesIn n (now (s .args .summary)) in
     let long = length-read n (now (s .args .summary)) in
-    let entry = c .before .before .read-entry .ensures ∙ sym (entry-at n (l .i) (now (s .args .summary)) (omega arith)) in
-    let told = c .key-of .ensures ∙ ap (λ (e : SummaryEntry). offsetIn e * 4096 + l .i) entry in
-    (simp length-set (omega arith), simp length-set (omega arith), key-more offsetIn es (l .keys) (l .i) _ (omega arith) told ∙ l .inv .2)
+    let entry = c .before .before .read-entry .ensures ∙ sym (entry-at n (l .k) (now (s .args .summary)) (omega arith)) in
+    let told = c .key-of .ensures ∙ ap (λ (e : SummaryEntry). offsetIn e * 4096 + l .k) entry in
+    (simp length-set (omega arith), simp length-set (omega arith), key-more offsetIn es (l .keys) (l .k) _ (omega arith) told ∙ l .inv .2)
 
 returns : tie.Need-returns Inv-loop μ-loop
 returns c =
@@ -44,7 +44,7 @@ returns c =
     let l = c .before .before .before .before .before .loop in
     let n = length (now (s .args .keys)) in
     let long = length-read n (now (s .args .summary)) in
-    let keys = keys-filled offsetIn (entriesIn n (now (s .args .summary))) _ (l .keys) (l .i) (omega arith) (omega arith) (l .inv .2) in
+    let keys = keys-filled offsetIn (entriesIn n (now (s .args .summary))) _ (l .keys) (l .k) (omega arith) (omega arith) (l .inv .2) in
     c .before .before .sort .ensures ∙ ap sorted keys
 
 pub offset-keys-spec : {M : Type 1} → statement M
