@@ -2,8 +2,8 @@
  * Segvartin: strided 8-bit RGB frames to planar YUV 4:2:0 and 4:2:2 ("sharp YUV", chroma interpolated over linear light), and shift files, which
  * hold the planes of many frames.
  *
- * Link libsegvartin.a (x86-64, System V ABI). It has no state, no heap, no threads, no input and no output, and of libc it calls memset alone;
- * calls on separate buffers may run on separate threads. A call takes less than 96 KiB of stack.
+ * Link libsegvartin.a (x86-64, System V ABI). It has no state, no heap, no threads, no input and no output, and of libc it calls memset and memcpy
+ * alone; calls on separate buffers may run on separate threads. A call takes less than 96 KiB of stack.
  *
  * Call segvartin_frame, segvartin_open and segvartin_band, or the same calls with their numbers in structs: segvartin_convert_frame,
  * segvartin_open_frame and segvartin_convert_band. With choices that these do not have, which today are the rounding of the curve tables and a
