@@ -17,11 +17,11 @@
  * calls of its chapter 10.
  *
  * Every function answers finished work (0) or the number of one refusal, and a refusal writes no byte of a plane, of the carried row, of a record,
- * of a file or of a summary, no entry and no count of colours. This holds for all values of all numbers: sizes, strides, lengths, codes, kr, kb, and all bytes of a file
- * and of a summary. What no function can check, and the caller must see to:
+ * of a file or of a summary, no entry and no count of colours. This holds for all values of all numbers: sizes, strides, lengths, codes, kr, kb, and
+ * all bytes of a file and of a summary. What no function can check, and the caller must see to:
  *   - a pointer is not NULL, also where its length is 0, and points to as many bytes as the length beside it says; counts to 256 numbers;
- *   - what a call is lent (source, y, u, v, carried, counts, done, expected, received; records, file, size, count, read; summary, record, yes,
- *     found) does not overlap.
+ *   - of what a call is lent (source, y, u, v, carried, counts, done, expected, received; records, file, size, count, read; summary, record, yes,
+ *     found) nothing that it may write overlaps anything else.
  *
  * The caller's floating-point mode (rounding, denormals, trapped exceptions) does not matter: each call is made in the default mode, and the
  * caller's mode and exception flags are put back as they were. Only SEGVARTIN_FCC and SEGVARTIN_CUSTOM use floats at all; the calls on shift
@@ -646,7 +646,8 @@ static inline segvartin_answer segvartin_write_shift_record(uint32_t crossing, c
  * number; entries of one crossing may stand in any order among themselves. So a file of n records has a summary of 13 * n bytes. Where a call is lent
  * more, the bytes behind these are not looked at.
  *
- * Each of the four calls goes through the Y planes of all records of the file, for their means.
+ * Each of the four calls goes through the Y planes of the file's records, for their means; a check only as far as the first entry that is not the
+ * file's.
  */
 
 /*

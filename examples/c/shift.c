@@ -103,7 +103,14 @@ static int sum(segvartin_bytes file, const char *name) {
 static int find(segvartin_bytes file, segvartin_bytes summary, const char *number) {
     segvartin_shift_record r;
     int found;
-    segvartin_answer a = segvartin_find_record(file, summary, (uint32_t)strtoul(number, NULL, 10), &r, &found);
+    char *end;
+    errno = 0;
+    unsigned long long crossing = strtoull(number, &end, 10);
+    if (*number < '0' || *number > '9' || *end != 0 || errno != 0 || crossing > UINT32_MAX) {
+        fprintf(stderr, "a crossing is a number from 0 to %lu, not '%s'\n", (unsigned long)UINT32_MAX, number);
+        return 2;
+    }
+    segvartin_answer a = segvartin_find_record(file, summary, (uint32_t)crossing, &r, &found);
     if (a.number != SEGVARTIN_FINISHED) return refused(a);
     if (found)
         print_record(&r);

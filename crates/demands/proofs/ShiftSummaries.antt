@@ -21,6 +21,7 @@ use Rattle.shift_file.specs.Check.{recordStands, isFile}
 use Rattle.shift_file.proofs.Record.{both, also, stands-true, size-bytes, stands-bytes, record-bytes}
 use Rattle.shift_file.proofs.Walk.{first-of}
 use Rattle.shift_file.proofs.File.{some-list, checked-file, its-records, is-checked, after-pairs}
+use Rattle.shift_reader.proofs.Places.{record-there}
 use Rattle.shift_writer.specs.Records.{BackToBack}
 use Rattle.summary_check.specs.Check.{isSummary}
 use Rattle.summary_check.proofs.Checked.{checked}
@@ -174,6 +175,8 @@ shift-summaries = record {
   found = λ form file summary crossing r rs f p done k.
       let is = summaries .found form file summary crossing r rs f p done in
       (λ e. finds .some crossing rs k (sym is ∙ e), λ h. is ∙ first-found crossing rs k h);
+  found-part = λ form file summary crossing r rs k f p done e.
+      record-there form file rs k f (finds .some crossing rs k (sym (summaries .found form file summary crossing r rs f p done) ∙ e) .below);
   found-none = λ form file summary crossing r rs f p done.
       let is = summaries .found form file summary crossing r rs f p done in
       (λ e. finds .none crossing rs (sym is ∙ e), λ h. is ∙ none-found crossing rs h);

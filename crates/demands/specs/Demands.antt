@@ -54,7 +54,7 @@ use Rattle.shift_file.specs.declared.ShiftForm.the-variants.{WithoutSettings}
 use Rattle.shift_file.specs.File.{ShiftRecord, Allowed, recordsAt, bytesOf, fileOf, HasFile, IsFileOf}
 use Rattle.shift_file.specs.Means.{SomeList, OneList, ReadBack, Rewritten, OneForm}
 use Rattle.shift_reader.specs.declared.ShiftReading.{ShiftReading}
-use Rattle.shift_reader.specs.Entry.{nth, entriesOf}
+use Rattle.shift_reader.specs.Entry.{nth, offsetOf, entriesOf}
 use Rattle.shift_reader.specs.Reading.{fileRules, ReadPost}
 use Rattle.shift_writer.specs.declared.ShiftWritten.{ShiftWritten}
 use Rattle.shift_writer.specs.Records.{BackToBack}
@@ -365,6 +365,10 @@ pub record ShiftSummaries : Type 0 where
       → Bytes summary → FindPost form file summary crossing r → (numbersOf (r .answer) .number ≡ 17) ↔ (HasSummary form rs summary → ⊥)
   pub found : (form : ShiftForm) (file summary : List ℕ) (crossing : ℕ) (r : SummaryFinding) (rs : List ShiftRecord) → IsFileOf form file rs
       → FindPost form file summary crossing r → r .answer ≡ Finished → (k : ℕ) → (r .found ≡ At k) ↔ IsFirst crossing rs k
+  -- and it is a part of the file, where the reader tells that it stands
+  pub found-part : (form : ShiftForm) (file summary : List ℕ) (crossing : ℕ) (r : SummaryFinding) (rs : List ShiftRecord) (k : ℕ) → IsFileOf form file rs
+      → FindPost form file summary crossing r → r .answer ≡ Finished → r .found ≡ At k
+      → take (length (bytesOf (nth rs k))) (drop (offsetOf form rs k) file) ≡ bytesOf (nth rs k)
   pub found-none : (form : ShiftForm) (file summary : List ℕ) (crossing : ℕ) (r : SummaryFinding) (rs : List ShiftRecord) → IsFileOf form file rs
       → FindPost form file summary crossing r → r .answer ≡ Finished → (r .found ≡ Nowhere) ↔ NoRecordOf crossing rs
   -- updating
