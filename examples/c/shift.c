@@ -13,6 +13,7 @@
 #define _DEFAULT_SOURCE
 #include "segvartin.h"
 
+#include <errno.h>
 #include <fcntl.h>
 #include <inttypes.h>
 #include <stdio.h>
@@ -107,8 +108,7 @@ static int find(segvartin_bytes file, segvartin_bytes summary, const char *numbe
     errno = 0;
     unsigned long long crossing = strtoull(number, &end, 10);
     if (*number < '0' || *number > '9' || *end != 0 || errno != 0 || crossing > UINT32_MAX) {
-        fprintf(stderr, "a crossing is a number from 0 to %lu, not '%s'\n", (unsigned long)UINT32_MAX, number);
-        return 2;
+        return fail("a crossing is a number from 0 to 4294967295");
     }
     segvartin_answer a = segvartin_find_record(file, summary, (uint32_t)crossing, &r, &found);
     if (a.number != SEGVARTIN_FINISHED) return refused(a);
