@@ -10,7 +10,7 @@ use Rattle.summary_entry.specs.declared.SummaryEntry.{SummaryEntry}
 use Rattle.summary_entry.specs.Entry.{entriesBytes}
 use Rattle.summary_entry.specs.Order.{InOrder}
 use Rattle.shift_file.specs.declared.ShiftForm.{ShiftForm}
-use Rattle.shift_file.specs.File.{ShiftRecord, bytesOf, recordsAt}
+use Rattle.shift_file.specs.File.{ShiftRecord, HasFile, bytesOf, recordsAt}
 
 -- RULES 12.2: the mean of w × h luma bytes, rounded down
 abbrev pub meanOf : ShiftRecord → ℕ
@@ -29,8 +29,12 @@ entriesFrom at (r ∷ rs) = entryOf at r ∷ entriesFrom (at + length (bytesOf r
 abbrev pub entriesOf : ShiftForm → List ShiftRecord → List SummaryEntry
 entriesOf form rs = entriesFrom (recordsAt form (length rs)) rs
 
--- RULES 12.3: these bytes are those of the entries in order
+-- RULES 12.3: these bytes are those of the entries in order. `OneSummary` says that a file has one summary
 pub record IsSummary (form : ShiftForm) (rs : List ShiftRecord) (bytes : List ℕ) : Type 0 where
   pub entries : List SummaryEntry
   pub ordered : Ordered InOrder (entriesOf form rs) entries
   pub same : entriesBytes entries ≡ bytes
+
+-- RULES 12.3: byte for byte
+abbrev pub OneSummary : Type 0
+OneSummary = (form : ShiftForm) (rs : List ShiftRecord) (a b : List ℕ) → HasFile form rs → IsSummary form rs a → IsSummary form rs b → a ≡ b

@@ -50,7 +50,7 @@ pub fn place_in(key: u64) -> usize
 }
 
 // The keys of a file's crossings, in order.
-fn crossing_keys(form: ShiftForm, file: &[u8], keys: &mut [u64])
+pub fn crossing_keys(form: ShiftForm, file: &[u8], keys: &mut [u64])
     requires { ⌜ HasRecords form (now file) (length (now keys)) ⌝ }
     ensures { λ _. ⌜ now (keys .exit) ≡ sorted (keysFrom 0 (map crossingOf (entriesOf form (recordsIn form (now (file .entry)))))) ⌝ }
 {

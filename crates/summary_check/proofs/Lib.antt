@@ -1,3 +1,3 @@
--- The laws: of the tests as loops take them, and of what the check means.
+-- The laws: of the test as a loop takes it, and of what the check means.
 pub mod Tests
 pub mod Checked

@@ -1,6 +1,6 @@
 -- Which bytes are a summary of a file, as it is computed: docs/RULES.md, 12.5. `Checked` says that it is `IsSummary`.
 -- Assumes nothing.
-use Prim.Native.Nat.{ℕ, _*_, _%_, _^_, _≤_}
+use Prim.Native.Nat.{ℕ, _*_, _≤_}
 use mathlib.Core.Path.{_≡_}
 use mathlib.Core.Bool.{Bool, true, false, _&&_}
 use mathlib.Core.List.{List, [], _∷_}
@@ -8,18 +8,12 @@ use mathlib.Core.Logic.{_↔_}
 use lib.Dec.{leb}
 use lib.ListN.{length, take}
 use Rattle.little_endian.specs.Number.{Bytes}
-use Rattle.merge_sort.specs.Ascending.{ascending}
 use Rattle.summary_entry.specs.declared.SummaryEntry.{SummaryEntry}
-use Rattle.summary_entry.specs.Entry.{entriesIn, sameEntry, noEntry}
-use Rattle.summary_entry.specs.Order.{before}
+use Rattle.summary_entry.specs.Entry.{entriesIn, sameEntry}
 use Rattle.shift_file.specs.declared.ShiftForm.{ShiftForm}
 use Rattle.shift_file.specs.File.{ShiftRecord, HasFile}
-use Rattle.shift_summary.specs.Summary.{entriesOf, IsSummary}
-
--- RULES 12.5: each entry goes before the next one, and `last` before the first
-unfoldable pub follows : (last : SummaryEntry) → List SummaryEntry → Bool
-follows last [] = true
-follows last (e ∷ es) = before last e && follows e es
+use Rattle.shift_summary.specs.Summary.{IsSummary}
+use Rattle.shift_summary.specs.Built.{inOrder}
 
 -- RULES 12.5
 unfoldable pub sameEntries : List SummaryEntry → List SummaryEntry → Bool
@@ -28,13 +22,9 @@ sameEntries [] (b ∷ m) = false
 sameEntries (a ∷ l) [] = false
 sameEntries (a ∷ l) (b ∷ m) = sameEntry a b && sameEntries l m
 
--- an offset, of which 52 bits are enough for every file
-abbrev pub offsetIn : SummaryEntry → ℕ
-offsetIn e = e .offset % 2 ^ 52
-
--- RULES 12.5: the entries stand in order, and by ascending offset they are those of the file
+-- RULES 12.5: the entries are those of the file, in order
 abbrev pub areEntries : ShiftForm → List ShiftRecord → List SummaryEntry → Bool
-areEntries form rs es = follows noEntry es && sameEntries (ascending noEntry offsetIn es) (entriesOf form rs)
+areEntries form rs es = sameEntries es (inOrder form rs)
 
 -- RULES 12.5: the summary is the first 13 × count bytes lent
 unfoldable pub isSummary : ShiftForm → List ShiftRecord → (summary : List ℕ) → Bool

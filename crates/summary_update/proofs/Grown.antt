@@ -25,6 +25,8 @@ use Rattle.shift_file.specs.Check.{recordStands, isFile}
 use Rattle.shift_file.proofs.Record.{both, Stands, stands-true, record-allowed}
 use Rattle.shift_file.proofs.File.{checked-file, length-file}
 use Rattle.shift_summary.specs.Summary.{entryOf, entriesFrom, entriesOf, IsSummary}
+use Rattle.shift_summary.specs.Built.{summaryOf}
+use Rattle.shift_summary.proofs.Built.{built, one-summary}
 use Rattle.shift_summary.proofs.Entries.{length-entries, offsets-below}
 use Rattle.summary_check.specs.Check.{isSummary}
 use Rattle.summary_check.proofs.Checked.{checked-entries}
@@ -130,8 +132,15 @@ module _ (form : ShiftForm) (file r : List ℕ) (bf : Bytes file) (br : Bytes r)
           permuted = rw entries-grown (permutation-trans (last-first _ _ (newEntry form file r) moved) (placed .permuted));
         }
 
+    pub new-summary : IsSummary form (grownRecords form file r) (updated form file r s)
+    new-summary = record { entries = _; ordered = new-ordered; same = refl }
+
+    pub new-fresh : updated form file r s ≡ summaryOf form (grownRecords form file r)
+    new-fresh = one-summary form (grownRecords form file r) _ _ grows new-summary (built form (grownRecords form file r) grows)
+
 pub updates : Updates
 updates = record {
   grows = grows;
-  summary = λ form file r s bf br e c. record { entries = _; ordered = new-ordered form file r bf br e s c; same = refl };
+  summary = λ form file r s bf br e c. new-summary form file r bf br e s c;
+  fresh = λ form file r s bf br e c. new-fresh form file r bf br e s c;
 }

@@ -19,6 +19,7 @@ use Rattle.summary_entry.specs.declared.SummaryEntry.{SummaryEntry}
 use Rattle.summary_entry.specs.Entry.{entriesBytes, entriesIn}
 use Rattle.summary_entry.specs.Grown.{grown, place}
 use Rattle.shift_summary.specs.Summary.{entryOf, IsSummary}
+use Rattle.shift_summary.specs.Built.{summaryOf}
 use Rattle.summary_check.specs.Check.{isSummary}
 
 -- RULES 12.7: these bytes are one whole record
@@ -59,3 +60,6 @@ pub record Updates : Type 0 where
   pub grows : (form : ShiftForm) (file added : List ℕ) → Bytes file → Bytes added → mayGrow form file added ≡ true → HasFile form (grownRecords form file added)
   pub summary : (form : ShiftForm) (file added before : List ℕ) → Bytes file → Bytes added → mayGrow form file added ≡ true
       → isSummary form (recordsIn form file) before ≡ true → IsSummary form (grownRecords form file added) (updated form file added before)
+  -- byte for byte the one that is built of it
+  pub fresh : (form : ShiftForm) (file added before : List ℕ) → Bytes file → Bytes added → mayGrow form file added ≡ true
+      → isSummary form (recordsIn form file) before ≡ true → updated form file added before ≡ summaryOf form (grownRecords form file added)

@@ -1,4 +1,4 @@
--- The invariant: whether the entries from place i on are the file's is what is asked. Assumes nothing.
+-- The invariant: whether the entries from place i on are those that the keys name is what is asked. Assumes nothing.
 use Prim.Native.Nat.{ℕ, _≤_, _<_, _*_, _+_, _-_, _%_}
 use mathlib.Core.Path.{_≡_, refl, ap, ap₂, sym, _∙_}
 use mathlib.Core.Bool.{true, false, _&&_}
@@ -9,10 +9,8 @@ use native.Mathlib.Omega.{arith}
 use lib.ListN.{length, getD, drop}
 use Rattle.summary_entry.specs.Entry.{entryIn, entriesIn, sameEntry, noEntry}
 use Rattle.summary_entry.proofs.Entry.{length-read, entry-at}
-use Rattle.shift_file.specs.File.{recordsAt}
 use Rattle.shift_file.specs.Read.{recordsIn}
 use Rattle.shift_summary.specs.Summary.{entriesOf}
-use Rattle.shift_summary.proofs.Entries.{length-entries}
 use Rattle.summary_check.specs.Check.{sameEntries}
 use Rattle.summary_check.proofs.Tests.{sameFrom, same-step, same-done}
 use Rattle.summary_check.proofs.are_those.Statement.{statement}
@@ -34,65 +32,58 @@ mul-place-in : tie.Need-mul-place-in Inv-loop μ-loop
 mul-place-in c = let s = c .before .before .before .before .before in omega (arith, s .pre .0 .count-is, s .pre .0 .is-file .has .few)
 
 mul-read-entry : tie.Need-mul-read-entry Inv-loop μ-loop
-mul-read-entry c = omega (arith, c .place-in .ensures)
+mul-read-entry c = let s = c .before .before .before .before .before .before .before in omega (arith, s .pre .0 .count-is, s .pre .0 .is-file .has .few)
 
 read-entry-requires : tie.Need-read-entry-requires Inv-loop μ-loop
-read-entry-requires c κs =
-    let s = c .before .before .before .before .before .before .before in
-    let within = s .pre .1 .0 .place (c .before .before .before .loop .i) (omega arith) in
-    omega (arith, s .pre .1 .1, c .place-in .ensures, within)
+read-entry-requires c κs = let s = c .before .before .before .before .before .before .before in omega (arith, s .pre .1 .1)
 
 entry-at-requires : tie.Need-entry-at-requires Inv-loop μ-loop
 entry-at-requires c κs =
     let s = c .before .before .before .before .before .before .before .before in
-    record { is-file = s .pre .0 .is-file; below = omega (arith, s .pre .0 .count-is) }
+    let within = s .pre .1 .0 .place (c .before .before .before .before .loop .i) (omega arith) in
+    record { is-file = s .pre .0 .is-file; below = omega (arith, s .pre .0 .count-is, c .before .place-in .ensures, within) }
 
 differs : tie.Need-returns Inv-loop μ-loop
 differs c =
     let s = c .before .before .before .before .before .before .before .before .before .before .before in
     let form = s .args .form in
-    let rs = recordsIn form (now (s .args .file)) in
+    let fs = entriesOf form (recordsIn form (now (s .args .file))) in
     let keys = now (s .args .keys) in
     let n = length keys in
     let es = entriesIn n (now (s .args .summary)) in
     let i = c .before .before .before .before .before .before .before .loop .i in
     let known = c .before .before .before .before .before .before .before .loop .inv in
-    let long = length-entries (recordsAt form (length rs)) rs in
-    let step = same-step keys es (entriesOf form rs) i (omega arith) (omega (arith, s .pre .0 .count-is)) in
-    let place = c .before .before .before .before .place-in .ensures in
-    let read = c .before .before .before .read-entry .ensures ∙ ap (λ (k : ℕ). entryIn (drop (13 * k) (now (s .args .summary)))) place in
-    let entry = read ∙ sym (entry-at n (getD keys i 0 % 4096) (now (s .args .summary)) (s .pre .1 .0 .place i (omega arith))) in
-    let its : c .before .before .entry-at .result ≡ getD (entriesOf form rs) i noEntry = c .before .before .entry-at .ensures in
-    let same = sym (ap₂ sameEntry entry its) ∙ sym (c .before .is-same .ensures) in
+    let step = same-step keys es fs i (omega arith) (omega (arith, length-read n (now (s .args .summary)))) in
+    let entry = c .before .before .before .read-entry .ensures ∙ sym (entry-at n i (now (s .args .summary)) (omega arith)) in
+    let other = c .before .before .entry-at .ensures ∙ ap (λ (k : ℕ). getD fs k noEntry) (c .before .before .before .before .place-in .ensures) in
+    let same = sym (ap₂ sameEntry entry other) ∙ sym (c .before .is-same .ensures) in
     sym (step ∙ rw (same ∙ not-true _ (c .if1 .taken))) ∙ known .1
 
 loop-again : tie.Need-loop-again Inv-loop μ-loop
 loop-again c =
     let s = c .before .before .before .before .before .before .before .before .before .before .before in
     let form = s .args .form in
-    let rs = recordsIn form (now (s .args .file)) in
+    let fs = entriesOf form (recordsIn form (now (s .args .file))) in
     let keys = now (s .args .keys) in
     let n = length keys in
     let es = entriesIn n (now (s .args .summary)) in
     let i = c .before .before .before .before .before .before .before .loop .i in
     let known = c .before .before .before .before .before .before .before .loop .inv in
-    let long = length-entries (recordsAt form (length rs)) rs in
-    let step = same-step keys es (entriesOf form rs) i (omega arith) (omega (arith, s .pre .0 .count-is)) in
-    let place = c .before .before .before .before .place-in .ensures in
-    let read = c .before .before .before .read-entry .ensures ∙ ap (λ (k : ℕ). entryIn (drop (13 * k) (now (s .args .summary)))) place in
-    let entry = read ∙ sym (entry-at n (getD keys i 0 % 4096) (now (s .args .summary)) (s .pre .1 .0 .place i (omega arith))) in
-    let same = sym (ap₂ sameEntry entry (c .before .before .entry-at .ensures)) ∙ sym (c .before .is-same .ensures) in
+    let step = same-step keys es fs i (omega arith) (omega (arith, length-read n (now (s .args .summary)))) in
+    let entry = c .before .before .before .read-entry .ensures ∙ sym (entry-at n i (now (s .args .summary)) (omega arith)) in
+    let other = c .before .before .entry-at .ensures ∙ ap (λ (k : ℕ). getD fs k noEntry) (c .before .before .before .before .place-in .ensures) in
+    let same = sym (ap₂ sameEntry entry other) ∙ sym (c .before .is-same .ensures) in
     (omega arith, sym (step ∙ rw (same ∙ not-false _ (c .if1 .left))) ∙ known .1)
 
 ended : tie.Need-returns-2 Inv-loop μ-loop
 ended c =
     let s = c .before .before .before .before .before in
     let form = s .args .form in
-    let rs = recordsIn form (now (s .args .file)) in
+    let fs = entriesOf form (recordsIn form (now (s .args .file))) in
     let keys = now (s .args .keys) in
+    let es = entriesIn (length keys) (now (s .args .summary)) in
     let l = c .before .loop in
-    let long = length-entries (recordsAt form (length rs)) rs in
-    sym (same-done keys (entriesIn (length keys) (now (s .args .summary))) (entriesOf form rs) (l .i) (omega arith) (omega (arith, s .pre .0 .count-is))) ∙ l .inv .1
+    sym (same-done keys es fs (l .i) (omega arith) (omega (arith, length-read (length keys) (now (s .args .summary))))) ∙ l .inv .1
 
 pub are-those-spec : {M : Type 1} → statement M
 are-those-spec =
