@@ -9,7 +9,6 @@ read out of the tables of docs/RULES.md itself (rules 1.2 to 1.4, 3.1, 4.1, 4.3)
 """
 import bisect
 import functools
-import itertools
 import re
 import struct
 import sys
@@ -529,26 +528,23 @@ def crossing_in(entry):
     return int.from_bytes(entry[:4], 'little')
 
 
-def summaries_of(data):
-    """12.3: every summary of a file."""
-    entries = sorted((entry_of(entry, data) for entry in entries_of(data)), key=crossing_in)
-    groups = [[b''.join(some) for some in itertools.permutations(group)] for _, group in itertools.groupby(entries, crossing_in)]
-    return {b''.join(parts) for parts in itertools.product(*groups)}
+def summary_in(data):
+    """12.3: the summary of a file. Entries stand by offset in it, and sorting leaves equal ones in their order."""
+    return b''.join(sorted((entry_of(entry, data) for entry in entries_of(data)), key=crossing_in))
 
 
 def check_call(data, buffer):
     """12.5: the answer, and whether it is yes."""
     if entries_of(data) is None:
         return 15, False
-    return 0, bytes(buffer[:13 * len(entries_of(data))]) in summaries_of(data)
+    return 0, bytes(buffer[:13 * len(entries_of(data))]) == summary_in(data)
 
 
 def build_call(data, buffer):
-    """12.4: the answer; the summary that is written is one of several where crossings are equal."""
+    """12.4: the answer."""
     if entries_of(data) is None:
         return 15
-    made = min(summaries_of(data))
-    return 17 if put(buffer, made) else 0
+    return 17 if put(buffer, summary_in(data)) else 0
 
 
 def find_call(data, buffer, crossing):
@@ -1706,7 +1702,7 @@ THREE = [record_of(70000, 1, 1, [b'\x50', b'\x60', b'\x70']), TWO[0], record_of(
 
 
 def summary_of(records):
-    """A summary of the file of these records."""
+    """The summary of the file of these records."""
     buffer = bytearray(13 * len(records))
     assert build_call(file_of(records), buffer) == 0
     return bytes(buffer)
@@ -1753,9 +1749,8 @@ def _():
             ('1, 0, 2, the last mean one more', one + zero + with_(two, 12, two[12] + 1)), ('1, 0, 2, the offset of 0 twelve less', one + with_(zero, 4, zero[4] - 12) + two),
             ('1, 0, 2, the crossing of 1 another', with_(one, 0, 0x79) + zero + two), ('1, 0, 2, the highest byte of an offset not 0', one + zero + with_(two, 11, 1))):
         number, yes = check_call(data, given)
-        yield f'{said}: ' + ('a summary' if yes else 'none') + (', of which the first 39 bytes are meant' if len(given) > 39 else '')
-    yield f'it has {len(summaries_of(data))} summaries'
-    assert summaries_of(file_of([])) == {b''}
+        yield f'{said}: ' + ('the summary' if yes else 'not the summary') + (', of which the first 39 bytes are meant' if len(given) > 39 else '')
+    assert summary_in(file_of([])) == b''
     yield 'the file without records: no bytes are its summary'
 
 
@@ -1768,14 +1763,16 @@ def _():
         buffer = filled(length)
         number = build_call(given, buffer)
         yield f'{said}, buffer of {length} bytes: {number}' + (f'; the buffer is {hexes(buffer)}' if number == 0 else '')
-    yield f'the file of 12.1, buffer of 39 bytes: {build_call(file_of(THREE), filled(39))}; the buffer is one of {len(summaries_of(file_of(THREE)))} summaries'
+    buffer = filled(39)
+    yield f'the file of 12.1, buffer of 39 bytes: {build_call(file_of(THREE), buffer)}; the buffer is'
+    yield from (f'  {line}' for line in entry_lines(buffer))
 
 
 @example('12.5')
 def _():
     data, made = file_of(THREE), summary_of(THREE)
-    yield 'the file of 12.1 and a summary of it'
-    for said, given, buffer in (('nothing changed', data, made), ('a byte behind the summary', data, made + b'\0'), ('no last byte of the summary', data, made[:-1]),
+    yield 'the file of 12.1 and its summary'
+    for said, given, buffer in (('nothing changed', data, made), ('entries of the same crossing exchanged', data, made[:13] + made[26:] + made[13:26]), ('a byte behind the summary', data, made + b'\0'), ('no last byte of the summary', data, made[:-1]),
                                 ('the last byte of the summary another', data, made[:-1] + bytes([made[-1] ^ 1])),
                                 ('the summary of the first two records', data, summary_of(THREE[:2])),
                                 ('no last byte of the file', data[:-1], made), ('the last byte of the file another, which no rule here is about', data[:-1] + b'\xff', made),
@@ -1787,7 +1784,7 @@ def _():
 @example('12.6')
 def _():
     data, made = file_of(THREE), summary_of(THREE)
-    yield 'the file of 12.1 and a summary of it'
+    yield 'the file of 12.1 and its summary'
     for said, given, buffer, crossing in (('', data, made, 1400), ('', data, made, 70000), ('', data, made, 0), ('', data, made, 4294967295),
                                           ('no last byte of the summary, ', data, made[:-1], 1400), ('entries exchanged, ', data, made[26:] + made[:26], 1400),
                                           ('no last byte of both, ', data[:-1], made[:-1], 1400)):
@@ -1799,7 +1796,7 @@ def _():
 @example('12.7')
 def _():
     data, made = file_of(THREE[:2]), summary_of(THREE[:2])
-    yield 'the first two records of 12.1, a summary of their file, and bytes EE behind it'
+    yield 'the first two records of 12.1, the summary of their file, and bytes EE behind it'
     for said, record, buffer in (('the first of 11.2 with crossing 5, buffer of 41 bytes', low_first(5, 4) + TWO[0][4:], made + filled(15)),
                                  ('the same, buffer of 39 bytes', low_first(5, 4) + TWO[0][4:], made + filled(13)),
                                  ('the same, buffer of 38 bytes', low_first(5, 4) + TWO[0][4:], made + filled(12)),
@@ -1811,9 +1808,8 @@ def _():
         yield f'{said}: {number}' + (f'; the buffer is {hexes(buffer)}' if number == 0 else '')
     buffer = bytearray(made + filled(13))
     number = update_call(data, THREE[2], buffer)
-    grown = file_of(THREE)
-    assert bytes(buffer) in summaries_of(grown)
-    yield f'record 2 of 12.1: {number}; the buffer is one of the {len(summaries_of(grown))} summaries of the file of 12.1'
+    assert bytes(buffer) == summary_of(THREE)
+    yield f'record 2 of 12.1: {number}; the buffer is the summary of the file of 12.1, as in 12.4'
     many = [TWO[1][:4] + record[4:] for record in [TWO[1]] * 4096]
     yield f'a file of 4096 records, no buffer: {update_call(file_of(many), TWO[1], bytearray())}'
 
