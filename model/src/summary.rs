@@ -2,7 +2,6 @@
 
 use crate::refusals::{Answer, refuse_if};
 use crate::shift::{self, MOST_RECORDS};
-use std::cmp::Reverse;
 
 /// RULES 12.1: the bytes of an entry.
 pub const ENTRY: usize = 13;
@@ -54,12 +53,12 @@ fn entries_of(file: &[u8]) -> Option<Vec<SummaryEntry>> {
     Some(records.iter().map(entry).collect())
 }
 
-/// RULES 12.3: whether a summary may have its entries in this order.
+/// RULES 12.3: whether a summary may have its entries in this order. No two offsets are the same.
 fn in_order(entries: &[SummaryEntry]) -> bool {
-    entries.is_sorted_by(|a, b| a.crossing <= b.crossing)
+    entries.is_sorted_by(|a, b| (a.crossing, a.offset) < (b.crossing, b.offset))
 }
 
-/// RULES 12.3: whether the buffer's first bytes are a summary of these records.
+/// RULES 12.3: whether the buffer's first bytes are the summary of these records.
 fn is_summary(of: &[SummaryEntry], buffer: &[u8]) -> bool {
     let Some(bytes) = buffer.get(..ENTRY * of.len()) else {
         return false;
@@ -72,10 +71,9 @@ fn is_summary(of: &[SummaryEntry], buffer: &[u8]) -> bool {
     ordered && entries == all
 }
 
-/// RULES 12.4, 12.7: a summary of these records, at the start of the buffer. Where crossings are equal
-/// it is the one that has the last record first, so that nobody counts on another.
+/// RULES 12.4, 12.7: the summary of these records, at the start of the buffer.
 fn put_summary(mut entries: Vec<SummaryEntry>, buffer: &mut [u8]) {
-    entries.sort_by_key(|entry| (entry.crossing, Reverse(entry.offset)));
+    entries.sort_by_key(|entry| (entry.crossing, entry.offset));
     for (entry, bytes) in entries.into_iter().zip(buffer.chunks_exact_mut(ENTRY)) {
         bytes.copy_from_slice(&entry.to_bytes());
     }
