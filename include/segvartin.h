@@ -643,8 +643,8 @@ static inline segvartin_answer segvartin_write_shift_record(uint32_t crossing, c
 /*
  * Summaries of shift files (RULES 12.1 to 12.7). A summary has an entry of SEGVARTIN_SUMMARY_ENTRY bytes for each record of its file: crossing
  * number (4 bytes), offset of the record in the file (8), the mean of its Y rounded down (1), each low byte first. They stand by ascending crossing
- * number; entries of one crossing may stand in any order among themselves. So a file of n records has a summary of 13 * n bytes. Where a call is lent
- * more, the bytes behind these are not looked at.
+ * number, and those of one crossing by ascending offset. So a file of n records has one summary, of 13 * n bytes. Where a call is lent more, the
+ * bytes behind these are not looked at.
  *
  * Each of the four calls goes through the Y planes of the file's records, for their means; a check only as far as the first entry that is not the
  * file's.
@@ -654,7 +654,7 @@ static inline segvartin_answer segvartin_write_shift_record(uint32_t crossing, c
  * Builds the summary of a shift file (RULES 12.4). Answers 0, or a refusal: 15, 17.
  *
  *   file             the whole file, and nothing behind it
- *   summary          gets a summary at its start, 13 bytes a record; what lies past it is left as it is. 17 where it does not fit
+ *   summary          gets the summary at its start, 13 bytes a record; what lies past it is left as it is. 17 where it does not fit
  */
 static inline segvartin_answer segvartin_build_summary(segvartin_bytes file, segvartin_bytes_mut summary) {
     segvartin_answer a;
@@ -703,7 +703,7 @@ static inline segvartin_answer segvartin_find_record(segvartin_bytes file, segva
 
 /*
  * Makes of a file's summary that of the file with one record more at its end (RULES 12.7), which is then to be written by
- * segvartin_write_shift_file. Answers 0, or a refusal: 15, 17. The summary is checked first.
+ * segvartin_write_shift_file: byte for byte what segvartin_build_summary makes of that. Answers 0, or a refusal: 15, 17. The summary is checked first.
  *
  *   file             the file as it is, without the record; it is not changed
  *   record           one whole record. 15 where it is none, or more; and where the file has 4096 already

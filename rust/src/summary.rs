@@ -5,7 +5,7 @@ use crate::ffi;
 use crate::shift::{ShiftFile, ShiftRecord};
 
 /// The bytes of an entry of a summary, one entry for each record: crossing number (4), offset of the record in the file (8), mean of its Y rounded
-/// down (1), each low byte first; by ascending crossing number.
+/// down (1), each low byte first; by ascending crossing number, and by ascending offset where that is equal.
 pub const SUMMARY_ENTRY: usize = 13;
 
 /// Summaries. A summary is the first [`summary_size`](ShiftFile::summary_size) bytes of what is lent; the bytes behind them are not looked at.
@@ -46,8 +46,8 @@ impl<'a> ShiftFile<'a> {
         SUMMARY_ENTRY * self.len()
     }
 
-    /// Writes a summary of the file at the start of `summary`, and tells its size; what lies past it is left as it is: RULES 12.4. Entries of one crossing
-    /// may stand in any order among themselves. Refuses a `summary` that is too short (17), and then writes no byte.
+    /// Writes the summary of the file, of which there is one, at the start of `summary`, and tells its size; what lies past it is left as it is: RULES
+    /// 12.4. Refuses a `summary` that is too short (17), and then writes no byte.
     pub fn build_summary(&self, summary: &mut [u8]) -> Result<usize, YuvError> {
         let file = self.as_bytes();
         // SAFETY: each pointer is that of a slice beside its own length; no two overlap, as the borrows say.
@@ -63,7 +63,7 @@ impl<'a> ShiftFile<'a> {
         Ok(self.summary_size())
     }
 
-    /// Whether `summary` starts with a summary of the file: RULES 12.5. One that is too short is none.
+    /// Whether `summary` starts with the summary of the file: RULES 12.5. One that is too short is none.
     #[must_use]
     pub fn check_summary(&self, summary: &[u8]) -> bool {
         let file = self.as_bytes();
@@ -81,7 +81,7 @@ impl<'a> ShiftFile<'a> {
         number == 0 && told == [1]
     }
 
-    /// The record of a crossing, the first in the file where there are several, or `None`: RULES 12.6. Refuses what is not a summary of the file (17).
+    /// The record of a crossing, the first in the file where there are several, or `None`: RULES 12.6. Refuses what is not the summary of the file (17).
     /// The record borrows the bytes of the file, and neither the summary nor this value.
     pub fn find_record(
         &self,
@@ -106,8 +106,8 @@ impl<'a> ShiftFile<'a> {
         Ok(if found == 1 { self.record(k) } else { None })
     }
 
-    /// Makes of the file's summary that of the file with `record` at its end, and tells its size, [`SUMMARY_ENTRY`] more than that of the file; what
-    /// lies past it is left as it is: RULES 12.7. The file with the record is [`write_shift_file`](crate::write_shift_file)'s of
+    /// Makes of the file's summary that of the file with `record` at its end, byte for byte what is built from that, and tells its size,
+    /// [`SUMMARY_ENTRY`] more than that of the file; what lies past it is left as it is: RULES 12.7. The file with the record is [`write_shift_file`](crate::write_shift_file)'s of
     /// [`records_as_bytes`](ShiftFile::records_as_bytes) and the record. Refuses what is not one record, and every record where the file has 4,096
     /// (15); a `summary` that is too short for one entry more, or not the file's (17); and then writes no byte.
     pub fn update_summary(&self, record: &[u8], summary: &mut [u8]) -> Result<usize, YuvError> {
