@@ -58,12 +58,12 @@ def entry(crossing, offset, w, h, planes):
 
 
 def summary(sizes, records):
-    """The entries by crossing number, those of one crossing in the order of the file."""
+    """The entries by crossing number, those of one crossing by offset, which is the order of the file."""
     offset, entries = 4 + 12 * len(sizes), []
     for (crossing, w, h), data in zip(sizes, records):
         entries.append((crossing, entry(crossing, offset, w, h, data[8:])))
         offset += len(data)
-    return [data for _, data in sorted(entries, key=lambda one: one[0])]
+    return b''.join(data for _, data in sorted(entries, key=lambda one: one[0]))
 
 
 def found(sizes, crossing):
@@ -109,19 +109,12 @@ def packs(name, records, data):
         expect(text == '' and made.read_bytes() == data, f'{name}: packed otherwise')
 
 
-def same(made, entries):
-    """Whether these bytes are these entries, those of one crossing in any order among themselves."""
-    crossing = struct.Struct('<I').unpack_from
-    parts = [made[at:at + 13] for at in range(0, len(made), 13)]
-    return sorted(parts) == sorted(entries) and [crossing(one) for one in parts] == [crossing(one) for one in entries]
-
-
 def sums(name, sizes, records):
     """A summary made, each crossing found in it, and it brought up to date with the last record."""
     path, made, last = OUT / 'python.shift', OUT / 'made.summary', OUT / 'last.record'
     path.write_bytes(shift_file(records))
     made.unlink(missing_ok=True)
-    expect(said('sum', path, made) == '' and same(made.read_bytes(), summary(sizes, records)), f'{name}: another summary')
+    expect(said('sum', path, made) == '' and made.read_bytes() == summary(sizes, records), f'{name}: another summary')
     for crossing in [0, 1, 4294967295, *[size[0] for size in sizes[:3]]]:
         expect(said('find', path, made, str(crossing)) == found(sizes, crossing), f'{name}: crossing {crossing} found otherwise')
     if made.stat().st_size:
@@ -129,7 +122,7 @@ def sums(name, sizes, records):
         expect(said('find', path, made, '0') == ('refused 17\n' if len(records) > 1 else 'none\n'), f'{name}: the summary of another file')
         expect(said('sum', path, made) == '', f'{name}: no summary of fewer records')
         last.write_bytes(records[-1])
-        expect(said('add', path, made, last) == '' and same(made.read_bytes(), summary(sizes, records)), f'{name}: brought up to date otherwise')
+        expect(said('add', path, made, last) == '' and made.read_bytes() == summary(sizes, records), f'{name}: brought up to date otherwise')
     if len(records) == 4096:
         path.write_bytes(shift_file(records))
         expect(said('add', path, made, last) == 'refused 15\n', f'{name}: one record too many is not refused')

@@ -21,8 +21,6 @@
 //!     2 0 0 0 yes=1
 //!     3 0 0 0 found=1 record=2
 //!
-//! Where a file has several summaries, which is written is left open (RULES 12.4), so those that are built
-//! or updated here have no crossing twice.
 
 use crate::check::{Converters, checked, equal_bytes};
 use crate::conditions;
@@ -34,6 +32,7 @@ use crate::summary::{
     set_offset,
 };
 use model::{Answer, Refusal};
+use std::cmp::Ordering;
 use std::collections::{BTreeMap, BTreeSet};
 use std::fmt::Write;
 use std::path::Path;
@@ -208,7 +207,7 @@ fn checks() -> Vec<Call> {
     let mut calls = Vec::new();
     let (worked, unequal) = (worked(), unequal());
     let entries = entries_of(&lent(&worked));
-    // Every list of three of its entries. What an update of equal crossings leaves is left open.
+    // Every list of three of its entries.
     for list in 0..27 {
         let list = [list % 3, list / 3 % 3, list / 9];
         let bytes = list.map(|k| entries[k]).concat();
@@ -398,7 +397,7 @@ fn updates() -> Vec<Call> {
     calls
 }
 
-/// Those at random that are small and whose summary is not left open.
+/// Those at random that are small and have no crossing twice, but for checks and lookups.
 fn any() -> Vec<Call> {
     let mut calls = Vec::new();
     type Make = fn(&mut Random) -> Summing;
@@ -412,7 +411,8 @@ fn any() -> Vec<Call> {
     .enumerate()
     {
         let random = (0..).map(|case| make(&mut Random::new(25, kind as u64, case)));
-        let small = |one: &Summing| one.file.len() + one.buffer.len() <= 500 && !is_open(one);
+        let small =
+            |one: &Summing| one.file.len() + one.buffer.len() <= 500 && !has_equal_crossings(one);
         calls.extend(random.filter(small).take(80).map(|request| Call {
             why: "any".to_string(),
             request,
@@ -421,8 +421,8 @@ fn any() -> Vec<Call> {
     calls
 }
 
-/// Whether the call may write one of several summaries.
-fn is_open(one: &Summing) -> bool {
+/// Whether records have the same crossing in a file whose summary is written.
+fn has_equal_crossings(one: &Summing) -> bool {
     let mut records = conditions::records_of_file(&one.file).unwrap_or_default();
     match &one.ask {
         Ask::Check | Ask::Find(_) => return false,
@@ -431,6 +431,59 @@ fn is_open(one: &Summing) -> bool {
     }
     let crossings: BTreeSet<u32> = records.iter().map(|record| crossing_of(record)).collect();
     crossings.len() < records.len()
+}
+
+/// Several records of one crossing: built, and updated with one more.
+fn of_equal_crossings() -> Vec<Call> {
+    let mut calls = Vec::new();
+    let worked = worked();
+    let size = ENTRY * worked.len();
+    for length in [size, size + 3, size - 1] {
+        calls.push(call(
+            "one of them twice",
+            file_of(&worked),
+            vec![0xee; length],
+            Ask::Build,
+        ));
+    }
+    for (count, crossings) in [(5, 1), (64, 2), (1_000, 10), (2_849, 1)] {
+        let records: Vec<Vec<u8>> = (0..count)
+            .map(|k: u32| record(k * 7 % crossings, 1, 1, &[(k * 89) as u8]))
+            .collect();
+        let why = format!("{count} records, {crossings} crossings");
+        let room = vec![0xee; ENTRY * records.len()];
+        calls.push(call(&why, file_of(&records), room, Ask::Build));
+        if count <= 64 {
+            for crossing in [0, 1, 2] {
+                let new = record(crossing, 2, 1, &[3, 4]);
+                let buffer = and(&summary_of(&records), ENTRY);
+                calls.push(call(&why, file_of(&records), buffer, Ask::Update(new)));
+            }
+        }
+    }
+    for crossing in [1_399, 1_400, 1_401, 69_999, 70_000, 70_001] {
+        let new = record(crossing, 1, 2, &[9, 200]);
+        for more in [ENTRY - 1, ENTRY, ENTRY + 2] {
+            let buffer = and(&summary_of(&worked), more);
+            let ask = Ask::Update(new.clone());
+            calls.push(call("one of them twice", file_of(&worked), buffer, ask));
+        }
+    }
+    let entries = entries_of(&lent(&worked));
+    let exchanged = [entries[1], entries[2], entries[0]].concat();
+    calls.extend(three(
+        "entries of one crossing exchanged",
+        &worked,
+        exchanged,
+    ));
+    let random = (0..).map(|case| Summing::update(&mut Random::new(26, 0, case)));
+    let small =
+        |one: &Summing| one.file.len() + one.buffer.len() <= 500 && has_equal_crossings(one);
+    calls.extend(random.filter(small).take(60).map(|request| Call {
+        why: "any".to_string(),
+        request,
+    }));
+    calls
 }
 
 /// A call with its answer, and the line that is printed.
@@ -465,9 +518,16 @@ impl Vector {
 }
 
 fn vectors(converters: &Converters) -> Result<Vec<Vector>, String> {
-    let calls = [buildings(), checks(), lookups(), updates(), any()]
-        .into_iter()
-        .flatten();
+    let calls = [
+        buildings(),
+        checks(),
+        lookups(),
+        updates(),
+        any(),
+        of_equal_crossings(),
+    ]
+    .into_iter()
+    .flatten();
     let vectors = calls
         .map(|call| Vector::new(call, converters))
         .collect::<Result<Vec<Vector>, String>>()?;
@@ -475,7 +535,7 @@ fn vectors(converters: &Converters) -> Result<Vec<Vector>, String> {
     Ok(vectors)
 }
 
-/// Every answer that each call can give, in buffers that can be lent, and none that the rules leave open.
+/// Every answer that each call can give, in buffers that can be lent, and several records of one crossing.
 fn complete(vectors: &[Vector]) -> Result<(), String> {
     let short = vectors.iter().all(|vector| {
         let Summing { file, buffer, ask } = &vector.call.request;
@@ -491,7 +551,8 @@ fn complete(vectors: &[Vector]) -> Result<(), String> {
         let some = vectors.iter().filter(|vector| is(&vector.call.request.ask));
         some.map(Vector::number).collect::<BTreeSet<u8>>() == BTreeSet::from_iter(numbers.to_vec())
     });
-    let open = |vector: &Vector| vector.answer.is_ok() && is_open(&vector.call.request);
+    let several =
+        |vector: &Vector| vector.answer.is_ok() && has_equal_crossings(&vector.call.request);
     for (has, what) in [
         (short, "buffers that the program can lend"),
         (answers, "an answer that a call can give"),
@@ -501,8 +562,8 @@ fn complete(vectors: &[Vector]) -> Result<(), String> {
             "both answers to a lookup",
         ),
         (
-            !vectors.iter().any(open),
-            "what the rules do not leave open",
+            vectors.iter().any(several),
+            "several records of one crossing",
         ),
     ] {
         if !has {
@@ -676,6 +737,9 @@ enum Mistake {
     HighByteFirst,
     OffsetOfY,
     NotSorted,
+    LastOfEqualFirst,
+    NewEntryBeforeEqual,
+    EqualInAnyOrder,
     OffsetsNotMoved,
     NewOffsetNotMoved,
     NewEntryAtTheEnd,
@@ -703,7 +767,7 @@ enum Mistake {
 
 use Mistake::*;
 
-const MISTAKES: [(Mistake, &str); 33] = [
+const MISTAKES: [(Mistake, &str); 36] = [
     (MeanRoundedUp, "means rounded up"),
     (MeanToNearest, "means rounded to the nearest"),
     (MeanOfAllPlanes, "means of all planes"),
@@ -714,6 +778,18 @@ const MISTAKES: [(Mistake, &str); 33] = [
     (HighByteFirst, "numbers high byte first"),
     (OffsetOfY, "offsets of Y"),
     (NotSorted, "entries in the order of the file"),
+    (
+        LastOfEqualFirst,
+        "entries of one crossing by descending offset",
+    ),
+    (
+        NewEntryBeforeEqual,
+        "the new entry before those of its crossing",
+    ),
+    (
+        EqualInAnyOrder,
+        "a check takes any order of equal crossings",
+    ),
     (OffsetsNotMoved, "old offsets are not moved by 12"),
     (NewOffsetNotMoved, "the new offset is the file's old end"),
     (NewEntryAtTheEnd, "the new entry at the end"),
@@ -804,6 +880,9 @@ impl Mistaken {
 
     fn sorted(&self, entries: &[[u8; ENTRY]]) -> Vec<[u8; ENTRY]> {
         let mut entries = entries.to_vec();
+        if self.0 == LastOfEqualFirst {
+            entries.reverse();
+        }
         entries.sort_by_key(|entry| self.key(entry));
         entries
     }
@@ -820,6 +899,15 @@ impl Mistaken {
         if self.0 == RestCleared {
             buffer[ENTRY * entries.len()..].fill(0);
         }
+    }
+
+    fn ordered(&self, entries: &[[u8; ENTRY]]) -> bool {
+        entries.is_sorted_by(|a, b| match self.key(a).cmp(&self.key(b)) {
+            Ordering::Equal if self.0 == EqualInAnyOrder => true,
+            Ordering::Equal if self.0 == LastOfEqualFirst => offset_of(a) >= offset_of(b),
+            Ordering::Equal => offset_of(a) <= offset_of(b),
+            order => order == Ordering::Less,
+        })
     }
 
     fn says_yes(&self, entries: &[[u8; ENTRY]], buffer: &[u8]) -> bool {
@@ -844,7 +932,7 @@ impl Mistaken {
             }
             entry
         };
-        let ordered = self.0 == OrderNotChecked || have.is_sorted_by_key(|entry| self.key(entry));
+        let ordered = self.0 == OrderNotChecked || self.ordered(&have);
         if self.0 == LastEntryForgotten {
             let last = have.pop();
             should.retain(|entry| have.contains(entry) || last.is_none());
@@ -879,6 +967,11 @@ impl Mistaken {
         match self.0 {
             NewEntryAtTheStart => entries.splice(0..0, new).for_each(drop),
             NewEntryAtTheEnd => entries.extend(new),
+            NewEntryBeforeEqual => {
+                let before = |entry: &[u8; ENTRY], new| self.key(entry) < self.key(new);
+                let place = entries.partition_point(|e| new.as_ref().is_some_and(|n| before(e, n)));
+                entries.splice(place..place, new).for_each(drop);
+            }
             _ => {
                 entries.extend(new);
                 entries = self.sorted(&entries);
