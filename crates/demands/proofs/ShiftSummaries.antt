@@ -23,6 +23,8 @@ use Rattle.shift_file.proofs.Walk.{first-of}
 use Rattle.shift_file.proofs.File.{some-list, checked-file, its-records, is-checked, after-pairs}
 use Rattle.shift_reader.proofs.Places.{record-there}
 use Rattle.shift_writer.specs.Records.{BackToBack}
+use Rattle.shift_summary.specs.Summary.{IsSummary}
+use Rattle.shift_summary.proofs.Built.{one-summary}
 use Rattle.summary_check.specs.Check.{isSummary}
 use Rattle.summary_check.proofs.Checked.{checked}
 use Rattle.summary_calls.specs.declared.FoundRecord.{FoundRecord}
@@ -31,7 +33,8 @@ use Rattle.summary_calls.specs.declared.SummaryFinding.{SummaryFinding}
 use Rattle.summary_calls.specs.Found.{foundAmong, IsFirst}
 use Rattle.summary_calls.specs.Calls.{FindPost}
 use Rattle.summary_calls.proofs.Found.{finds}
-use Rattle.summary_update.specs.Update.{isRecord, mayGrow, mayTake}
+use Rattle.summary_update.specs.Update.{isRecord, mayGrow, mayTake, UpdatePost}
+use Rattle.summary_update.specs.Summaries.{Left}
 use Rattle.summary_update.proofs.Grown.{may-grow, grows}
 use Rattle.summary_update.proofs.Summaries.{summaries}
 use Rattle.demands.specs.Demands.{NoFile, HasSummary, NoRecordOf, Grows, ShiftSummaries}
@@ -131,6 +134,10 @@ module _ (form : ShiftForm) (file added : List ℕ) where
       same = bytes-append rs r ∙ ap₂ (λ (a b : List ℕ). a ++ b) (sym (after-pairs form rs) ∙ ap (drop (recordsAt form (length rs))) (g .old .same)) (g .new);
     }
 
+    its-updated : (before : List ℕ) (a : YuvAnswer) (after : List ℕ) → Bytes file → Bytes added → UpdatePost form file added before a after → a ≡ Finished
+        → Left form (rs ++ r ∷ []) (13 * (length rs + 1)) before after
+    its-updated before a after bf ba p done = rw new-record at (summaries .updated form file added before a after rs (g .old) bf ba p done .1)
+
     takes-is : (before : List ℕ) → Bytes before
         → (mayTake form file before ≡ true) ↔ ((13 * (length rs + 1) ≤ length before) × HasSummary form rs before)
     takes-is before b =
@@ -159,6 +166,7 @@ module _ (form : ShiftForm) (file added : List ℕ) where
 
 pub shift-summaries : ShiftSummaries
 shift-summaries = record {
+  one-summary = one-summary;
   build-refused = λ form file before a after b p.
       no-file form file (ltb (length before) (13 * length (recordsIn form file))) b (ap (λ (x : Numbers). x .number) (p .answered));
   build-short = λ form file before a after rs f p.
@@ -188,7 +196,11 @@ shift-summaries = record {
   update-mismatch = λ form file added before a after rs r g b p.
       second (mayGrow form file added) (mayTake form file before) (grows-is form file added rs r g) (takes-is form file added rs r g before b)
       (ap (λ (x : Numbers). x .number) (p .answered));
-  updated = λ form file added before a after rs r g bf ba p done.
-      rw (new-record form file added rs r g) at (summaries .updated form file added before a after rs (g .old) bf ba p done .1);
+  updated = λ form file added before a after rs r g. its-updated form file added rs r g before a after;
+  afresh = λ form file added before a after rs r g bf ba p done grown before₂ b after₂ f q done₂.
+      let many : 13 * length (rs ++ r ∷ []) ≡ 13 * (length rs + 1) = ap (λ (n : ℕ). 13 * n) (length-append rs (r ∷ [])) in
+      let built : IsSummary form (rs ++ r ∷ []) (take (13 * (length rs + 1)) after₂) =
+      rw many at (summaries .built form grown before₂ b after₂ (rs ++ r ∷ []) f q done₂ .summary) in
+      one-summary form (rs ++ r ∷ []) _ _ (g .has) (its-updated form file added rs r g before a after bf ba p done .summary) built;
   grown = λ form file added before w after rs r g p done. its-file form _ before w after p (rs ++ r ∷ []) (back-to-back form file added rs r g) done;
 }

@@ -64,7 +64,7 @@ use Rattle.shift_record.specs.Record.{recordMade, recordSize, recordRules, Reco
 use Rattle.segvartin.specs.Shift.{ExportedReading, rulesOfReading, ReadingKept}
 use Rattle.segvartin.specs.Shift.{ExportedWriting, rulesOfWriting, WritingKept}
 use Rattle.segvartin.specs.Shift.{ExportedRecord, rulesOfRecord, RecordKept}
-use Rattle.shift_summary.specs.Summary.{IsSummary}
+use Rattle.shift_summary.specs.Summary.{IsSummary, OneSummary}
 use Rattle.summary_calls.specs.declared.FoundRecord.the-variants.{At, Nowhere}
 use Rattle.summary_calls.specs.declared.SummaryVerdict.{SummaryVerdict}
 use Rattle.summary_calls.specs.declared.SummaryFinding.{SummaryFinding}
@@ -326,9 +326,10 @@ pub record ShiftFiles : Type 0 where
       → OfFrame k f → RecordPost f (k .y′) (k .u′) (k .v′) before r after → recordSize (f .width) (f .height) ≤ length before → r .answer ≡ Finished
   pub frame : (k : FrameCall) (f : RecordFrame) → FramePost k → k .answer ≡ Finished → OfFrame k f → RecordBytes k (recordMade f (k .y′) (k .u′) (k .v′))
 
--- ---- The summary of a shift file: what is built is a summary, the check says yes exactly where there is one, a lookup finds the first record of a
--- crossing, or none exactly where there is none, and an update leaves a summary of the grown file, which is the one that the writer makes of the old
--- records and the new one. 15 and 17 are answered exactly where there is no such file, and no such room or summary. In both forms.
+-- ---- The summary of a shift file: a file has one, byte for byte; what is built is the summary, the check says yes exactly where it is there, a lookup finds
+-- the first record of a crossing, or none exactly where there is none, and an update leaves the bytes that are built afresh of the grown file, which is the
+-- one that the writer makes of the old records and the new one. 15 and 17 are answered exactly where there is no such file, and no such room or summary.
+-- In both forms.
 
 -- RULES 12.5: what is lent starts with a summary of these records
 abbrev pub HasSummary : ShiftForm → List ShiftRecord → (lent : List ℕ) → Type 0
@@ -346,6 +347,7 @@ pub record Grows (form : ShiftForm) (file added : List ℕ) (rs : List ShiftReco
 
 -- RULES 12.3, 12.4, 12.5, 12.6, 12.7
 pub record ShiftSummaries : Type 0 where
+  pub one-summary : OneSummary
   -- building
   pub build-refused : (form : ShiftForm) (file before : List ℕ) (a : YuvAnswer) (after : List ℕ) → Bytes file → BuildPost form file before a after
       → (numbersOf a .number ≡ 15) ↔ NoFile form file
@@ -385,3 +387,8 @@ pub record ShiftSummaries : Type 0 where
   pub grown : (form : ShiftForm) (file added before : List ℕ) (w : ShiftWritten) (after : List ℕ) (rs : List ShiftRecord) (r : ShiftRecord)
       → Grows form file added rs r → WritePost form (drop (recordsAt form (length rs)) file ++ added) before w after → w .answer ≡ Finished
       → IsFileOf form (take (w .size) after) (rs ++ r ∷ [])
+  -- of which a summary built afresh has the same bytes
+  pub afresh : (form : ShiftForm) (file added before : List ℕ) (a : YuvAnswer) (after : List ℕ) (rs : List ShiftRecord) (r : ShiftRecord)
+      → Grows form file added rs r → Bytes file → Bytes added → UpdatePost form file added before a after → a ≡ Finished
+      → (grown before₂ : List ℕ) (b : YuvAnswer) (after₂ : List ℕ) → IsFileOf form grown (rs ++ r ∷ []) → BuildPost form grown before₂ b after₂ → b ≡ Finished
+      → take (13 * (length rs + 1)) after ≡ take (13 * (length rs + 1)) after₂
