@@ -1,5 +1,6 @@
 /*
- * Conversion of 8-bit RGB frames to Y, U and V planes, and the shift file that holds such planes, as docs/RULES.md states them.
+ * Conversion of 8-bit RGB frames to Y, U and V planes, the shift file that holds such planes, and its summary, as docs/RULES.md
+ * states them.
  *
  * Whole numbers only: kr and kb are handed over by their bits, and no floating-point type is used. Nothing is allocated and
  * nothing is kept between calls: the caller owns the tables, the buffers and the state of a frame that comes in bands.
@@ -58,7 +59,8 @@ enum {
 /* RULES 7.1: numbers of an answer, in the order in which they are asked. */
 enum {
     REFERENCE_ACCEPTED = 0,
-    REFERENCE_BAD_LAYOUT = 15,    /* RULES 11.3, 11.6 */
+    REFERENCE_BAD_LAYOUT = 15,    /* RULES 11.3, 11.6, 12.7 */
+    REFERENCE_BAD_SUMMARY = 17,   /* RULES 12.4, 12.6, 12.7 */
     REFERENCE_BAD_CODE = 1,       /* RULES 9.2, 9.4, 10.2, 10.4 */
     REFERENCE_EMPTY = 2,          /* RULES 7.3 */
     REFERENCE_TOO_LARGE = 3,      /* RULES 7.3 */
@@ -137,7 +139,7 @@ struct reference_planes {
     struct reference_buffer v;
 };
 
-/* RULES 11.3: bytes that are only read: those of a shift file, or records. */
+/* RULES 11.3, 12.5: bytes that are only read: those of a shift file, records, or a summary. */
 struct reference_bytes {
     const uint8_t *bytes;
     uint64_t length;
@@ -224,5 +226,20 @@ struct reference_answer reference_shift_write(const struct reference_bytes *reco
 struct reference_answer reference_shift_record(uint32_t crossing, uint32_t width, uint32_t height,
                                                const struct reference_plane *planes, const struct reference_buffer *output,
                                                uint64_t *size);
+
+/* RULES 10.6, 12.4: builds the summary of a shift file. It asks 15, 17. */
+struct reference_answer reference_summary_build(const struct reference_bytes *file, const struct reference_buffer *summary);
+
+/* RULES 10.6, 12.5: whether a buffer starts with the summary of a shift file, 1 or 0. It asks 15. */
+struct reference_answer reference_summary_check(const struct reference_bytes *file, const struct reference_bytes *summary,
+                                                uint64_t *yes);
+
+/* RULES 10.6, 12.6: looks a crossing number up. It asks 15, 17, and tells whether there is a record, 1 or 0, and its number or 0. */
+struct reference_answer reference_summary_find(const struct reference_bytes *file, const struct reference_bytes *summary,
+                                               uint32_t crossing, uint64_t *found, uint64_t *record);
+
+/* RULES 10.6, 12.7: updates a summary for a file that grows by one record at its end. It asks 15, 17; the file itself stays. */
+struct reference_answer reference_summary_update(const struct reference_bytes *file, const struct reference_bytes *record,
+                                                 const struct reference_buffer *summary);
 
 #endif

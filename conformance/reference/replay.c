@@ -1,6 +1,6 @@
 /*
- * Replays a stored list of calls: `replay frames`, `replay bands` or `replay shift`, the list on standard input, a line for each
- * call on standard output, both as vectors/README.md describes them: LISTS in the comments below.
+ * Replays a stored list of calls: `replay frames`, `replay bands`, `replay shift` or `replay summary`, the list on standard
+ * input, a line for each call on standard output, both as vectors/README.md describes them: LISTS in the comments below.
  */
 #include "digest.h"
 #include "reference.h"
@@ -341,20 +341,111 @@ static void replay_shift(uint32_t line)
     printf("\n");
 }
 
+/* LISTS: a building of a summary and its line (RULES 12.4). */
+static void replay_building(const struct reference_bytes *file, uint32_t length)
+{
+    struct reference_buffer summary = read_buffer(length);
+    struct reference_answer answer = reference_summary_build(file, &summary);
+
+    print_answer(&answer);
+    print_digest("summary", summary.bytes, summary.length);
+    free(summary.bytes);
+}
+
+/* LISTS: a check of a summary and its line (RULES 12.5). */
+static void replay_check(const struct reference_bytes *file, uint32_t length)
+{
+    struct reference_buffer buffer = read_buffer(length);
+    struct reference_bytes summary;
+    struct reference_answer answer;
+    uint64_t yes;
+
+    summary.bytes = buffer.bytes;
+    summary.length = buffer.length;
+    answer = reference_summary_check(file, &summary, &yes);
+    print_answer(&answer);
+    printf(" yes=%llu", (unsigned long long)yes);
+    free(buffer.bytes);
+}
+
+/* LISTS: a lookup and its line (RULES 12.6). */
+static void replay_lookup(const struct reference_bytes *file, uint32_t length, uint32_t crossing)
+{
+    struct reference_buffer buffer = read_buffer(length);
+    struct reference_bytes summary;
+    struct reference_answer answer;
+    uint64_t found;
+    uint64_t record;
+
+    summary.bytes = buffer.bytes;
+    summary.length = buffer.length;
+    answer = reference_summary_find(file, &summary, crossing, &found, &record);
+    print_answer(&answer);
+    printf(" found=%llu record=%llu", (unsigned long long)found, (unsigned long long)record);
+    free(buffer.bytes);
+}
+
+/* LISTS: an update of a summary and its line (RULES 12.7). */
+static void replay_update(const struct reference_bytes *file, uint32_t record_length, uint32_t length)
+{
+    struct reference_buffer buffer = read_buffer(record_length);
+    struct reference_buffer summary = read_buffer(length);
+    struct reference_bytes record;
+    struct reference_answer answer;
+
+    record.bytes = buffer.bytes;
+    record.length = buffer.length;
+    answer = reference_summary_update(file, &record, &summary);
+    print_answer(&answer);
+    print_digest("summary", summary.bytes, summary.length);
+    free(buffer.bytes);
+    free(summary.bytes);
+}
+
+/* LISTS: a call on a summary; its first number says which, and the file is the first block of each. */
+static void replay_summary(uint32_t line)
+{
+    uint32_t call = read_number();
+    uint32_t file_length = read_number();
+    uint32_t record_length = call == 3 ? read_number() : 0;
+    uint32_t length = read_number();
+    uint32_t crossing = call == 2 ? read_number() : 0;
+    struct reference_buffer buffer = read_buffer(file_length);
+    struct reference_bytes file;
+
+    file.bytes = buffer.bytes;
+    file.length = buffer.length;
+    printf("%lu", (unsigned long)line);
+    if (call == 0) {
+        replay_building(&file, length);
+    } else if (call == 1) {
+        replay_check(&file, length);
+    } else if (call == 2) {
+        replay_lookup(&file, length, crossing);
+    } else if (call == 3) {
+        replay_update(&file, record_length, length);
+    } else {
+        fail("a call on a summary that is none of the four");
+    }
+    printf("\n");
+    free(buffer.bytes);
+}
+
 /* LISTS: how many calls or sequences there are, and these; lines count from 1. */
 int main(int count, char **arguments)
 {
-    static const char *const names[3] = {"frames", "bands", "shift"};
-    static void (*const replays[3])(uint32_t) = {replay_frame, replay_sequence, replay_shift};
+    enum { LISTS = 4 };
+    static const char *const names[LISTS] = {"frames", "bands", "shift", "summary"};
+    static void (*const replays[LISTS])(uint32_t) = {replay_frame, replay_sequence, replay_shift, replay_summary};
     unsigned list = 0;
     uint32_t calls;
     uint32_t line;
 
-    while (list < 3 && (count != 2 || strcmp(arguments[1], names[list]) != 0)) {
+    while (list < LISTS && (count != 2 || strcmp(arguments[1], names[list]) != 0)) {
         list++;
     }
-    if (list == 3) {
-        fputs("usage: replay frames|bands|shift < list\n", stderr);
+    if (list == LISTS) {
+        fputs("usage: replay frames|bands|shift|summary < list\n", stderr);
         return EXIT_FAILURE;
     }
     reference_make_tables(&tables);

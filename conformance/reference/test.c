@@ -1576,7 +1576,7 @@ static void test_every_window(void)
     }
 }
 
-/* RULES 6.5, 11: numbers below a bound of at most 2^24, without order but the same in each run. */
+/* RULES 6.5, 11, 12: numbers below a bound of at most 2^24, without order but the same in each run. */
 static uint32_t below(uint32_t bound)
 {
     static uint32_t state = 1;
@@ -2455,6 +2455,753 @@ static void test_lists(void)
     }
 }
 
+/* RULES 12.1: the file of the examples, its records and their entries. */
+enum { THREE_BYTES = 81, THREE_TABLE = 40, THIRD_BYTES = 12, ENTRY_BYTES = 13, THREE_SUMMARY = 3 * ENTRY_BYTES, MOST_FULL = 4096 };
+
+static const uint8_t three_file[THREE_BYTES] = {
+    0x03, 0x00, 0x00, 0x00,
+    0x28, 0x00, 0x00, 0x00, 0x00, 0x00, 0x00, 0x00, 0x0B, 0x00, 0x00, 0x00,
+    0x33, 0x00, 0x00, 0x00, 0x00, 0x00, 0x00, 0x00, 0x12, 0x00, 0x00, 0x00,
+    0x45, 0x00, 0x00, 0x00, 0x00, 0x00, 0x00, 0x00, 0x0C, 0x00, 0x00, 0x00,
+    0x70, 0x11, 0x01, 0x00, 0x01, 0x00, 0x01, 0x00, 0x50, 0x60, 0x70,
+    0x78, 0x05, 0x00, 0x00, 0x03, 0x00, 0x02, 0x00, 0x10, 0x11, 0x12, 0x20, 0x21, 0x22, 0x30, 0x31, 0x40, 0x41,
+    0x70, 0x11, 0x01, 0x00, 0x02, 0x00, 0x01, 0x00, 0x80, 0x83, 0x60, 0x70,
+};
+static const uint8_t *const three_records = three_file + THREE_TABLE;
+static const uint8_t *const third_record = three_file + (THREE_BYTES - THIRD_BYTES);
+static const uint8_t three_entries[3][ENTRY_BYTES] = {
+    {0x70, 0x11, 0x01, 0x00, 0x28, 0x00, 0x00, 0x00, 0x00, 0x00, 0x00, 0x00, 0x50},
+    {0x78, 0x05, 0x00, 0x00, 0x33, 0x00, 0x00, 0x00, 0x00, 0x00, 0x00, 0x00, 0x19},
+    {0x70, 0x11, 0x01, 0x00, 0x45, 0x00, 0x00, 0x00, 0x00, 0x00, 0x00, 0x00, 0x81},
+};
+
+/* RULES 12.4: its summary. RULES 12.4, 12.7: those of its first two records, and of them and one more of crossing 5. */
+static const uint8_t three_summary[THREE_SUMMARY] = {
+    0x78, 0x05, 0x00, 0x00, 0x33, 0x00, 0x00, 0x00, 0x00, 0x00, 0x00, 0x00, 0x19,
+    0x70, 0x11, 0x01, 0x00, 0x28, 0x00, 0x00, 0x00, 0x00, 0x00, 0x00, 0x00, 0x50,
+    0x70, 0x11, 0x01, 0x00, 0x45, 0x00, 0x00, 0x00, 0x00, 0x00, 0x00, 0x00, 0x81,
+};
+static const uint8_t two_summary[2 * ENTRY_BYTES] = {
+    0x78, 0x05, 0x00, 0x00, 0x27, 0x00, 0x00, 0x00, 0x00, 0x00, 0x00, 0x00, 0x19,
+    0x70, 0x11, 0x01, 0x00, 0x1C, 0x00, 0x00, 0x00, 0x00, 0x00, 0x00, 0x00, 0x50,
+};
+static const uint8_t grown_summary[THREE_SUMMARY] = {
+    0x05, 0x00, 0x00, 0x00, 0x45, 0x00, 0x00, 0x00, 0x00, 0x00, 0x00, 0x00, 0x19,
+    0x78, 0x05, 0x00, 0x00, 0x33, 0x00, 0x00, 0x00, 0x00, 0x00, 0x00, 0x00, 0x19,
+    0x70, 0x11, 0x01, 0x00, 0x28, 0x00, 0x00, 0x00, 0x00, 0x00, 0x00, 0x00, 0x50,
+};
+
+/* A copy of these bytes in a buffer of its own, with bytes EE behind them as far as its length, which the caller frees. */
+static struct reference_buffer own_buffer(const uint8_t *bytes, size_t length, size_t buffer_length)
+{
+    struct reference_buffer buffer;
+
+    buffer.bytes = own_bytes(buffer_length);
+    buffer.length = buffer_length;
+    memset(buffer.bytes, 0xEE, buffer_length);
+    if (length > 0) {
+        memcpy(buffer.bytes, bytes, length < buffer_length ? length : buffer_length);
+    }
+    return buffer;
+}
+
+/* A buffer that is only read. */
+static struct reference_bytes only_read(const struct reference_buffer *buffer)
+{
+    struct reference_bytes bytes;
+
+    bytes.bytes = buffer->bytes;
+    bytes.length = buffer->length;
+    return bytes;
+}
+
+/* RULES 11.5: the file of these records, which the caller frees. */
+static struct reference_buffer file_of(const uint8_t *records, size_t length, size_t count)
+{
+    struct reference_buffer file;
+    uint64_t size;
+
+    expect_answer("11.5 file", (long)count, 0, 0, 0, call_writing(records, length, &file, 4 + 12 * count + length, &size));
+    expect("11.5 file", (long)count, (long long)file.length, (long long)size);
+    return file;
+}
+
+/* RULES 12.2: the mean again, as the largest number that the luma bytes hold so often. */
+static uint8_t mean_of(const uint8_t *luma, uint64_t bytes)
+{
+    uint64_t sum = 0;
+    uint64_t byte;
+    uint64_t mean = 0;
+
+    for (byte = 0; byte < bytes; byte++) {
+        sum += luma[byte];
+    }
+    while ((mean + 1) * bytes <= sum) {
+        mean++;
+    }
+    return (uint8_t)mean;
+}
+
+/* RULES 12.3: what a record's entry is sorted by, crossing number before offset, and its mean. */
+struct listed {
+    uint64_t key[2];
+    uint64_t mean;
+};
+
+static int compare_listed(const void *a, const void *b)
+{
+    const uint64_t *left = ((const struct listed *)a)->key;
+    const uint64_t *right = ((const struct listed *)b)->key;
+    int number = left[0] == right[0];
+
+    return left[number] < right[number] ? -1 : left[number] > right[number];
+}
+
+/* RULES 12.3: the summary of a file again, from the entries of a reading (RULES 11.4), which are sorted. Gives its length. */
+static uint8_t wanted_summary[(MOST_FULL + 1) * ENTRY_BYTES];
+
+static size_t make_wanted(const struct reference_buffer *buffer)
+{
+    static uint64_t numbers[MOST_FULL * REFERENCE_ENTRY_NUMBERS];
+    static struct listed list[MOST_FULL];
+    struct reference_bytes file = only_read(buffer);
+    uint8_t *next = wanted_summary;
+    uint64_t records;
+    uint64_t entries;
+    size_t record;
+
+    expect_answer("12.3 file", 0, 0, 0, 0,
+                  reference_shift_records(&file, 0, numbers, MOST_FULL * REFERENCE_ENTRY_NUMBERS, &records, &entries));
+    for (record = 0; record < entries; record++) {
+        const uint64_t *entry = numbers + record * REFERENCE_ENTRY_NUMBERS;
+
+        list[record].key[0] = entry[0];
+        list[record].key[1] = entry[3];
+        list[record].mean = mean_of(file.bytes + entry[5], entry[6]);
+    }
+    qsort(list, (size_t)entries, sizeof list[0], compare_listed);
+    for (record = 0; record < entries; record++) {
+        next = put_number(next, list[record].key[0], 4);
+        next = put_number(next, list[record].key[1], 8);
+        next = put_number(next, list[record].mean, 1);
+    }
+    return (size_t)(next - wanted_summary);
+}
+
+/* RULES 12.4: a building into a buffer of this length, all EE before; what it leaves is the summary, and EE behind it. */
+static void expect_building(const char *rule, long place, const struct reference_buffer *file, size_t length, uint32_t number,
+                            const uint8_t *wanted, size_t wanted_length)
+{
+    struct reference_buffer summary = own_buffer(wanted, 0, length);
+    struct reference_buffer left = own_buffer(wanted, number == 0 ? wanted_length : 0, length);
+    struct reference_bytes bytes = only_read(file);
+
+    expect_answer(rule, place, number, 0, 0, reference_summary_build(&bytes, &summary));
+    expect_bytes(rule, left.bytes, summary.bytes, length);
+    free(summary.bytes);
+    free(left.bytes);
+}
+
+/* RULES 12.5: a check of a buffer. */
+static void expect_check(const char *rule, long place, const struct reference_buffer *file, const struct reference_buffer *buffer,
+                         uint32_t number, long long yes)
+{
+    struct reference_bytes bytes = only_read(file);
+    struct reference_bytes summary = only_read(buffer);
+    uint64_t told = 77;
+
+    expect_answer(rule, place, number, 0, 0, reference_summary_check(&bytes, &summary, &told));
+    expect(rule, place, yes, (long long)told);
+}
+
+/* RULES 12.6: a lookup; no record is -1. */
+static void expect_lookup(const char *rule, long place, const struct reference_buffer *file, const struct reference_buffer *buffer,
+                          uint32_t crossing, uint32_t number, long long record)
+{
+    struct reference_bytes bytes = only_read(file);
+    struct reference_bytes summary = only_read(buffer);
+    uint64_t found = 77;
+    uint64_t told = 77;
+
+    expect_answer(rule, place, number, 0, 0, reference_summary_find(&bytes, &summary, crossing, &found, &told));
+    expect(rule, place, record >= 0, (long long)found);
+    expect(rule, place, record >= 0 ? record : 0, (long long)told);
+}
+
+/* RULES 12.7: an update of a copy of a buffer; what it leaves is this summary and the rest of the buffer, refused the buffer. */
+static void expect_update(const char *rule, long place, const struct reference_buffer *file, const uint8_t *record,
+                          size_t record_length, const struct reference_buffer *buffer, uint32_t number, const uint8_t *wanted,
+                          size_t wanted_length)
+{
+    struct reference_buffer own = own_buffer(record, record_length, record_length);
+    struct reference_buffer summary = own_buffer(buffer->bytes, (size_t)buffer->length, (size_t)buffer->length);
+    struct reference_buffer left = own_buffer(buffer->bytes, (size_t)buffer->length, (size_t)buffer->length);
+    struct reference_bytes bytes = only_read(file);
+    struct reference_bytes given = only_read(&own);
+
+    if (number == 0) {
+        memcpy(left.bytes, wanted, wanted_length);
+    }
+    expect_answer(rule, place, number, 0, 0, reference_summary_update(&bytes, &given, &summary));
+    expect_bytes(rule, left.bytes, summary.bytes, (size_t)left.length);
+    free(own.bytes);
+    free(summary.bytes);
+    free(left.bytes);
+}
+
+/* RULES 12.2: means, the largest frame's too. */
+static void test_means(void)
+{
+    static const struct {
+        uint32_t side[2];
+        uint8_t luma[6];
+        long long mean;
+    } wanted[] = {
+        {{1, 1}, {80}, 80}, {{3, 2}, {16, 17, 18, 32, 33, 34}, 25}, {{2, 1}, {128, 131}, 129},
+        {{2, 2}, {0, 0, 0, 3}, 0}, {{2, 2}, {255, 255, 255, 254}, 254}, {{1, 1}, {0}, 0}, {{1, 1}, {255}, 255},
+        {{1, 3}, {0, 0, 2}, 0}, {{3, 1}, {0, 0, 3}, 1}, {{1, 2}, {254, 255}, 254},
+    };
+    const uint64_t largest = 16384 * (uint64_t)16384;
+    uint8_t *record = own_bytes((size_t)(8 + largest));
+    size_t place;
+
+    for (place = 0; place < sizeof wanted / sizeof wanted[0]; place++) {
+        put_number(record, 1400, 4);
+        put_number(record + 4, wanted[place].side[0], 2);
+        put_number(record + 6, wanted[place].side[1], 2);
+        memcpy(record + 8, wanted[place].luma, sizeof wanted[place].luma);
+        expect("12.2", (long)place, wanted[place].mean, mean_luma(record));
+    }
+    expect("12.2 sum", 0, 68451041280, (long long)(255 * largest));
+    memset(record, 255, (size_t)(8 + largest));
+    put_number(record + 4, 16384, 2);
+    put_number(record + 6, 16384, 2);
+    expect("12.2 largest", 0, 255, mean_luma(record));
+    record[7 + largest] = 254;
+    expect("12.2 largest", 1, 254, mean_luma(record));
+    free(record);
+}
+
+/* RULES 12.1: an entry of each record of the examples. */
+static void test_entries(void)
+{
+    static const unsigned offsets[3] = {40, 51, 69};
+    uint8_t entry[ENTRY_BYTES];
+    unsigned record;
+
+    for (record = 0; record < 3; record++) {
+        put_summary_entry(entry, three_file + offsets[record], offsets[record]);
+        expect_bytes("12.1", three_entries[record], entry, ENTRY_BYTES);
+    }
+}
+
+/* RULES 12.3, 12.5: which bytes are the summary of the file of the examples. */
+static void test_which_summary(void)
+{
+    static const struct {
+        unsigned count;
+        unsigned entries[3];
+        long long yes;
+    } orders[] = {
+        {3, {1, 0, 2}, 1}, {3, {1, 2, 0}, 0}, {3, {0, 1, 2}, 0}, {3, {0, 2, 1}, 0}, {3, {2, 0, 1}, 0}, {3, {2, 1, 0}, 0},
+        {3, {1, 0, 0}, 0}, {3, {1, 2, 2}, 0}, {3, {1, 1, 2}, 0}, {3, {0, 0, 2}, 0}, {2, {1, 0, 0}, 0}, {0, {0, 0, 0}, 0},
+    };
+    static const struct {
+        unsigned at;
+        unsigned change;
+    } changes[] = {{38, 0x82 ^ 0x81}, {17, 0x28 ^ 0x1C}, {0, 1}, {11, 1}, {24, 0x80}, {37, 0xFF}};
+    struct reference_buffer file = own_buffer(three_file, THREE_BYTES, THREE_BYTES);
+    struct reference_buffer none = own_buffer(three_file, 0, 4);
+    struct reference_buffer buffer;
+    size_t place;
+    unsigned entry;
+
+    for (place = 0; place < sizeof orders / sizeof orders[0]; place++) {
+        buffer = own_buffer(three_file, 0, orders[place].count * (size_t)ENTRY_BYTES);
+        for (entry = 0; entry < orders[place].count; entry++) {
+            memcpy(buffer.bytes + entry * ENTRY_BYTES, three_entries[orders[place].entries[entry]], ENTRY_BYTES);
+        }
+        expect_check("12.3 order", (long)place, &file, &buffer, 0, orders[place].yes);
+        free(buffer.bytes);
+    }
+    for (place = 0; place < sizeof changes / sizeof changes[0]; place++) {
+        buffer = own_buffer(three_summary, THREE_SUMMARY, THREE_SUMMARY + 13);
+        expect_check("12.3 behind", (long)place, &file, &buffer, 0, 1);
+        buffer.bytes[changes[place].at] = (uint8_t)(buffer.bytes[changes[place].at] ^ changes[place].change);
+        expect_check("12.3 change", (long)place, &file, &buffer, 0, 0);
+        free(buffer.bytes);
+    }
+    memset(none.bytes, 0, 4);
+    buffer = own_buffer(three_file, 0, 0);
+    expect_check("12.3 none", 0, &none, &buffer, 0, 1);
+    free(buffer.bytes);
+    free(none.bytes);
+    free(file.bytes);
+}
+
+/* RULES 10.6, 12.4: buildings, into buffers of every length. */
+static void test_building(void)
+{
+    struct reference_buffer files[3];
+    struct reference_buffer cut = own_buffer(three_file, THREE_BYTES - 1, THREE_BYTES - 1);
+    const uint8_t *wanted[3] = {three_summary, two_summary, three_summary};
+    const size_t lengths[3] = {0, sizeof two_summary, THREE_SUMMARY};
+    unsigned file;
+    size_t length;
+
+    files[0] = file_of(three_records, 0, 0);
+    files[1] = file_of(three_records, SECOND_BYTES + FIRST_BYTES, 2);
+    files[2] = file_of(three_records, THREE_BYTES - THREE_TABLE, 3);
+    expect_bytes("12.1 file", three_file, files[2].bytes, THREE_BYTES);
+    for (file = 0; file < 3; file++) {
+        for (length = 0; length <= lengths[file] + ENTRY_BYTES + 1; length++) {
+            expect_building("12.4", (long)length, &files[file], length, length < lengths[file] ? 17 : 0, wanted[file],
+                            lengths[file]);
+        }
+        free(files[file].bytes);
+    }
+    for (length = 0; length <= THREE_SUMMARY + 1; length++) {
+        expect_building("12.4 cut", (long)length, &cut, length, 15, NULL, 0);
+    }
+    free(cut.bytes);
+}
+
+/* RULES 10.6, 12.5: checks. */
+static void test_checking(void)
+{
+    struct reference_buffer file = own_buffer(three_file, THREE_BYTES, THREE_BYTES);
+    struct reference_buffer cut = own_buffer(three_file, THREE_BYTES - 1, THREE_BYTES - 1);
+    struct reference_buffer none = file_of(three_records, 0, 0);
+    struct reference_buffer buffer = own_buffer(three_summary, THREE_SUMMARY, THREE_SUMMARY);
+    struct reference_buffer other;
+
+    expect_check("12.5", 0, &file, &buffer, 0, 1);
+    expect_check("12.5", 1, &cut, &buffer, 15, 0);
+    file.bytes[THREE_BYTES - 1] ^= 0xFF;
+    expect_check("12.5", 2, &file, &buffer, 0, 1);
+    file.bytes[THREE_BYTES - 1] ^= 0xFF;
+    file.bytes[THREE_BYTES - 3] = 0x80;
+    expect_check("12.5", 3, &file, &buffer, 0, 0);
+    file.bytes[THREE_BYTES - 3] = 0x82;
+    expect_check("12.5", 4, &file, &buffer, 0, 1); /* 258, of which half is 129 as before */
+    file.bytes[THREE_BYTES - 3] = 0x83;
+    buffer.bytes[THREE_SUMMARY - 1] = 0x80;
+    expect_check("12.5", 5, &file, &buffer, 0, 0);
+    memcpy(buffer.bytes + ENTRY_BYTES, three_entries[2], ENTRY_BYTES);
+    memcpy(buffer.bytes + 2 * ENTRY_BYTES, three_entries[0], ENTRY_BYTES);
+    expect_check("12.5", 6, &file, &buffer, 0, 0);
+    other = own_buffer(three_summary, THREE_SUMMARY, THREE_SUMMARY + 1);
+    expect_check("12.5", 7, &file, &other, 0, 1);
+    free(other.bytes);
+    other = own_buffer(three_summary, THREE_SUMMARY - 1, THREE_SUMMARY - 1);
+    expect_check("12.5", 8, &file, &other, 0, 0);
+    free(other.bytes);
+    other = own_buffer(two_summary, sizeof two_summary, sizeof two_summary);
+    expect_check("12.5", 9, &file, &other, 0, 0);
+    free(other.bytes);
+    other = own_buffer(three_summary, 0, 0);
+    expect_check("12.5", 10, &none, &other, 0, 1);
+    expect_check("12.5", 11, &cut, &other, 15, 0);
+    expect_check("12.5", 12, &file, &other, 0, 0);
+    free(other.bytes);
+    free(buffer.bytes);
+    free(none.bytes);
+    free(cut.bytes);
+    free(file.bytes);
+}
+
+/* RULES 10.6, 12.6: lookups. */
+static void test_lookup(void)
+{
+    static const struct {
+        uint32_t crossing;
+        long long record;
+    } wanted[] = {
+        {1400, 1}, {70000, 0}, {0, -1}, {4294967295u, -1}, {7, -1}, {1401, -1}, {4464, -1}, {1399, -1}, {70001, -1},
+        {0x78050000u, -1}, /* 1400 with its bytes in the opposite order */
+    };
+    struct reference_buffer file = own_buffer(three_file, THREE_BYTES, THREE_BYTES);
+    struct reference_buffer cut = own_buffer(three_file, THREE_BYTES - 1, THREE_BYTES - 1);
+    struct reference_buffer none = file_of(three_records, 0, 0);
+    struct reference_buffer buffer = own_buffer(three_summary, THREE_SUMMARY, THREE_SUMMARY + 5);
+    struct reference_buffer shorter = own_buffer(three_summary, THREE_SUMMARY - 1, THREE_SUMMARY - 1);
+    struct reference_buffer empty = own_buffer(three_summary, 0, 0);
+    size_t place;
+
+    for (place = 0; place < sizeof wanted / sizeof wanted[0]; place++) {
+        expect_lookup("12.6", (long)place, &file, &buffer, wanted[place].crossing, 0, wanted[place].record);
+        expect_lookup("12.6 none", (long)place, &none, &empty, wanted[place].crossing, 0, -1);
+        expect_lookup("12.6 short", (long)place, &file, &shorter, wanted[place].crossing, 17, -1);
+        expect_lookup("12.6 empty", (long)place, &file, &empty, wanted[place].crossing, 17, -1);
+        expect_lookup("12.6 cut", (long)place, &cut, &buffer, wanted[place].crossing, 15, -1);
+        expect_lookup("12.6 both", (long)place, &cut, &shorter, wanted[place].crossing, 15, -1);
+        expect_lookup("12.6 both", (long)place, &cut, &empty, wanted[place].crossing, 15, -1);
+    }
+    memcpy(buffer.bytes, three_entries[0], ENTRY_BYTES);
+    memcpy(buffer.bytes + ENTRY_BYTES, three_entries[1], ENTRY_BYTES);
+    for (place = 0; place < sizeof wanted / sizeof wanted[0]; place++) {
+        expect_lookup("12.6 exchanged", (long)place, &file, &buffer, wanted[place].crossing, 17, -1);
+    }
+    free(empty.bytes);
+    free(shorter.bytes);
+    free(buffer.bytes);
+    free(none.bytes);
+    free(cut.bytes);
+    free(file.bytes);
+}
+
+/* RULES 10.6, 12.7: updates, into buffers of every length. */
+static void test_update(void)
+{
+    uint8_t fifth[FIRST_BYTES];
+    struct reference_buffer two = file_of(three_records, SECOND_BYTES + FIRST_BYTES, 2);
+    struct reference_buffer three = own_buffer(three_file, THREE_BYTES, THREE_BYTES);
+    struct reference_buffer cut = own_buffer(three_file, THREE_BYTES - 1, THREE_BYTES - 1);
+    struct reference_buffer grown;
+    struct reference_buffer buffer;
+    uint8_t four[THREE_BYTES - THREE_TABLE + FIRST_BYTES];
+    size_t grown_length;
+    size_t length;
+
+    memcpy(fifth, worked_records, FIRST_BYTES);
+    put_number(fifth, 5, 4);
+    for (length = 0; length <= 60; length++) {
+        int fits = length >= THREE_SUMMARY;
+
+        buffer = own_buffer(two_summary, sizeof two_summary, length);
+        expect_update("12.7", (long)length, &two, fifth, FIRST_BYTES, &buffer, fits ? 0 : 17, grown_summary, THREE_SUMMARY);
+        expect_update("12.7", (long)length, &two, third_record, THIRD_BYTES, &buffer, fits ? 0 : 17, three_summary, THREE_SUMMARY);
+        expect_update("12.7 cut", (long)length, &two, fifth, FIRST_BYTES - 1, &buffer, 15, NULL, 0);
+        expect_update("12.7 none", (long)length, &two, fifth, 0, &buffer, 15, NULL, 0);
+        expect_update("12.7 head", (long)length, &two, fifth, 8, &buffer, 15, NULL, 0);
+        expect_update("12.7 two", (long)length, &two, worked_records, RECORDS_BYTES, &buffer, 15, NULL, 0);
+        expect_update("12.7 behind", (long)length, &two, worked_records, FIRST_BYTES + 1, &buffer, 15, NULL, 0);
+        expect_update("12.7 no file", (long)length, &cut, fifth, FIRST_BYTES, &buffer, 15, NULL, 0);
+        expect_update("12.7 a file", (long)length, &two, three_file, THREE_BYTES, &buffer, 15, NULL, 0);
+        if (length >= sizeof two_summary) {
+            buffer.bytes[sizeof two_summary - 1] ^= 1;
+            expect_update("12.7 wrong", (long)length, &two, fifth, FIRST_BYTES, &buffer, 17, NULL, 0);
+            expect_update("12.7 wrong", (long)length, &two, fifth, FIRST_BYTES - 1, &buffer, 15, NULL, 0);
+        }
+        free(buffer.bytes);
+    }
+    memcpy(four, three_records, THREE_BYTES - THREE_TABLE);
+    memcpy(four + (THREE_BYTES - THREE_TABLE), worked_records, FIRST_BYTES);
+    grown = file_of(four, sizeof four, 4);
+    grown_length = make_wanted(&grown);
+    for (length = 50; length < 54; length++) {
+        buffer = own_buffer(three_summary, THREE_SUMMARY, length);
+        expect_update("10.6", (long)length, &three, worked_records, FIRST_BYTES, &buffer, length < 52 ? 17 : 0, wanted_summary,
+                      grown_length);
+        memset(buffer.bytes, 0xEE, length);
+        expect_update("10.6 EE", (long)length, &three, worked_records, FIRST_BYTES, &buffer, 17, NULL, 0);
+        free(buffer.bytes);
+    }
+    free(grown.bytes);
+    free(cut.bytes);
+    free(three.bytes);
+    free(two.bytes);
+}
+
+/*
+ * RULES 12.3 to 12.6: the summary of the examples cut at each byte and with each bit changed, which leaves none; their file cut
+ * at each byte, which leaves no file, and with each bit changed: of what is still a file, bytes of U and V do not matter, bytes
+ * of Y where they change the mean, and crossing numbers always.
+ */
+static void test_every_summary_bit(void)
+{
+    struct reference_buffer file = own_buffer(three_file, THREE_BYTES, THREE_BYTES);
+    struct reference_buffer buffer = own_buffer(three_summary, THREE_SUMMARY, THREE_SUMMARY);
+    struct reference_buffer longer = own_buffer(three_summary, THREE_SUMMARY, THREE_SUMMARY + ENTRY_BYTES);
+    struct reference_buffer shorter;
+    size_t length;
+    size_t place;
+    unsigned bit;
+
+    for (place = 0; place < THREE_SUMMARY; place++) {
+        shorter = own_buffer(three_summary, place, place);
+        expect_check("12.5 cut", (long)place, &file, &shorter, 0, 0);
+        expect_lookup("12.6 cut", (long)place, &file, &shorter, 1400, 17, -1);
+        expect_update("12.7 cut", (long)place, &file, third_record, THIRD_BYTES, &shorter, 17, NULL, 0);
+        free(shorter.bytes);
+    }
+    for (place = 0; place < THREE_SUMMARY + ENTRY_BYTES; place++) {
+        int is_meant = place < THREE_SUMMARY;
+
+        for (bit = 0; bit < 8; bit++) {
+            longer.bytes[place] = (uint8_t)(longer.bytes[place] ^ 1u << bit);
+            expect_check("12.5 bit", (long)(8 * place + bit), &file, &longer, 0, !is_meant);
+            expect_lookup("12.6 bit", (long)(8 * place + bit), &file, &longer, 1400, is_meant ? 17 : 0, is_meant ? -1 : 1);
+            if (is_meant) {
+                expect_update("12.7 bit", (long)(8 * place + bit), &file, third_record, THIRD_BYTES, &longer, 17, NULL, 0);
+            }
+            longer.bytes[place] = (uint8_t)(longer.bytes[place] ^ 1u << bit);
+        }
+    }
+    for (place = 0; place < THREE_BYTES; place++) {
+        shorter = own_buffer(three_file, place, place);
+        expect_building("12.4 file cut", (long)place, &shorter, THREE_SUMMARY, 15, NULL, 0);
+        expect_check("12.5 file cut", (long)place, &shorter, &buffer, 15, 0);
+        expect_lookup("12.6 file cut", (long)place, &shorter, &buffer, 1400, 15, -1);
+        expect_update("12.7 file cut", (long)place, &shorter, third_record, THIRD_BYTES, &longer, 15, NULL, 0);
+        free(shorter.bytes);
+    }
+    for (place = 0; place < THREE_BYTES; place++) {
+        int is_crossing = (place >= 40 && place < 44) || (place >= 51 && place < 55) || (place >= 69 && place < 73);
+        int is_plane = (place >= 48 && place < 51) || (place >= 59 && place < 69) || place >= 77;
+
+        for (bit = 0; bit < 8; bit++) {
+            uint32_t number = is_crossing || is_plane ? 0 : 15;
+            long long yes = 0;
+
+            file.bytes[place] = (uint8_t)(file.bytes[place] ^ 1u << bit);
+            if (is_plane) {
+                yes = mean_of(file.bytes + 48, 1) == 80 && mean_of(file.bytes + 59, 6) == 25 && mean_of(file.bytes + 77, 2) == 129;
+            }
+            expect_check("12.5 file bit", (long)(8 * place + bit), &file, &buffer, number, yes);
+            expect_lookup("12.6 file bit", (long)(8 * place + bit), &file, &buffer, 1400, number != 0 ? 15 : yes ? 0 : 17,
+                          yes ? 1 : -1);
+            length = number == 0 ? make_wanted(&file) : 0;
+            expect_building("12.4 file bit", (long)(8 * place + bit), &file, THREE_SUMMARY, number, wanted_summary, length);
+            file.bytes[place] = (uint8_t)(file.bytes[place] ^ 1u << bit);
+        }
+    }
+    free(longer.bytes);
+    free(buffer.bytes);
+    free(file.bytes);
+}
+
+/* RULES 12.3, 12.5: every order of the entries of a summary, of which the one that ascends is the summary. */
+static void expect_orders(long place, const struct reference_buffer *file, struct reference_buffer *buffer, size_t fixed,
+                          size_t count, const uint8_t *summary)
+{
+    uint8_t kept[ENTRY_BYTES];
+    size_t other;
+
+    if (fixed == count) {
+        expect_check("12.3 orders", place, file, buffer, 0, memcmp(buffer->bytes, summary, count * ENTRY_BYTES) == 0);
+        return;
+    }
+    for (other = fixed; other < count; other++) {
+        uint8_t *a = buffer->bytes + fixed * ENTRY_BYTES;
+        uint8_t *b = buffer->bytes + other * ENTRY_BYTES;
+
+        memcpy(kept, a, ENTRY_BYTES);
+        memmove(a, b, ENTRY_BYTES);
+        memcpy(b, kept, ENTRY_BYTES);
+        expect_orders(place, file, buffer, fixed + 1, count, summary);
+        memcpy(kept, a, ENTRY_BYTES);
+        memmove(a, b, ENTRY_BYTES);
+        memcpy(b, kept, ENTRY_BYTES);
+    }
+}
+
+/* RULES 11.2: writes a record of any small size, its planes by chance, and gives its length. */
+static size_t put_record(uint8_t *record, uint32_t crossing, uint32_t width, uint32_t height)
+{
+    size_t length = (size_t)extent(width, height).length;
+    size_t byte;
+
+    put_number(record, crossing, 4);
+    put_number(record + 4, width, 2);
+    put_number(record + 6, height, 2);
+    for (byte = 8; byte < length; byte++) {
+        record[byte] = (uint8_t)below(256);
+    }
+    return length;
+}
+
+/*
+ * RULES 12.3 to 12.7: the file of these records, whose crossing numbers are given. It is built and checked; each of its crossing
+ * numbers, and some more, is looked up; the summary of its records but the last is updated by the last.
+ */
+static void test_summary_of(long place, const uint8_t *records, const size_t *lengths, const uint32_t *crossings, size_t count)
+{
+    static const uint32_t more[] = {0, 1, 2, 255, 256, 65536, 0x7FFFFFFFu, 0x80000000u, 0xFFFFFFFEu, 0xFFFFFFFFu};
+    size_t length = 0;
+    size_t record;
+    size_t size;
+    size_t sought;
+    struct reference_buffer file;
+    struct reference_buffer buffer;
+
+    for (record = 0; record < count; record++) {
+        length += lengths[record];
+    }
+    file = file_of(records, length, count);
+    size = make_wanted(&file);
+    expect("12.3 size", place, (long long)count * ENTRY_BYTES, (long long)size);
+    expect_building("12.4 list", place, &file, size, 0, wanted_summary, size);
+    expect_building("12.4 list", place, &file, size + 3, 0, wanted_summary, size);
+    if (count > 0) {
+        expect_building("12.4 list", place, &file, size - 1, 17, NULL, 0);
+    }
+    buffer = own_buffer(wanted_summary, size, size + below(3));
+    expect_check("12.5 list", place, &file, &buffer, 0, 1);
+    if (count <= 4) {
+        uint8_t summary[4 * ENTRY_BYTES];
+
+        memcpy(summary, wanted_summary, size);
+        expect_orders(place, &file, &buffer, 0, count, summary);
+    }
+    for (sought = 0; sought < count + sizeof more / sizeof more[0]; sought++) {
+        uint32_t crossing = sought < count ? crossings[sought] : more[sought - count];
+        long long found = -1;
+
+        for (record = count; record > 0; record--) {
+            if (crossings[record - 1] == crossing) {
+                found = (long long)record - 1;
+            }
+        }
+        expect_lookup("12.6 list", place, &file, &buffer, crossing, 0, found);
+    }
+    free(buffer.bytes);
+    if (count > 0) {
+        size_t last = lengths[count - 1];
+        struct reference_buffer before = file_of(records, length - last, count - 1);
+        uint8_t *summary = own_bytes(size);
+
+        memcpy(summary, wanted_summary, size);
+        buffer = own_buffer(wanted_summary, make_wanted(&before), size + below(3));
+        expect_update("12.7 list", place, &before, records + (length - last), last, &buffer, 0, summary, size);
+        free(buffer.bytes);
+        buffer = own_buffer(wanted_summary, make_wanted(&before), size - 1);
+        expect_update("12.7 list", place, &before, records + (length - last), last, &buffer, 17, NULL, 0);
+        free(buffer.bytes);
+        free(summary);
+        free(before.bytes);
+    }
+    free(file.bytes);
+}
+
+/* RULES 12: every list of up to four records whose crossing numbers are of four that a wrong order of bytes or a sign would mix. */
+static void test_every_list(void)
+{
+    enum { MOST = 4, SIDES = 3 };
+    static const uint32_t crossings[4] = {0x00000001u, 0x00000100u, 0x7FFFFFFFu, 0xFFFFFFFFu};
+    uint8_t records[MOST * (8 + 9 + 8)];
+    uint32_t chosen[MOST];
+    size_t lengths[MOST];
+    long lists = 0;
+    size_t count;
+    unsigned list;
+
+    for (count = 0; count <= MOST; count++) {
+        for (list = 0; list < 1u << 2 * count; list++) {
+            size_t length = 0;
+            size_t record;
+
+            for (record = 0; record < count; record++) {
+                chosen[record] = crossings[list >> 2 * record & 3u];
+                lengths[record] = put_record(records + length, chosen[record], 1 + below(SIDES), 1 + below(SIDES));
+                length += lengths[record];
+            }
+            test_summary_of(lists, records, lengths, chosen, count);
+            lists++;
+        }
+    }
+    expect("12 lists", 0, 341, lists);
+}
+
+/* RULES 12: lists of up to 12 records by chance, some with many records of one crossing number. */
+static void test_any_lists(void)
+{
+    enum { LISTS = 300, MOST = 12, SIDES = 9 };
+    static uint8_t records[MOST * (8 + SIDES * SIDES + 50)];
+    uint32_t crossings[MOST];
+    size_t lengths[MOST];
+    long list;
+
+    for (list = 0; list < LISTS; list++) {
+        size_t count = below(MOST + 1);
+        uint32_t kinds = 1 + below(6);
+        size_t length = 0;
+        size_t record;
+
+        for (record = 0; record < count; record++) {
+            crossings[record] = list % 3 == 0 ? below(65536) << 16 | below(65536) : below(kinds);
+            lengths[record] = put_record(records + length, crossings[record], 1 + below(SIDES), 1 + below(SIDES));
+            length += lengths[record];
+        }
+        test_summary_of(list, records, lengths, crossings, count);
+    }
+}
+
+/* RULES 12.7: a file of 4,096 records of 1 × 1, by crossing numbers that descend, are one, ascend in turns or are by chance. */
+static void test_full(unsigned kind)
+{
+    static uint8_t records[(MOST_FULL + 1) * SECOND_BYTES];
+    static const size_t last = (MOST_FULL - 1) * SECOND_BYTES;
+    static uint8_t summary[MOST_FULL * ENTRY_BYTES];
+    struct reference_buffer full;
+    struct reference_buffer before;
+    struct reference_buffer buffer;
+    uint32_t record;
+
+    for (record = 0; record <= MOST_FULL; record++) {
+        uint32_t crossings[4];
+
+        crossings[0] = 0xFFFFFFFFu - record;
+        crossings[1] = 70000;
+        crossings[2] = record % 7;
+        crossings[3] = below(65536) << 16 | below(65536);
+        put_record(records + record * (size_t)SECOND_BYTES, crossings[kind], 1, 1);
+    }
+    full = file_of(records, MOST_FULL * (size_t)SECOND_BYTES, MOST_FULL);
+    before = file_of(records, last, MOST_FULL - 1);
+    expect("12.3 full", kind, sizeof summary, (long long)make_wanted(&full));
+    memcpy(summary, wanted_summary, sizeof summary);
+    expect_building("12.4 full", kind, &full, sizeof summary, 0, summary, sizeof summary);
+    expect_building("12.4 full", kind, &full, sizeof summary - 1, 17, NULL, 0);
+    buffer = own_buffer(summary, sizeof summary, sizeof summary + ENTRY_BYTES);
+    expect_check("12.5 full", kind, &full, &buffer, 0, 1);
+    expect_lookup("12.6 full", kind, &full, &buffer, (uint32_t)number_at(records + last, 4), 0,
+                  kind == 1 ? 0 : kind == 2 ? (MOST_FULL - 1) % 7 : MOST_FULL - 1);
+    expect_update("12.7 full", kind, &full, records + last, SECOND_BYTES, &buffer, 15, NULL, 0);
+    buffer.bytes[sizeof summary - 1] ^= 1;
+    expect_check("12.5 full", kind, &full, &buffer, 0, 0);
+    expect_update("12.7 full", kind, &full, records + last, SECOND_BYTES, &buffer, 15, NULL, 0);
+    free(buffer.bytes);
+    buffer = own_buffer(summary, 0, 0);
+    expect_update("12.7 full", kind, &full, records + last, SECOND_BYTES, &buffer, 15, NULL, 0);
+    free(buffer.bytes);
+    buffer = own_buffer(wanted_summary, make_wanted(&before), sizeof summary);
+    expect_update("12.7 full", kind, &before, records + last, SECOND_BYTES, &buffer, 0, summary, sizeof summary);
+    free(buffer.bytes);
+    free(before.bytes);
+    free(full.bytes);
+}
+
+/* RULES 7.1, 12.7: every combination of what an update is refused for, of which 15 comes before 17. */
+static void test_update_order(void)
+{
+    unsigned faults;
+
+    for (faults = 0; faults < 16; faults++) {
+        size_t file_length = (faults & 1u) != 0 ? THREE_BYTES - 1 : THREE_BYTES;
+        size_t record_length = (faults & 2u) != 0 ? THIRD_BYTES - 1 : THIRD_BYTES;
+        size_t length = (faults & 4u) != 0 ? 51 : 52;
+        struct reference_buffer file = own_buffer(three_file, file_length, file_length);
+        struct reference_buffer buffer = own_buffer(three_summary, THREE_SUMMARY, length);
+        uint8_t grown[4 * ENTRY_BYTES];
+        unsigned entry;
+
+        if ((faults & 8u) != 0) {
+            buffer.bytes[0] ^= 1;
+        }
+        memcpy(grown, three_summary, THREE_SUMMARY);
+        for (entry = 0; entry < 3; entry++) {
+            grown[entry * ENTRY_BYTES + 4] = (uint8_t)(grown[entry * ENTRY_BYTES + 4] + 12);
+        }
+        memcpy(grown + THREE_SUMMARY, three_entries[2], ENTRY_BYTES);
+        grown[THREE_SUMMARY + 4] = THREE_BYTES + 12;
+        expect_update("12.7 order", (long)faults, &file, third_record, record_length, &buffer,
+                      (faults & 3u) != 0 ? 15 : faults != 0 ? 17 : 0, grown, sizeof grown);
+        free(buffer.bytes);
+        free(file.bytes);
+    }
+}
+
 /* All examples, one chapter after the other. */
 int main(void)
 {
@@ -2501,6 +3248,21 @@ int main(void)
     test_record_order();
     test_lists();
     test_frame_record();
+    test_entries();
+    test_means();
+    test_which_summary();
+    test_building();
+    test_checking();
+    test_lookup();
+    test_update();
+    test_update_order();
+    test_every_summary_bit();
+    test_every_list();
+    test_any_lists();
+    test_full(0);
+    test_full(1);
+    test_full(2);
+    test_full(3);
     printf("%lu comparisons, %lu differ\n", asked, differing);
     return differing == 0 ? EXIT_SUCCESS : EXIT_FAILURE;
 }
