@@ -3,9 +3,9 @@
  *
  *     shift list FILE                  a line for each record: its number, crossing, size, where it and its Y, U and V start, and its length
  *     shift pack RECORDS FILE          RECORDS has records, one behind the other: FILE becomes the shift file of them
- *     shift sum FILE SUMMARY           SUMMARY becomes a summary of FILE
+ *     shift sum FILE SUMMARY           SUMMARY becomes the summary of FILE
  *     shift find FILE SUMMARY NUMBER   the record of this crossing, the first if several; or "none"
- *     shift add FILE SUMMARY RECORD    SUMMARY becomes a summary of FILE with RECORD at its end; FILE is not changed
+ *     shift add FILE SUMMARY RECORD    SUMMARY becomes the summary of FILE with RECORD at its end; FILE is not changed
  *
  * The file is read on a memory map, so it may be larger than memory. To list it nothing is read of its planes, and for the means of its summary the Y
  * planes are.
