@@ -1,0 +1,2 @@
+-- Where two planes differ: docs/RULES.md, 13.3.
+pub mod Difference
