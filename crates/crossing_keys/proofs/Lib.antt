@@ -1,0 +1,2 @@
+-- Laws of keys.
+pub mod Keyed
