@@ -4,3 +4,4 @@ pub mod Lists
 pub mod Counts
 pub mod Shift
 pub mod Summary
+pub mod Pairs

@@ -4,6 +4,7 @@
 use band_calls::FrameState;
 use call_numbers::Told;
 use shift_file::ShiftForm;
+use shift_pairs::Pairing;
 use shift_reader::ShiftReading;
 use shift_record::RecordFrame;
 use shift_writer::ShiftWritten;
@@ -23,6 +24,7 @@ ghost use Rattle.segvartin.specs.Calls.{exportedBand, BandAnswered, Band
 ghost use Rattle.segvartin.specs.Counts.{exportedCounts, CountsAnswered, CountsKept};
 ghost use Rattle.segvartin.specs.Summary.{exportedBuild, BuildKept, exportedCheck, asNumber, CheckKept};
 ghost use Rattle.segvartin.specs.Summary.{exportedFind, foundCount, foundPlace, FindKept, exportedUpdate, UpdateKept};
+ghost use Rattle.segvartin.specs.Pairs.{exportedPairing, PairingKept};
 ghost use Rattle.segvartin.specs.Shift.{exportedReading, ReadingKept, exportedWriting, WritingKept, exportedRecord, RecordKept};
 
 // What stands before the description: the source's stride of a frame; the rows done, the rows and the source's stride of a band.
@@ -377,4 +379,37 @@ pub extern "C" fn segvartin_call_summary_update(
 {
     let answer = summary_update::update_summary(ShiftForm::WithoutSettings, file, added, summary);
     number_of(answer)
+}
+
+fn tell_broken(pairing: Pairing, told: &mut [usize]) -> u32
+    requires { ⌜ 1 ≤ length (now told) ⌝ }
+    ensures { λ n. ⌜ (n ≡ numbersOf (pairing .answer) .number) × (now (told .exit) ≡ set (now (told .entry)) 0 (pairing .broken)) ⌝ }
+{
+    let answer = pairing.answer;
+    let numbered = error_numbers::answer_numbers(answer);
+    told[0] = pairing.broken as usize;
+    numbered.number
+}
+
+// Pairs two shift files, the k-th record of a crossing in ours with the k-th in theirs (0); or answers 15 where one is no shift file, and writes no
+// number of the report. report: how many pairs are equal and how many differ, how many records are only in ours and only in theirs; of the first
+// pair that differs the kind (0 none, 1 sizes, 2 a place), its crossing, the places of its records in ours and in theirs; for sizes width and height
+// of ours and of theirs; for a place plane (0 Y, 1 U, 2 V), row and column; 0. told: the file that is none, 1 for ours and 2 for theirs, or 0.
+#[no_mangle]
+pub extern "C" fn segvartin_call_shift_pairs(
+    ours: &[u8],
+    theirs: &[u8],
+    report: &mut [u64; 16],
+    told: &mut [usize; 1],
+) -> u32
+    ensures { λ n. ⌜ PairingKept (exportedPairing (now (ours .entry)) (now (theirs .entry)) (now (report .entry)) n (now (told .exit)) (now (report .exit))) ⌝ }
+{
+    let pairing = shift_pairs::pair_files(
+        ShiftForm::WithoutSettings,
+        ours,
+        ShiftForm::WithoutSettings,
+        theirs,
+    );
+    report_numbers::tell_pairing(pairing, report);
+    tell_broken(pairing, told)
 }

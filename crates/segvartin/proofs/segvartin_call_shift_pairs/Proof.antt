@@ -1,0 +1,23 @@
+-- It tells what `pair_files` answers. Assumes nothing.
+use mathlib.Core.Path.{_∙_}
+use Rattle.call_numbers.proofs.Arrays.{one-told}
+use borrow.Author.Needs.{needs}
+use Rattle.segvartin.proofs.segvartin_call_shift_pairs.Statement.{statement}
+use Rattle.segvartin.proofs.segvartin_call_shift_pairs.Tie as tie
+
+returns : tie.Need-returns
+returns c =
+    let t = c .before .before in
+    let p = t .before .before in
+    let a = p .before .before .before .args in
+    record {
+      pairing = p .pair-files .result;
+      number = c .tell-broken .ensures .0;
+      told = c .tell-broken .ensures .1 ∙ one-told (a .told .now) _ (c .before .tell-broken-arg .given .0 .1);
+      report = t .tell-pairing .ensures;
+      paired = p .pair-files .ensures;
+    }
+
+pub segvartin-call-shift-pairs-spec : {M : Type 1} → statement M
+segvartin-call-shift-pairs-spec =
+    tie.close (tie.spec (λ c κs. search needs) (λ c κs. search needs) (λ c κs. search needs) returns)
