@@ -50,6 +50,9 @@ use Rattle.shift_reader.proofs.Post as reading
 use Rattle.shift_writer.specs.Writing.{writeRules}
 use Rattle.shift_record.specs.Record.{recordRules}
 use Rattle.segvartin.specs.Shift.{rulesOfReading, rulesOfWriting, rulesOfRecord}
+use Rattle.shift_pairs.specs.Pairing.{pairingRules}
+use Rattle.segvartin.specs.Pairs.{rulesOfPairing}
+use Rattle.segvartin.proofs.Pairs.{pairing-first, pairing-writes-nothing}
 use Rattle.segvartin.proofs.Shift.{unwritten, reading-first, reading-writes-nothing, writing-first, writing-writes-nothing, record-first, record-writes-nothing}
 use Rattle.shift_file.specs.declared.ShiftForm.{ShiftForm}
 use Rattle.shift_file.specs.declared.ShiftForm.the-variants.{WithoutSettings}
@@ -161,6 +164,7 @@ demand-1 = record {
   };
   reply = λ input output n output′ p. replied input (take n output′) (p .written);
   counts-reply = λ input output n output′ p. counts-replied input (take n output′) (p .written);
+  shift-pairing = λ our-form ours their-form theirs r p. lowest (pairingRules our-form ours their-form theirs) refl (p .answered);
   request = λ input output r output′ p. record { lowest = lowest (requestRules input) refl (p .answered); writes-nothing = request-writes-nothing r p };
   linked-frame = λ k p. record { lowest = lowest (rulesOfFrame k) refl (frame-first p); writes-nothing = frame-writes-nothing p };
   linked-opening = λ k p. (lowest (rulesOfOpening k) refl (open-first p), open-done p);
@@ -168,6 +172,7 @@ demand-1 = record {
   linked-counts = λ k p. record { lowest = lowest (rulesOfCounts k) refl (counts-first p); writes-nothing = counts-write-nothing p };
   linked-shift-reading = λ k p. record { lowest = lowest (rulesOfReading k) refl (reading-first p); writes-nothing = reading-writes-nothing p };
   linked-shift-writing = λ k p. record { lowest = lowest (rulesOfWriting k) refl (writing-first p); writes-nothing = writing-writes-nothing p };
+  linked-shift-pairing = λ k p. record { lowest = lowest (rulesOfPairing k) refl (pairing-first p); writes-nothing = pairing-writes-nothing p };
   linked-shift-record = λ k p. record { lowest = lowest (rulesOfRecord k) refl (record-first p); writes-nothing = record-writes-nothing p };
   linked-summary-build = λ k p. record { lowest = lowest (rulesOfBuild k) refl (build-first p); writes-nothing = build-writes-nothing p };
   linked-summary-check = λ k p. (

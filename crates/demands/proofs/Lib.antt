@@ -4,3 +4,4 @@ pub mod Grey
 pub mod Counts
 pub mod ShiftFiles
 pub mod ShiftSummaries
+pub mod ShiftPairs

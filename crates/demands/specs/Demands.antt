@@ -1,9 +1,9 @@
 -- The three demands, one after the other, and what else is claimed of all calls. Each cites definitions alone: the promises of the calls
 -- (`FramePost`, `OpenPost`, `BandPost`, `CountsPost`, `ReadPost`, `WritePost`, `RecordPost`, `BuildPost`, `CheckPost`, `FindPost`, `UpdatePost`,
--- `RequestPost`, `Begins`, `FrameKept`, `OpenKept`, `BandKept`, `CountsKept`, `ReadingKept`, `WritingKept`, `RecordKept`, `BuildKept`, `CheckKept`,
--- `FindKept`, `UpdateKept`, the very predicates of their `ensures`), which hold of every call whatever it is given, and the rules, rows, planes, curves,
--- files and summaries that they speak of. Their proofs are `demand-1`, `demand-2` and `demand-3` of proofs/Demands.antt, `grey` of proofs/Grey.antt,
--- `counts` of proofs/Counts.antt, `shift-files` of proofs/ShiftFiles.antt and `shift-summaries` of proofs/ShiftSummaries.antt.
+-- `PairingPost`, `RequestPost`, `Begins`, and `..Kept` of the calls that C and Rust link, the very predicates of their `ensures`), which hold of every
+-- call whatever it is given, and the rules, rows, planes, curves, files, summaries and reports that they speak of. Their proofs are `demand-1`,
+-- `demand-2` and `demand-3` of proofs/Demands.antt, `grey` of Grey.antt, `counts` of Counts.antt, `shift-files` of ShiftFiles.antt, `shift-summaries`
+-- of ShiftSummaries.antt and `shift-pairs` of ShiftPairs.antt.
 -- Assumes nothing.
 use Prim.Native.Nat.{ℕ, _+_, _*_, _≤_, _<_}
 use mathlib.Core.Path.{_≡_}
@@ -74,6 +74,13 @@ use Rattle.summary_update.specs.Update.{updateRules, UpdatePost}
 use Rattle.summary_update.specs.Summaries.{Left}
 use Rattle.segvartin.specs.Summary.{ExportedBuild, rulesOfBuild, BuildKept, ExportedCheck, rulesOfCheck, CheckKept}
 use Rattle.segvartin.specs.Summary.{ExportedFind, rulesOfFind, FindKept, ExportedUpdate, rulesOfUpdate, UpdateKept}
+use Rattle.record_difference.specs.Record.{SameIsEqual}
+use Rattle.shift_pairs.specs.declared.Pairing.{Pairing}
+use Rattle.shift_pairs.specs.Report.{reportOf}
+use Rattle.shift_pairs.specs.Means.{CountsAddUp}
+use Rattle.shift_pairs.specs.Pairing.{pairingRules, PairingPost}
+use Rattle.report_numbers.specs.Numbers.{reportNumbers}
+use Rattle.segvartin.specs.Pairs.{ExportedPairing, rulesOfPairing, PairingKept}
 
 -- ---- 1. Every call answers finished work or one numbered refusal, for all sizes, strides, buffers and settings; a refusal writes no byte.
 
@@ -96,8 +103,8 @@ CountsReplied input bytes =
     → (x .number ≡ 0 → bytes ≡ lines (countOf (rangeOf input) (matrixOf input)) 256) × (1 ≤ x .number → bytes ≡ refusalLine (x .number))
 
 -- RULES 7.1, 7.2: of the calls of Rattle, which are frame, opening, band, a count of colours, reading and writing a shift file, one record of it,
--- building, checking, asking and updating its summary, and a request of the program; then of those that C and Rust link, whose numbers come first to be
--- refused
+-- building, checking, asking and updating its summary, pairing two files, and a request of the program; then of those that C and Rust link, whose
+-- numbers come first to be refused
 pub record Demand1 : Type 0 where
   pub frame : (k : FrameCall) → FramePost k → Answered (frameRules k) (numbersOf (k .answer)) (Unwritten k)
   pub opening : (d : FrameDescription) (r : FrameAnswer) → OpenPost d r → Lowest (openingRules d) (numbersOf (r .answer))
@@ -119,6 +126,8 @@ pub record Demand1 : Type 0 where
       → Lowest (findRules form file summary) (numbersOf (r .answer)) × (1 ≤ numbersOf (r .answer) .number → r .found ≡ Nowhere)
   pub summary-update : (form : ShiftForm) (file added before : List ℕ) (a : YuvAnswer) (after : List ℕ) → UpdatePost form file added before a after
       → Answered (updateRules form file added before) (numbersOf a) (after ≡ before)
+  pub shift-pairing : (our-form : ShiftForm) (ours : List ℕ) (their-form : ShiftForm) (theirs : List ℕ) (r : Pairing)
+      → PairingPost our-form ours their-form theirs r → Lowest (pairingRules our-form ours their-form theirs) (numbersOf (r .answer))
   pub request : (input output : List ℕ) (response : Response) (output′ : List ℕ) → RequestPost input output response output′
       → Answered (requestRules input) (responseNumbers response) (output′ ≡ output)
   -- and what the program writes for it: the planes where no condition holds, or the line of the first number whose condition holds
@@ -129,9 +138,10 @@ pub record Demand1 : Type 0 where
   pub linked-band : (k : ExportedBand) → BandKept k
       → Answered (rulesOfBand k) (numbersTold (k .number) (k .told)) (Kept k (doneTold (k .told)))
   pub linked-counts : (k : ExportedCounts) → CountsKept k → Answered (rulesOfCounts k) (numbersTold (k .number) (k .told)) (k .counts′ ≡ k .counts)
-  -- 15, 16 and 17 come without expected and received, so the number alone tells the answer of these two, and of the summary's four
+  -- 15, 16 and 17 come without expected and received, so the number alone tells the answer of these two, of the summary's four, and of the pairing
   pub linked-shift-reading : (k : ExportedReading) → ReadingKept k → Answered (rulesOfReading k) (numbers (k .number) 0 0) (k .entries′ ≡ k .entries)
   pub linked-shift-writing : (k : ExportedWriting) → WritingKept k → Answered (rulesOfWriting k) (numbers (k .number) 0 0) (k .file′ ≡ k .file)
+  pub linked-shift-pairing : (k : ExportedPairing) → PairingKept k → Answered (rulesOfPairing k) (numbers (k .number) 0 0) (k .report′ ≡ k .report)
   pub linked-shift-record : (k : ExportedRecord) → RecordKept k → Answered (rulesOfRecord k) (numbersTold (k .number) (k .told)) (k .output′ ≡ k .output)
   pub linked-summary-build : (k : ExportedBuild) → BuildKept k → Answered (rulesOfBuild k) (numbers (k .number) 0 0) (k .summary′ ≡ k .summary)
   pub linked-summary-check : (k : ExportedCheck) → CheckKept k
@@ -392,3 +402,24 @@ pub record ShiftSummaries : Type 0 where
       → Grows form file added rs r → Bytes file → Bytes added → UpdatePost form file added before a after → a ≡ Finished
       → (grown before₂ : List ℕ) (b : YuvAnswer) (after₂ : List ℕ) → IsFileOf form grown (rs ++ r ∷ []) → BuildPost form grown before₂ b after₂ → b ≡ Finished
       → take (13 * (length rs + 1)) after ≡ take (13 * (length rs + 1)) after₂
+
+-- ---- Two shift files paired: the report is that of their records, and 15 says which of the two is no file. Two records count as equal exactly where
+-- sizes, samplings and planes are; both pair counts and a file's own leftovers are that file's count. In both forms, also one of each.
+
+-- RULES 13.2, 13.3, 13.4, 10.7
+pub record ShiftPairs : Type 0 where
+  -- of the definitions
+  pub same-is-equal : SameIsEqual
+  pub counts-add-up : CountsAddUp
+  -- of the call: ours, else theirs, is told exactly where no list of records has its bytes
+  pub ours-broken : (our-form : ShiftForm) (ours : List ℕ) (their-form : ShiftForm) (theirs : List ℕ) (r : Pairing) → Bytes ours
+      → PairingPost our-form ours their-form theirs r → (r .broken ≡ 1) ↔ NoFile our-form ours
+  pub theirs-broken : (our-form : ShiftForm) (ours : List ℕ) (their-form : ShiftForm) (theirs : List ℕ) (r : Pairing) → Bytes ours → Bytes theirs
+      → PairingPost our-form ours their-form theirs r → (r .broken ≡ 2) ↔ (((rs : List ShiftRecord) × IsFileOf our-form ours rs) × NoFile their-form theirs)
+  pub reported : (our-form : ShiftForm) (ours : List ℕ) (their-form : ShiftForm) (theirs : List ℕ) (r : Pairing) (rs ss : List ShiftRecord)
+      → IsFileOf our-form ours rs → IsFileOf their-form theirs ss → PairingPost our-form ours their-form theirs r
+      → (r .answer ≡ Finished) × (r .report ≡ reportOf (record { our-form = our-form; ours = rs; their-form = their-form; theirs = ss }))
+  -- for who links the library: 0, no file told, and the report in its numbers
+  pub linked : (k : ExportedPairing) (rs ss : List ShiftRecord) → IsFileOf WithoutSettings (k .ours) rs → IsFileOf WithoutSettings (k .theirs) ss
+      → PairingKept k → (k .number ≡ 0) × (k .told ≡ 0 ∷ [])
+      × (k .report′ ≡ reportNumbers (reportOf (record { our-form = WithoutSettings; ours = rs; their-form = WithoutSettings; theirs = ss })))
