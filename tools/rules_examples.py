@@ -566,6 +566,60 @@ def update_call(data, record, buffer):
     return build_call(file_of(records + added), buffer)
 
 
+# ---- chapter 13
+
+def pairs_of(ours, theirs):
+    """13.1: the places of each pair's records, in order."""
+    places = [{}, {}]
+    for found, records in zip(places, (ours, theirs)):
+        for place, record in enumerate(records):
+            found.setdefault(crossing_in(record), []).append(place)
+    return [pair for crossing in sorted(places[0]) for pair in zip(places[0][crossing], places[1].get(crossing, []))]
+
+
+def size_in(record):
+    return int.from_bytes(record[4:6], 'little'), int.from_bytes(record[6:8], 'little')
+
+
+def difference_of(ours, theirs):
+    """13.2, 13.3: None of equal records; both sizes; or plane, row and column."""
+    if size_in(ours) != size_in(theirs):
+        return size_in(ours) + size_in(theirs)
+    w, h = size_in(ours)
+    at = 8
+    for plane, (size, width) in enumerate(zip(plane_sizes(w, h), (w, (w + 1) // 2, (w + 1) // 2))):
+        for k in range(size):
+            if ours[at + k] != theirs[at + k]:
+                return plane, k // width, k % width
+        at += size
+    return None
+
+
+def report_of(ours, theirs):
+    """13.2, 13.3: the four counts, and of the first difference the crossing, both places, and the difference."""
+    pairs = pairs_of(ours, theirs)
+    differ = [(crossing_in(ours[i]), i, j, difference_of(ours[i], theirs[j])) for i, j in pairs if difference_of(ours[i], theirs[j])]
+    return (len(pairs) - len(differ), len(differ), len(ours) - len(pairs), len(theirs) - len(pairs)), next(iter(differ), None)
+
+
+def pair_call(ours, theirs):
+    """13.4: the answer, the file that is none, and the report or None."""
+    ours, theirs = records_of(ours), records_of(theirs)
+    if ours is None or theirs is None:
+        return 15, 1 if ours is None else 2, None
+    return 0, 0, report_of(ours, theirs)
+
+
+def report_numbers(report):
+    """10.7: the sixteen numbers."""
+    counts, first = report
+    if first is None:
+        return [*counts] + [0] * 12
+    crossing, i, j, difference = first
+    sizes, place = (difference, (0, 0, 0)) if len(difference) == 4 else ((0, 0, 0, 0), difference)
+    return [*counts, 1 if len(difference) == 4 else 2, crossing, i, j, *sizes, *place, 0]
+
+
 # ---- the examples, by the number of their rule
 
 EXAMPLES = {}
@@ -1580,6 +1634,17 @@ def _():
         yield f'summary_update, the file of 12.1, record 0 of 11.2, {said}: returns {update_call(data, record, bytearray(buffer))}'
 
 
+@example('10.7')
+def _():
+    yield 'each of the sixteen numbers is 9 before a call'
+    ours, theirs = file_of(OURS), file_of(THEIRS)
+    for said, given in (('the files of 13.1', (ours, theirs)), ('the same, exchanged', (theirs, ours)), ('theirs with the sizes of 13.3', (ours, file_of(SIZES))),
+                        ('ours as both', (ours, ours)), ('two files without records', (file_of([]), file_of([]))), ('ours without its last byte', (ours[:-1], theirs)),
+                        ('theirs without its last byte', (ours, theirs[:-1])), ('both without their last bytes', (ours[:-1], theirs[:-1]))):
+        number, broken, report = pair_call(*given)
+        yield f'{said}: {told(number, broken)}; {numbers([9] * 16 if report is None else report_numbers(report))}'
+
+
 # ---- chapter 11
 
 TWO = [record_of(1400, 3, 2, [bytes([0x10, 0x11, 0x12, 0x20, 0x21, 0x22]), bytes([0x30, 0x31]), bytes([0x40, 0x41])]),
@@ -1812,6 +1877,100 @@ def _():
     yield f'record 2 of 12.1: {number}; the buffer is the summary of the file of 12.1, as in 12.4'
     many = [TWO[1][:4] + record[4:] for record in [TWO[1]] * 4096]
     yield f'a file of 4096 records, no buffer: {update_call(file_of(many), TWO[1], bytearray())}'
+
+
+# ---- chapter 13
+
+def of_one_pixel(crossing, y, u=0x60, v=0x70):
+    return record_of(crossing, 1, 1, [bytes([y]), bytes([u]), bytes([v])])
+
+
+def with_byte(record, at, value):
+    return record[:at] + bytes([value]) + record[at + 1:]
+
+
+# Of crossing 70000 there are two in ours and one in theirs, of 1400 one and two; 9 is in ours alone, 8 in theirs alone.
+OURS = [of_one_pixel(70000, 0x50), TWO[0], of_one_pixel(9, 0x11), of_one_pixel(70000, 0x51), of_one_pixel(30, 0x22)]
+THEIRS = [with_byte(TWO[0], 17, 0x42), of_one_pixel(8, 0x33), of_one_pixel(70000, 0x51), TWO[0], of_one_pixel(30, 0x22)]
+# The same, but that the first of crossing 1400 is of 2 × 3, which has as many bytes of Y and of chroma.
+SIZES = [THEIRS[0][:4] + low_first(2, 2) + low_first(3, 2) + TWO[0][8:]] + THEIRS[1:]
+
+
+def crossings(records):
+    return numbers(crossing_in(record) for record in records)
+
+
+def first_line(first):
+    if first is None:
+        return 'none'
+    crossing, i, j, difference = first
+    said = '{} × {} in ours and {} × {} in theirs'.format(*difference) if len(difference) == 4 else '{}, row {}, column {}'.format('YUV'[difference[0]], *difference[1:])
+    return f'crossing {crossing}, record {i} of ours, record {j} of theirs: {said}'
+
+
+@example('13.1')
+def _():
+    for name, records in (('ours', OURS), ('theirs', THEIRS)):
+        yield f'{name}, a file of {len(file_of(records))} bytes, its records in hexadecimal:'
+        width = max(len(hexes(record)) for record in records)
+        for k, record in enumerate(records):
+            yield f'{hexes(record):<{width}}   record {k}: crossing {crossing_in(record)}'
+    yield 'pairs, in order:'
+    for i, j in pairs_of(OURS, THEIRS):
+        yield f'crossing {crossing_in(OURS[i])}: record {i} of ours, record {j} of theirs'
+    for said, ours, theirs in (('5 5 5', [5, 5, 5], [5, 5]), ('4294967295 0', [4294967295, 0], [0, 4294967295]), ('1 2', [1, 2], [3])):
+        ours, theirs = [of_one_pixel(c, 0) for c in ours], [of_one_pixel(c, 0) for c in theirs]
+        found = ', '.join(f'{i} and {j}' for i, j in pairs_of(ours, theirs)) or 'none'
+        yield f'crossings {said} in ours, {crossings(theirs)} in theirs: pairs of records {found}'
+
+
+@example('13.2')
+def _():
+    def line(said, ours, theirs):
+        (equal, differing, only_ours, only_theirs), _ = report_of(ours, theirs)
+        assert equal + differing + only_ours == len(ours) and equal + differing + only_theirs == len(theirs)
+        return (f'{said}: {equal} equal, {differing} differ, {only_ours} only in ours, {only_theirs} only in theirs; '
+                f'{equal} + {differing} + {only_ours} = {len(ours)}, {equal} + {differing} + {only_theirs} = {len(theirs)}')
+    yield line('the files of 13.1', OURS, THEIRS)
+    yield line('ours as both', OURS, OURS)
+    yield line('ours, and its records in the opposite order as theirs', OURS, OURS[::-1])
+    yield line('ours, and no records as theirs', OURS, [])
+    yield line('no records in either', [], [])
+
+
+@example('13.3')
+def _():
+    def line(said, ours, theirs):
+        return f'{said}: {first_line(report_of(ours, theirs)[1])}'
+    yield line('the files of 13.1', OURS, THEIRS)
+    yield line('the same, record 0 of theirs with w and h exchanged, so that it has as many bytes', OURS, SIZES)
+    yield line('the same, record 4 of theirs with its last byte another', OURS, SIZES[:4] + [with_byte(SIZES[4], 10, 0)])
+    yield 'record 0 of 11.2, of 3 × 2, as the one record of ours, and with one or more of its bytes another as that of theirs'
+    for changed in ((8,), (10,), (11,), (13,), (14,), (15,), (16,), (17,), (17, 14), (16, 13), (12, 10)):
+        other = TWO[0]
+        for at in changed:
+            other = with_byte(other, at, 0xff)
+        yield line(('byte ' if len(changed) == 1 else 'bytes ') + ' and '.join(map(str, changed)), TWO[:1], [other])
+    yield line('no byte', TWO[:1], TWO[:1])
+    yield line('byte 0, which is of the crossing number', TWO[:1], [with_byte(TWO[0], 0, 0xff)])
+
+
+@example('13.4')
+def _():
+    def line(said, ours, theirs):
+        number, broken, report = pair_call(ours, theirs)
+        return f'{said}: {number}, ' + (('neither', 'ours', 'theirs')[broken] + ' is no file' if number else f'{numbers(report[0])}; {first_line(report[1])}')
+    ours, theirs = file_of(OURS), file_of(THEIRS)
+    yield 'the four counts in the order of 13.2; then the first difference'
+    yield line('the files of 13.1', ours, theirs)
+    yield line('the same, exchanged', theirs, ours)
+    yield line('the same bytes as both', ours, ours)
+    yield line('ours without its last byte', ours[:-1], theirs)
+    yield line('theirs without its last byte', ours, theirs[:-1])
+    yield line('both without their last bytes', ours[:-1], theirs[:-1])
+    yield line('no bytes as ours, a file without records as theirs', b'', file_of([]))
+    yield line('a file without records as ours, no bytes as theirs', file_of([]), b'')
+    yield line('a file without records as both', file_of([]), file_of([]))
 
 
 # ---- appendix A
