@@ -14,6 +14,7 @@ pub mod curves;
 pub mod frame;
 pub mod grey;
 pub mod matrix;
+pub mod pairs;
 pub mod program;
 pub mod refusals;
 pub mod row;
