@@ -11,17 +11,18 @@
  * segvartin_convert_band_with. How many colours share a luma, in a matrix and range: segvartin_luma_counts. A record of a shift file from planes:
  * segvartin_write_shift_record; a file from records: segvartin_write_shift_file; its records where they stand in it: segvartin_read_shift_file.
  * The summary of a file, by which the record of a crossing is found: segvartin_build_summary, segvartin_check_summary, segvartin_find_record,
- * segvartin_update_summary. All only pass numbers on to the library's segvartin_call_ functions below.
+ * segvartin_update_summary. Two files of one day held against each other: segvartin_pair_shift_files. All only pass numbers on to the library's
+ * segvartin_call_ functions below.
  *
- * docs/RULES.md has the rules that fix each byte and each answer; RULES 7.1 below names one of them. The library's eleven functions are the
+ * docs/RULES.md has the rules that fix each byte and each answer; RULES 7.1 below names one of them. The library's twelve functions are the
  * calls of its chapter 10.
  *
  * Every function answers finished work (0) or the number of one refusal, and a refusal writes no byte of a plane, of the carried row, of a record,
- * of a file or of a summary, no entry and no count of colours. This holds for all values of all numbers: sizes, strides, lengths, codes, kr, kb, and
- * all bytes of a file and of a summary. What no function can check, and the caller must see to:
+ * of a file or of a summary, no entry, no count of colours and no report. This holds for all values of all numbers: sizes, strides, lengths, codes,
+ * kr, kb, and all bytes of a file and of a summary. What no function can check, and the caller must see to:
  *   - a pointer is not NULL, also where its length is 0, and points to as many bytes as the length beside it says; counts to 256 numbers;
  *   - of what a call is lent (source, y, u, v, carried, counts, done, expected, received; records, file, size, count, read; summary, record, yes,
- *     found) nothing that it may write overlaps anything else.
+ *     found; report, broken) nothing that it may write overlaps anything else. What is only read may overlap: one file may be ours and theirs.
  *
  * The caller's floating-point mode (rounding, denormals, trapped exceptions) does not matter: each call is made in the default mode, and the
  * caller's mode and exception flags are put back as they were. Only SEGVARTIN_FCC and SEGVARTIN_CUSTOM use floats at all; the calls on shift
@@ -81,7 +82,7 @@ enum { SEGVARTIN_TRUNCATED = 0, SEGVARTIN_NEAREST = 1 };
  */
 enum {
     SEGVARTIN_FINISHED = 0,
-    /* shift files and summaries only: the file, or what is to be written, breaks their layout; w or h of a record to be made is not from 1 to 16384;
+    /* shift files and summaries only: a file, or what is to be written, breaks their layout; w or h of a record to be made is not from 1 to 16384;
      * a summary is to be updated with what is not one record, or for a file that has 4096 */
     SEGVARTIN_MALFORMED_SHIFT_FILE = 15,
     /* summaries only: the summary lent is too short; in a lookup or an update also: it is not the file's */
@@ -143,9 +144,11 @@ enum {
  *                    the fields of segvartin_shift_record, in their order
  *   told             gets expected, received, and in open and band the rows done: 0, and what they are after the band. shift_records: how many
  *                    records the file has, and how many entries were written. shift_write: the file's size. shift_record: expected, received,
- *                    the record's size. summary_check: 1 for yes, 0 for no. summary_find: 1 and the record's number, from 0; or 0 and 0
- *   the others       as below; numbers, custom, entries and told overlap nothing either. The three shift_ calls and the four summary_ calls need
- *                    no mode
+ *                    the record's size. summary_check: 1 for yes, 0 for no. summary_find: 1 and the record's number, from 0; or 0 and 0.
+ *                    shift_pairs: the file that is none, 1 for ours and 2 for theirs; or 0
+ *   report           the fields of segvartin_pair_report, in their order
+ *   the others       as below; numbers, custom, entries, report and told overlap nothing either. The four shift_ calls and the four summary_ calls
+ *                    need no mode
  */
 /* Made by tools/declarations.py from the library's source: change that, and run it. */
 uint32_t segvartin_call_frame(const uint32_t *numbers, size_t numbers_len, const float custom[2], const uint8_t *source, size_t source_len,
@@ -714,6 +717,49 @@ static inline segvartin_answer segvartin_update_summary(segvartin_bytes file, se
     segvartin_answer a;
     a.number = segvartin_call_summary_update(file.at, file.len, record.at, record.len, summary.at, summary.len);
     a.expected = a.received = 0;
+    return a;
+}
+
+/* Which of two files is no shift file (RULES 10.7). */
+#define SEGVARTIN_NEITHER 0
+#define SEGVARTIN_OURS 1
+#define SEGVARTIN_THEIRS 2
+
+/* How the records of a pair differ (RULES 10.7). */
+#define SEGVARTIN_NO_DIFFERENCE 0
+#define SEGVARTIN_SIZES_DIFFER 1
+#define SEGVARTIN_BYTES_DIFFER 2
+
+/*
+ * The report of two files (RULES 13.2, 13.3). equal + differing + only_ours is the number of records of ours, and so it is of theirs. A later version may
+ * give the last number a meaning.
+ */
+typedef struct segvartin_pair_report {
+    uint64_t equal;                                            /* pairs of the same size with the same bytes in all planes */
+    uint64_t differing;                                        /* the other pairs */
+    uint64_t only_ours, only_theirs;                           /* records without a pair */
+    uint64_t difference;                                       /* that of the first differing pair, by crossing and then by offset. 0: none differs */
+    uint64_t crossing, our_record, their_record;               /* its crossing; the numbers of its records in ours and in theirs, from 0 */
+    uint64_t our_width, our_height, their_width, their_height; /* SEGVARTIN_SIZES_DIFFER: both sizes; else 0 */
+    uint64_t plane, row, column;                               /* SEGVARTIN_BYTES_DIFFER: the first unequal byte; plane 0 Y, 1 U, 2 V; else 0 */
+    uint64_t zero;
+} segvartin_pair_report;
+
+/*
+ * Pairs two shift files (RULES 13.4), the k-th record of a crossing in ours with the k-th in theirs, by offset; and reports how many pairs are equal, and
+ * how the first differs that is not. Answers 0, or a refusal: 15, exactly where one of them is no shift file. No summary is needed. Its time is that of
+ * the records' planes, each pair's read once and no further than to its first unequal byte, and of sorting the records.
+ *
+ *   ours, theirs     two whole files, and nothing behind them
+ *   report           gets the report. After a refusal it is left as it is
+ *   broken           gets which is no shift file: SEGVARTIN_OURS, where both are too; SEGVARTIN_THEIRS; SEGVARTIN_NEITHER where 0 is answered
+ */
+static inline segvartin_answer segvartin_pair_shift_files(segvartin_bytes ours, segvartin_bytes theirs, segvartin_pair_report *report, int *broken) {
+    size_t told[1];
+    segvartin_answer a;
+    a.number = segvartin_call_shift_pairs(ours.at, ours.len, theirs.at, theirs.len, (uint64_t *)(void *)report, told); /* sixteen numbers */
+    a.expected = a.received = 0;
+    *broken = (int)told[0];
     return a;
 }
 

@@ -1,5 +1,6 @@
 //! RGB frames to planar YUV 4:2:0 and 4:2:2 over the proved library, under the names and with the argument order of yuvutils-rs's sharp path; and
-//! [shift files](ShiftFile), which hold the planes of many frames, with [summaries](ShiftFile::build_summary) by which a frame is found in one.
+//! [shift files](ShiftFile), which hold the planes of many frames, with [summaries](ShiftFile::build_summary) by which a frame is found in one,
+//! and [two of which](pair_shift_files) are held against each other.
 //!
 //! Every call answers finished work or one numbered refusal ([`YuvError`]), for all sizes, strides, lengths and settings; a refusal writes no
 //! byte. The rules that fix each byte and each answer are docs/RULES.md of the repository; RULES 7.1 in a comment is one of them.
@@ -26,6 +27,7 @@ mod ffi;
 mod frame;
 mod image;
 mod mode;
+mod pairs;
 mod settings;
 mod shift;
 mod summary;
@@ -35,6 +37,9 @@ pub use counts::luma_counts;
 pub use error::{MismatchedSize, YuvError};
 pub use frame::*;
 pub use image::{BufferStoreMut, YuvPlanarImageMut};
+pub use pairs::{
+    DifferingPair, PairDifference, PairError, PairReport, PairSide, YuvPlane, pair_shift_files,
+};
 pub use settings::{
     FrameDescription, FrameOptions, SharpYuvGammaTransfer, TableRounding, Window,
     YuvChromaSubsampling, YuvRange, YuvSourceChannels, YuvStandardMatrix,
