@@ -47,7 +47,7 @@ pub trait Converter {
         None
     }
 
-    /// Whether it has the three calls on shift files, and the four on summaries.
+    /// Whether it has the three calls on shift files, the four on summaries, and the pairing of two files.
     fn has_shift_files(&self) -> bool {
         false
     }
@@ -90,6 +90,11 @@ pub trait Converter {
 
     /// Updates a summary with a record.
     fn summary_update(&self, _file: &[u8], _record: &[u8], _buffer: &mut [u8]) -> Answer {
+        unreachable!("has_shift_files() says so")
+    }
+
+    /// Pairs two shift files by the numbers of RULES 10.7: the answer, and the file that is none.
+    fn shift_pairs(&self, _: &[u8], _theirs: &[u8], _report: &mut [u64; 16]) -> (Answer, u64) {
         unreachable!("has_shift_files() says so")
     }
 }
@@ -189,6 +194,19 @@ impl Converter for Model {
 
     fn summary_update(&self, file: &[u8], record: &[u8], buffer: &mut [u8]) -> Answer {
         model::summary::update_summary(file, record, buffer)
+    }
+
+    fn shift_pairs(&self, ours: &[u8], theirs: &[u8], report: &mut [u64; 16]) -> (Answer, u64) {
+        let (answer, broken, told) = model::pairs::pair_files(ours, theirs);
+        if let Some(told) = told {
+            *report = told.numbers();
+        }
+        let broken = match broken {
+            None => 0,
+            Some(model::pairs::Side::Ours) => 1,
+            Some(model::pairs::Side::Theirs) => 2,
+        };
+        (answer, broken)
     }
 }
 

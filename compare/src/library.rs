@@ -5,8 +5,8 @@ use crate::request::BandRequest;
 use model::shift::RecordRequest;
 use model::{Answer, Frame, FrameState, Refusal, Settings, TableRounding, Window};
 use segvartin::{
-    BufferStoreMut, FrameDescription, FrameOptions, FrameStateWith, ShiftFile, YuvError,
-    YuvPlanarImageMut,
+    BufferStoreMut, FrameDescription, FrameOptions, FrameStateWith, PairDifference, PairSide,
+    ShiftFile, YuvError, YuvPlanarImageMut, YuvPlane,
 };
 
 pub struct Library;
@@ -311,6 +311,38 @@ impl Converter for Library {
         assert!(copy == buffer, "the crate leaves other bytes");
         answer
     }
+
+    /// By its numbers, and then by the crate.
+    fn shift_pairs(&self, ours: &[u8], theirs: &[u8], report: &mut [u64; 16]) -> (Answer, u64) {
+        let mut told = [7; 1];
+        // SAFETY: as above.
+        let number = unsafe {
+            segvartin_call_shift_pairs(
+                ours.as_ptr(),
+                ours.len(),
+                theirs.as_ptr(),
+                theirs.len(),
+                report,
+                &mut told,
+            )
+        };
+        let answer = answered(number, [0, 0]);
+        match segvartin::pair_shift_files(ours, theirs) {
+            Ok(has) => assert_eq!((Ok(()), numbers_of(&has)), (answer, *report), "the crate"),
+            Err(has) => {
+                let side = match has.side {
+                    PairSide::Ours => 1,
+                    PairSide::Theirs => 2,
+                };
+                assert_eq!(
+                    (Err(refusal(has.error)), side),
+                    (answer, told[0]),
+                    "the crate"
+                );
+            }
+        }
+        (answer, told[0] as u64)
+    }
 }
 
 /// The answer of an exported call.
@@ -324,6 +356,42 @@ fn answered(number: u32, told: [usize; 2]) -> Answer {
             received,
         }),
     }
+}
+
+/// The numbers of a report of the crate.
+fn numbers_of(report: &segvartin::PairReport) -> [u64; 16] {
+    let counts = [
+        report.equal,
+        report.differing,
+        report.only_ours,
+        report.only_theirs,
+    ];
+    let mut numbers = [0; 16];
+    numbers[..4].copy_from_slice(&counts.map(|count| count as u64));
+    let Some(first) = &report.first else {
+        return numbers;
+    };
+    numbers[5] = first.crossing.into();
+    numbers[6..8].copy_from_slice(&[first.our_record, first.their_record].map(|k| k as u64));
+    match first.difference {
+        PairDifference::Sizes { ours, theirs, .. } => {
+            numbers[4] = 1;
+            numbers[8..12].copy_from_slice(&[ours.0, ours.1, theirs.0, theirs.1].map(u64::from));
+        }
+        PairDifference::Place {
+            plane, row, column, ..
+        } => {
+            let plane = match plane {
+                YuvPlane::Y => 0,
+                YuvPlane::U => 1,
+                YuvPlane::V => 2,
+            };
+            numbers[4] = 2;
+            numbers[12..15].copy_from_slice(&[plane, row as u64, column as u64]);
+        }
+        _ => panic!("a difference of another kind"),
+    }
+    numbers
 }
 
 /// A record of the crate has the parts of the file that the export told of.
@@ -372,6 +440,15 @@ unsafe extern "C" {
         added_len: usize,
         summary: *mut u8,
         summary_len: usize,
+    ) -> u32;
+
+    fn segvartin_call_shift_pairs(
+        ours: *const u8,
+        ours_len: usize,
+        theirs: *const u8,
+        theirs_len: usize,
+        report: &mut [u64; 16],
+        told: &mut [usize; 1],
     ) -> u32;
 
     fn segvartin_call_shift_records(

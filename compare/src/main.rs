@@ -11,6 +11,7 @@ mod grey;
 #[cfg(library)]
 mod library;
 mod mistakes;
+mod pairs;
 mod program;
 mod random;
 mod request;
@@ -27,6 +28,7 @@ mod worked;
 use check::{CATCHING, Case, Converters, band_of, checked, frame_of, smallest};
 use grey::{GreyFrame, GreyInput, GreyRun};
 use model::{YuvRange, YuvStandardMatrix};
+use pairs::Pairing;
 use random::Random;
 use request::{Lent, band_vector, frame_vector, program_vector};
 use shift::{Making, Reading, Shift, Writing};
@@ -57,6 +59,8 @@ compare --vectors ROOT | --check ROOT | --mistakes | --flat
   --summaries N  summaries of shift files that are built, as many that are checked, looked up and updated (100000
                  each), good and damaged ones, of good files and broken ones; a thousandth as many of files that
                  have 4,094 to 4,096 records, updated
+  --paired N     shift files that are paired with one like them (100000), as many frames with bits flipped, half
+                 as many files good and broken, a thousandth as many of 4,096 records; and every bit of small frames
   --side N       sizes to N by N (64); some are 1,920 by 1,080, some up to 16,384 long and thin;
                  four of five lie in a source that is larger by up to 18 each way, or all it may be
   --seed N       seed of all of these (1)
@@ -95,6 +99,7 @@ struct Options {
     counts: u64,
     shifts: u64,
     summaries: u64,
+    paired: u64,
     side: u64,
     seed: u64,
     list: u64,
@@ -113,6 +118,7 @@ fn options() -> Option<Options> {
         counts: 200,
         shifts: 100_000,
         summaries: 100_000,
+        paired: 100_000,
         side: 64,
         seed: 1,
         list: 0,
@@ -132,6 +138,7 @@ fn options() -> Option<Options> {
                 options.counts /= 10;
                 options.shifts /= 10;
                 options.summaries /= 10;
+                options.paired /= 10;
                 continue;
             }
             "--frames" => &mut options.frames,
@@ -145,6 +152,7 @@ fn options() -> Option<Options> {
             "--counts" => &mut options.counts,
             "--shifts" => &mut options.shifts,
             "--summaries" => &mut options.summaries,
+            "--paired" => &mut options.paired,
             "--side" => &mut options.side,
             "--seed" => &mut options.seed,
             "--list" => &mut options.list,
@@ -218,6 +226,7 @@ fn main() {
     }
     shifts(&options, &converters);
     summaries(&options, &converters);
+    paired(&options, &converters);
     let input = |case| random::input(&mut Random::new(seed, 4, case), side);
     let grey_input = |case| GreyInput::random(&mut Random::new(seed, 13, case));
     compare("program inputs", options.programs, &converters, input);
@@ -269,6 +278,23 @@ fn summaries(options: &Options, converters: &Converters) {
             make(&mut Random::new(seed, stream, case))
         });
     }
+}
+
+/// Two shift files paired.
+fn paired(options: &Options, converters: &Converters) {
+    let (seed, files) = (options.seed, options.paired);
+    type Make = fn(&mut Random) -> Pairing;
+    for (kind, stream, files, make) in [
+        ("shift files paired", 24, files, Pairing::changed as Make),
+        ("frames with bits flipped", 26, files, Pairing::flipped),
+        ("any two files", 27, files / 2, Pairing::any),
+        ("full files paired", 28, files / 1_000, Pairing::full),
+    ] {
+        compare(kind, files, converters, |case| {
+            make(&mut Random::new(seed, stream, case))
+        });
+    }
+    timed(|| pairs::every_bit(converters));
 }
 
 /// The program that counts colours.
