@@ -336,7 +336,7 @@ fn the_export_takes_denormals_as_its_caller() {
     }
 }
 
-/// Shift files and summaries are made of whole numbers: no mode is set for them, and none matters.
+/// Shift files, summaries and pairs are made of whole numbers: no mode is set for them, and none matters.
 #[test]
 fn the_same_shift_file_in_every_mode() {
     let mut image = YuvPlanarImageMut::<u8>::alloc(5, 3, YuvChromaSubsampling::Yuv420);
@@ -358,6 +358,10 @@ fn the_same_shift_file_in_every_mode() {
         assert_eq!(found.map(|record| record.bytes), Some(&record[..]));
         file.update_summary(&record, &mut summary)?;
         assert!(!file.check_summary(&summary));
+        let mut other = bytes.clone();
+        *other.last_mut().unwrap() ^= 1;
+        let report = pair_shift_files(&bytes, &other)?;
+        assert_eq!((report.equal, report.differing), (0, 1));
         bytes.truncate(50);
         assert_eq!(ShiftFile::open(&bytes), Err(YuvError::MalformedShiftFile));
         record.extend(summary);

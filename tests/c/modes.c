@@ -62,6 +62,8 @@ typedef struct outcome {
     segvartin_shift_record read, found;
     uint8_t summary[2 * SEGVARTIN_SUMMARY_ENTRY];
     int yes, is_found;
+    segvartin_pair_report report;
+    int broken;
 } outcome;
 
 typedef void call(const segvartin_description *d, outcome *o);
@@ -208,6 +210,16 @@ static void summary(const segvartin_description *d, outcome *o) {
     if (o->number == SEGVARTIN_FINISHED)
         told(o, segvartin_find_record(segvartin_read_only(file), segvartin_read_only(lent), 1400, &o->found, &o->is_found));
     if (o->number == SEGVARTIN_FINISHED) told(o, segvartin_update_summary(segvartin_read_only(file), segvartin_read_only(record), lent));
+}
+
+/* That file against itself with the last byte of V another. */
+static void pairs(const segvartin_description *d, outcome *o) {
+    static uint8_t bytes[sizeof o->file];
+    segvartin_bytes ours = {o->file, sizeof o->file}, theirs = {bytes, sizeof bytes};
+    shift_file(d, o);
+    memcpy(bytes, o->file, sizeof bytes);
+    bytes[sizeof bytes - 1] ^= 1;
+    if (o->number == SEGVARTIN_FINISHED) told(o, segvartin_pair_shift_files(ours, theirs, &o->report, &o->broken));
 }
 
 /* As colours, by the exported function alone. */
@@ -372,7 +384,7 @@ static void counts_of_colours(void) {
     }
 }
 
-/* Shift files and summaries are made of whole numbers: no mode is set for them, and none matters. */
+/* Shift files, summaries and pairs are made of whole numbers: no mode is set for them, and none matters. */
 static void shift_files(void) {
     segvartin_description d = description(W, H, SEGVARTIN_YUV420, SEGVARTIN_LIMITED, SEGVARTIN_FCC);
     outcome usual;
@@ -384,6 +396,9 @@ static void shift_files(void) {
     EXPECT(usual.number == SEGVARTIN_FINISHED && usual.yes == 1 && usual.is_found == 1 && usual.found.offset == 16);
     EXPECT(usual.summary[4] + usual.summary[SEGVARTIN_SUMMARY_ENTRY + 4] == 28 + (28 + RECORD) && usual.summary[12] != 0);
     as_usual(summary, &d, &usual);
+    in_mode(0, pairs, &d, &usual, mxcsr);
+    EXPECT(usual.number == SEGVARTIN_FINISHED && usual.report.differing == 1 && usual.report.plane == 2 && usual.report.column == CW - 1);
+    as_usual(pairs, &d, &usual);
     d.width = 0;
     in_mode(0, shift_file, &d, &usual, mxcsr);
     EXPECT(usual.number == SEGVARTIN_MALFORMED_SHIFT_FILE && usual.record[0] == 0);
@@ -430,7 +445,7 @@ static void another_end(void) {
     segvartin_description d = description(W, H, SEGVARTIN_YUV420, SEGVARTIN_FULL, SEGVARTIN_FCC);
     EXPECT(!ends(frame, &d) && !ends(bands, &d) && !ends(frame_with, &d) && !ends(bands_with, &d) && ends(bare, &d));
     EXPECT(!ends(frame_in_window, &d) && !ends(bands_in_window, &d));
-    EXPECT(!ends(colours, &d) && ends(bare_colours, &d) && !ends(summary, &d));
+    EXPECT(!ends(colours, &d) && ends(bare_colours, &d) && !ends(summary, &d) && !ends(pairs, &d));
     d.matrix = SEGVARTIN_BT709;
     EXPECT(!ends(bare, &d) && !ends(bare_colours, &d));
 }

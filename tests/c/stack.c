@@ -1,7 +1,7 @@
 /*
  * The stack that a call takes, for every setting, without options and with: nearest tables, and a window onto a larger source; that of a count of
- * colours, for every range and matrix; that of the calls on shift files; and that of the calls on summaries, of a file with as many records as there
- * may be. Each call runs on a thread whose stack is filled with one byte first; from where the call is made down to the lowest byte that changed is
+ * colours, for every range and matrix; that of the calls on shift files; that of the calls on summaries, of a file with as many records as there may be;
+ * and that of pairing two such files. Each call runs on a thread whose stack is filled with one byte first; from where the call is made down to the lowest byte that changed is
  * what it took. Bytes that a call reserves and never writes are not seen.
  */
 #include <pthread.h>
@@ -12,8 +12,8 @@
 
 #include "segvartin.h"
 
-/* PROMISED is what segvartin.h says. The frame is odd both ways, and given in bands of one row. With options its source is twice as large. */
-enum { STACK = 1 << 20, FILL = 0xA5, PROMISED = 96 << 10, W = 17, H = 5, CW = 9 };
+/* What is PROMISED segvartin.h says. The frame is odd both ways, and given in bands of one row. With options its source is twice as large. */
+enum { STACK = 1 << 20, FILL = 0xA5, PROMISED = 96 << 10, PROMISED_OF_PAIRS = 128 << 10, W = 17, H = 5, CW = 9 };
 
 static uint8_t source_bytes[4 * 2 * W * 2 * H], y_bytes[W * H], u_bytes[CW * H], v_bytes[CW * H], carried_bytes[3 * W];
 static segvartin_description description;
@@ -131,6 +131,34 @@ static void *summaries(void *unused) {
     return a.number == SEGVARTIN_FINISHED ? unused : &description;
 }
 
+/* Two files of MANY records, the one in the opposite order of the other. */
+static void *pairs(void *unused) {
+    enum { MANY = SEGVARTIN_MAX_RECORDS, RECORD = 11 };
+    static uint8_t record_bytes[2][MANY * RECORD], file_bytes[2][4 + MANY * (12 + RECORD)];
+    static segvartin_pair_report report;
+    static size_t size;
+    static int broken;
+    segvartin_bytes files[2];
+    segvartin_answer a;
+    uint32_t k, f;
+    for (f = 0; f < 2; f++) {
+        segvartin_bytes from = {record_bytes[f], sizeof record_bytes[f]};
+        segvartin_bytes_mut file = {file_bytes[f], sizeof file_bytes[f]};
+        for (k = 0; k < MANY; k++) {
+            uint8_t *record = record_bytes[f] + k * RECORD;
+            uint32_t crossing = (f ? MANY - 1 - k : k) * 2654435761u;
+            record[0] = (uint8_t)crossing, record[1] = (uint8_t)(crossing >> 8), record[2] = (uint8_t)(crossing >> 16), record[3] = (uint8_t)(crossing >> 24);
+            record[4] = record[6] = 1;
+        }
+        a = segvartin_write_shift_file(from, file, &size);
+        if (a.number != SEGVARTIN_FINISHED) return &description;
+        files[f] = segvartin_read_only(file);
+    }
+    called_from = __builtin_frame_address(0);
+    a = segvartin_pair_shift_files(files[0], files[1], &report, &broken);
+    return a.number == SEGVARTIN_FINISHED && report.equal == MANY ? unused : &description;
+}
+
 static size_t taken(void *(*call)(void *)) {
     pthread_attr_t attributes;
     pthread_t thread;
@@ -152,7 +180,7 @@ static size_t taken(void *(*call)(void *)) {
 }
 
 int main(void) {
-    size_t most[5] = {0, 0, 0, 0, 0};
+    size_t most[6] = {0, 0, 0, 0, 0, 0};
     uint32_t code;
     description.width = W, description.height = H, description.kr = 0.25f, description.kb = 0.125f;
     description.y_stride = W, description.u_stride = description.v_stride = CW;
@@ -178,7 +206,10 @@ int main(void) {
     }
     most[3] = taken(shift_files);
     most[4] = taken(summaries);
-    printf("stack, at most: a frame call %zu bytes, a band call %zu, a count of colours %zu, shift files %zu, summaries %zu\n", most[0], most[1], most[2],
-           most[3], most[4]);
-    return most[0] < PROMISED && most[1] < PROMISED && most[2] < PROMISED && most[3] < PROMISED && most[4] < PROMISED ? 0 : 1;
+    most[5] = taken(pairs);
+    printf("stack, at most: a frame call %zu bytes, a band call %zu, a count of colours %zu, shift files %zu, summaries %zu, two files paired %zu\n", most[0],
+           most[1], most[2], most[3], most[4], most[5]);
+    for (code = 0; code < 5; code++)
+        if (most[code] >= PROMISED) return 1;
+    return most[5] < PROMISED_OF_PAIRS ? 0 : 1;
 }
