@@ -748,7 +748,7 @@ typedef struct segvartin_pair_report {
 /*
  * Pairs two shift files (RULES 13.4), the k-th record of a crossing in ours with the k-th in theirs, by offset; and reports how many pairs are equal, and
  * how the first differs that is not. Answers 0, or a refusal: 15, exactly where one of them is no shift file. No summary is needed. Its time is that of
- * the records' planes, each pair's read once and no further than to its first unequal byte, and of sorting the records.
+ * the planes of both files, each pair's up to the row of its first unequal byte, and of sorting the records.
  *
  *   ours, theirs     two whole files, and nothing behind them
  *   report           gets the report. After a refusal it is left as it is
