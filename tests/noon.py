@@ -3,7 +3,7 @@
 
     tests/noon.py NOON OUT     NOON is examples/c/noon.c, built; OUT a folder for the files
 
-The pairing below was made from the request's own words, and shares nothing with the rest of this repository.
+The pairing below follows the request's own words, and shares no code with the rest of this repository.
 """
 import random
 import struct

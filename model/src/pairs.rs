@@ -1,4 +1,5 @@
-//! Two shift files paired: RULES 13.1 and on.
+//! Two shift files paired: RULES 13.1 and on. Written after a reading of the definitions in `specs`; it shares
+//! no code with what is proved.
 
 use crate::refusals::{Answer, refuse_if};
 use crate::shift::{self, Entry, Part};
