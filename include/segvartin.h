@@ -180,6 +180,9 @@ uint32_t segvartin_call_summary_find(const uint8_t *file, size_t file_len, const
 
 uint32_t segvartin_call_summary_update(const uint8_t *file, size_t file_len, const uint8_t *added, size_t added_len, uint8_t *summary,
                                        size_t summary_len);
+
+uint32_t segvartin_call_shift_pairs(const uint8_t *ours, size_t ours_len, const uint8_t *theirs, size_t theirs_len, uint64_t report[16],
+                                    size_t told[1]);
 /* End of what tools/declarations.py makes. */
 
 /* MXCSR: the floating-point mode and the exception flags. */

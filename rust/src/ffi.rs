@@ -111,4 +111,13 @@ unsafe extern "C" {
         summary: *mut u8,
         summary_len: usize,
     ) -> u32;
+
+    pub(crate) fn segvartin_call_shift_pairs(
+        ours: *const u8,
+        ours_len: usize,
+        theirs: *const u8,
+        theirs_len: usize,
+        report: &mut [u64; 16],
+        told: &mut [usize; 1],
+    ) -> u32;
 }
