@@ -1,4 +1,4 @@
--- The sixteen numbers of a report: docs/RULES.md, 10.7.
+-- The eighteen numbers of a report: docs/RULES.md, 10.7.
 -- Assumes nothing.
 use Prim.Native.Nat.{ℕ}
 use mathlib.Core.List.{List, [], _∷_}
@@ -55,14 +55,14 @@ differenceNumbers (At p) = record {
   column = p .column;
 }
 
--- RULES 10.7: counts, the first difference's kind and pair, sizes, place, 0
+-- RULES 10.7: counts, the first difference's kind and pair, sizes, place, three times 0
 unfoldable pub reportNumbers : PairReport → List ℕ
 reportNumbers r =
     let d = differenceNumbers (r .first .difference) in
     r .equal ∷ r .differing ∷ r .«only_ours» ∷ r .«only_theirs»
     ∷ d .kind ∷ r .first .crossing ∷ r .first .ours ∷ r .first .theirs
     ∷ d .«our_width» ∷ d .«our_height» ∷ d .«their_width» ∷ d .«their_height»
-    ∷ d .plane ∷ d .row ∷ d .column ∷ 0 ∷ []
+    ∷ d .plane ∷ d .row ∷ d .column ∷ 0 ∷ 0 ∷ 0 ∷ []
 
 -- RULES 10.7: what the lent numbers are after a call
 abbrev pub numbersAfter : YuvAnswer → PairReport → (before : List ℕ) → List ℕ

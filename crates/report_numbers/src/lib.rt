@@ -1,4 +1,4 @@
-// The report of two shift files as sixteen numbers, for those who link the library (RULES 10.7).
+// The report of two shift files as eighteen numbers, for those who link the library (RULES 10.7).
 use record_difference::Plane;
 use record_difference::RecordDifference;
 use shift_pairs::PairReport;
@@ -71,9 +71,9 @@ fn difference_numbers(difference: RecordDifference) -> DifferenceNumbers
 }
 
 // Equal, differing, only ours, only theirs; the kind of the first difference, the crossing of its pair and the places of its records; width and
-// height of ours and of theirs; plane, row and column; 0.
+// height of ours and of theirs; plane, row and column; three times 0.
 fn tell_report(report: PairReport, numbers: &mut [u64])
-    requires { ⌜ length (now numbers) ≡ 16 ⌝ }
+    requires { ⌜ length (now numbers) ≡ 18 ⌝ }
     ensures { λ _. ⌜ now (numbers .exit) ≡ reportNumbers report ⌝ }
 {
     let first = report.first;
@@ -95,11 +95,13 @@ fn tell_report(report: PairReport, numbers: &mut [u64])
     numbers[13] = told.row;
     numbers[14] = told.column;
     numbers[15] = 0;
+    numbers[16] = 0;
+    numbers[17] = 0;
 }
 
 // The report's numbers; none where the pairing was refused.
 pub fn tell_pairing(pairing: Pairing, numbers: &mut [u64])
-    requires { ⌜ length (now numbers) ≡ 16 ⌝ }
+    requires { ⌜ length (now numbers) ≡ 18 ⌝ }
     ensures { λ _. ⌜ now (numbers .exit) ≡ pairingNumbers pairing (now (numbers .entry)) ⌝ }
 {
     let answer = pairing.answer;

@@ -394,12 +394,13 @@ fn tell_broken(pairing: Pairing, told: &mut [usize]) -> u32
 // Pairs two shift files, the k-th record of a crossing in ours with the k-th in theirs (0); or answers 15 where one is no shift file, and writes no
 // number of the report. report: how many pairs are equal and how many differ, how many records are only in ours and only in theirs; of the first
 // pair that differs the kind (0 none, 1 sizes, 2 a place), its crossing, the places of its records in ours and in theirs; for sizes width and height
-// of ours and of theirs; for a place plane (0 Y, 1 U, 2 V), row and column; 0. told: the file that is none, 1 for ours and 2 for theirs, or 0.
+// of ours and of theirs; for a place plane (0 Y, 1 U, 2 V), row and column; three times 0. told: the file that is none, 1 for ours, 2 for
+// theirs, or 0.
 #[no_mangle]
 pub extern "C" fn segvartin_call_shift_pairs(
     ours: &[u8],
     theirs: &[u8],
-    report: &mut [u64; 16],
+    report: &mut [u64; 18],
     told: &mut [usize; 1],
 ) -> u32
     ensures { λ n. ⌜ PairingKept (exportedPairing (now (ours .entry)) (now (theirs .entry)) (now (report .entry)) n (now (told .exit)) (now (report .exit))) ⌝ }

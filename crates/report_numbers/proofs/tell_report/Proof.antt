@@ -1,4 +1,4 @@
--- Sixteen stores fill sixteen places. Assumes nothing.
+-- Eighteen stores fill eighteen places. Assumes nothing.
 use Prim.Native.Nat.{ℕ, _+_}
 use mathlib.Core.Path.{_≡_, sym, _∙_, ap}
 use mathlib.Core.List.{List, [], _∷_, _++_, append-nil}
@@ -21,9 +21,9 @@ stored r d =
     r .equal ∷ r .differing ∷ r .«only_ours» ∷ r .«only_theirs»
     ∷ d .kind ∷ r .first .crossing ∷ r .first .ours ∷ r .first .theirs
     ∷ d .«our_width» ∷ d .«our_height» ∷ d .«their_width» ∷ d .«their_height»
-    ∷ d .plane ∷ d .row ∷ d .column ∷ 0 ∷ []
+    ∷ d .plane ∷ d .row ∷ d .column ∷ 0 ∷ 0 ∷ 0 ∷ []
 
-told : (l : List ℕ) (r : PairReport) (d : DifferenceNumbers) → length l ≡ 16 → d ≡ differenceNumbers (r .first .difference)
+told : (l : List ℕ) (r : PairReport) (d : DifferenceNumbers) → length l ≡ 18 → d ≡ differenceNumbers (r .first .difference)
     → sets l 0 (stored r d) ≡ reportNumbers r
 unfolding reportNumbers
 told l r d e is = filled l (stored r d) e ∙ ap (stored r) is
@@ -44,6 +44,8 @@ tell-report-spec =
     (λ c. simp length-set (omega arith))
     (λ c. simp length-set (omega arith))
     (λ c. search needs)
+    (λ c. simp length-set (omega arith))
+    (λ c. simp length-set (omega arith))
     (λ c. simp length-set (omega arith))
     (λ c. simp length-set (omega arith))
     (λ c. simp length-set (omega arith))
