@@ -11,6 +11,7 @@ mod grey;
 #[cfg(library)]
 mod library;
 mod mistakes;
+mod pairings;
 mod pairs;
 mod program;
 mod random;
@@ -68,13 +69,14 @@ compare --vectors ROOT | --check ROOT | --mistakes | --flat
 
 A mismatch is printed as the smallest request found that shows it, in the form of --list.
 
-  --vectors ROOT   write the stored lists of frame calls, band sequences and calls on shift files and on
-                   summaries into the repository ROOT
+  --vectors ROOT   write the stored lists of frame calls, band sequences, calls on shift files and on
+                   summaries, and pairings into the repository ROOT
   --check ROOT     say whether the lists in ROOT are what --vectors writes
   --mistakes       for each mistake near at hand the call made for it, and how many calls catch it;
                    for each way to lose tables or window between calls, and for each mistake in a
                    condition of bands, the first sequence that catches it, and how many do; the same
-                   of mistakes in a reader or a writer of shift files, and in a call on summaries
+                   of mistakes in a reader or a writer of shift files, in a call on summaries, and in a
+                   pairing
   --flat           for each transfer and rounding, how many of the 256 values of a flat channel
                    come back through both tables, and how far off the others are at most";
 
@@ -314,9 +316,9 @@ fn timed(check: impl Fn() -> Result<String, String>) {
 
 type OnList = fn(&Path, &Converters) -> Result<String, String>;
 
-/// The lists of frame calls, of band sequences, of calls on shift files and of calls on summaries: what is
-/// said of all, an error where one is wrong.
-fn each(root: &Path, converters: &Converters, lists: [OnList; 4]) -> Result<String, String> {
+/// The lists of frame calls, of band sequences, of calls on shift files, of calls on summaries and of
+/// pairings: what is said of all, an error where one is wrong.
+fn each(root: &Path, converters: &Converters, lists: [OnList; 5]) -> Result<String, String> {
     let said = lists.map(|list| list(root, converters));
     let wrong = said.iter().any(Result::is_err);
     let all = said.map(|said| said.unwrap_or_else(|wrong| wrong));
@@ -340,6 +342,7 @@ fn told(converters: &Converters) -> Option<Result<String, String>> {
                 bands::write,
                 shifts::write,
                 summaries::write,
+                pairings::write,
             ],
         )),
         ["--check", root] => Some(each(
@@ -350,13 +353,15 @@ fn told(converters: &Converters) -> Option<Result<String, String>> {
                 bands::check,
                 shifts::check,
                 summaries::check,
+                pairings::check,
             ],
         )),
         ["--mistakes"] => Some(vectors::report(converters).and_then(|frames| {
             let sequences = bands::report(converters)?;
             let shifts = shifts::report(converters)?;
             let summaries = summaries::report(converters)?;
-            Ok([frames, sequences, shifts, summaries].join("\n\n"))
+            let pairings = pairings::report(converters)?;
+            Ok([frames, sequences, shifts, summaries, pairings].join("\n\n"))
         })),
         ["--flat"] => Some(Ok(worked::flat_colours())),
         _ => None,
