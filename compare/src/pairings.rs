@@ -711,11 +711,16 @@ enum Mistake {
     TheirsNotAsked,
     NoRecordsRefused,
     RefusedCleared,
+    TailForgotten,
+    TailOfSevenForgotten,
+    LastWordForgotten,
+    LowHalvesOfWords,
+    StartOfTheWord,
 }
 
 use Mistake::*;
 
-const MISTAKES: [(Mistake, &str); 50] = [
+const MISTAKES: [(Mistake, &str); 55] = [
     (
         PairsByPlace,
         "pairs by file order, whatever their crossings",
@@ -799,6 +804,17 @@ const MISTAKES: [(Mistake, &str); 50] = [
     (TheirsNotAsked, "15 is not asked of theirs"),
     (NoRecordsRefused, "a file without records is none"),
     (RefusedCleared, "a refused call clears the numbers"),
+    (
+        TailForgotten,
+        "the bytes behind a row's last word are not compared",
+    ),
+    (TailOfSevenForgotten, "a tail of seven bytes is skipped"),
+    (
+        LastWordForgotten,
+        "the last word of a row without a tail is not compared",
+    ),
+    (LowHalvesOfWords, "the low halves of words are compared"),
+    (StartOfTheWord, "the first column of the word is told"),
 ];
 
 /// A third count of the report, with one mistake. Without one it gives what is expected.
@@ -877,6 +893,10 @@ impl Mistaken {
             LastByteOfAnOddRow => w % 2 == 0 || column + 1 != w,
             LastRowForgotten => row + 1 != h,
             FirstRowAlone => row == 0,
+            TailForgotten => column < w / 8 * 8,
+            TailOfSevenForgotten => w % 8 != 7 || column < w / 8 * 8,
+            LastWordForgotten => w % 8 != 0 || column + 8 < w,
+            LowHalvesOfWords => column >= w / 8 * 8 || column % 8 < 4,
             _ => true,
         }
     }
@@ -927,6 +947,7 @@ impl Mistaken {
             RowAndColumnExchanged => [plane, column, row],
             PlaneAsOneRow => [plane, 0, row * w + column],
             ChromaInPixels if plane > 0 => [plane, 2 * row, 2 * column],
+            StartOfTheWord => [plane, row, column / 8 * 8],
             _ => [plane, row, column],
         }
     }
