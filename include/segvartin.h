@@ -181,7 +181,7 @@ uint32_t segvartin_call_summary_find(const uint8_t *file, size_t file_len, const
 uint32_t segvartin_call_summary_update(const uint8_t *file, size_t file_len, const uint8_t *added, size_t added_len, uint8_t *summary,
                                        size_t summary_len);
 
-uint32_t segvartin_call_shift_pairs(const uint8_t *ours, size_t ours_len, const uint8_t *theirs, size_t theirs_len, uint64_t report[16],
+uint32_t segvartin_call_shift_pairs(const uint8_t *ours, size_t ours_len, const uint8_t *theirs, size_t theirs_len, uint64_t report[18],
                                     size_t told[1]);
 /* End of what tools/declarations.py makes. */
 
@@ -734,8 +734,8 @@ static inline segvartin_answer segvartin_update_summary(segvartin_bytes file, se
 #define SEGVARTIN_BYTES_DIFFER 2
 
 /*
- * The report of two files (RULES 13.2, 13.3). equal + differing + only_ours is the number of records of ours, and so it is of theirs. A later version may
- * give the last number a meaning.
+ * The report of two files (RULES 13.2, 13.3). equal + differing + only_ours is the number of records of ours, and so it is of theirs. The last
+ * three are 0; a later version may give them other values.
  */
 typedef struct segvartin_pair_report {
     uint64_t equal;                                            /* pairs of the same size with the same bytes in all planes */
@@ -745,6 +745,7 @@ typedef struct segvartin_pair_report {
     uint64_t crossing, our_record, their_record;               /* its crossing; the numbers of its records in ours and in theirs, from 0 */
     uint64_t our_width, our_height, their_width, their_height; /* SEGVARTIN_SIZES_DIFFER: both sizes; else 0 */
     uint64_t plane, row, column;                               /* SEGVARTIN_BYTES_DIFFER: the first unequal byte; plane 0 Y, 1 U, 2 V; else 0 */
+    uint64_t our_sampling, their_sampling;                     /* 0, SEGVARTIN_YUV420: a record has no other sampling */
     uint64_t zero;
 } segvartin_pair_report;
 
@@ -760,7 +761,7 @@ typedef struct segvartin_pair_report {
 static inline segvartin_answer segvartin_pair_shift_files(segvartin_bytes ours, segvartin_bytes theirs, segvartin_pair_report *report, int *broken) {
     size_t told[1];
     segvartin_answer a;
-    a.number = segvartin_call_shift_pairs(ours.at, ours.len, theirs.at, theirs.len, (uint64_t *)(void *)report, told); /* sixteen numbers */
+    a.number = segvartin_call_shift_pairs(ours.at, ours.len, theirs.at, theirs.len, (uint64_t *)(void *)report, told); /* eighteen numbers */
     a.expected = a.received = 0;
     *broken = (int)told[0];
     return a;

@@ -611,13 +611,13 @@ def pair_call(ours, theirs):
 
 
 def report_numbers(report):
-    """10.7: the sixteen numbers."""
+    """10.7: the eighteen numbers."""
     counts, first = report
     if first is None:
-        return [*counts] + [0] * 12
+        return [*counts] + [0] * 14
     crossing, i, j, difference = first
     sizes, place = (difference, (0, 0, 0)) if len(difference) == 4 else ((0, 0, 0, 0), difference)
-    return [*counts, 1 if len(difference) == 4 else 2, crossing, i, j, *sizes, *place, 0]
+    return [*counts, 1 if len(difference) == 4 else 2, crossing, i, j, *sizes, *place, 0, 0, 0]
 
 
 # ---- the examples, by the number of their rule
@@ -1636,13 +1636,13 @@ def _():
 
 @example('10.7')
 def _():
-    yield 'each of the sixteen numbers is 9 before a call'
+    yield 'each of the eighteen numbers is 9 before a call'
     ours, theirs = file_of(OURS), file_of(THEIRS)
     for said, given in (('the files of 13.1', (ours, theirs)), ('the same, exchanged', (theirs, ours)), ('theirs with the sizes of 13.3', (ours, file_of(SIZES))),
                         ('ours as both', (ours, ours)), ('two files without records', (file_of([]), file_of([]))), ('ours without its last byte', (ours[:-1], theirs)),
                         ('theirs without its last byte', (ours, theirs[:-1])), ('both without their last bytes', (ours[:-1], theirs[:-1]))):
         number, broken, report = pair_call(*given)
-        yield f'{said}: {told(number, broken)}; {numbers([9] * 16 if report is None else report_numbers(report))}'
+        yield f'{said}: {told(number, broken)}; {numbers([9] * 18 if report is None else report_numbers(report))}'
 
 
 # ---- chapter 11

@@ -94,7 +94,7 @@ pub trait Converter {
     }
 
     /// Pairs two shift files by the numbers of RULES 10.7: the answer, and the file that is none.
-    fn shift_pairs(&self, _: &[u8], _theirs: &[u8], _report: &mut [u64; 16]) -> (Answer, u64) {
+    fn shift_pairs(&self, _: &[u8], _theirs: &[u8], _report: &mut [u64; 18]) -> (Answer, u64) {
         unreachable!("has_shift_files() says so")
     }
 }
@@ -196,7 +196,7 @@ impl Converter for Model {
         model::summary::update_summary(file, record, buffer)
     }
 
-    fn shift_pairs(&self, ours: &[u8], theirs: &[u8], report: &mut [u64; 16]) -> (Answer, u64) {
+    fn shift_pairs(&self, ours: &[u8], theirs: &[u8], report: &mut [u64; 18]) -> (Answer, u64) {
         let (answer, broken, told) = model::pairs::pair_files(ours, theirs);
         if let Some(told) = told {
             *report = told.numbers();

@@ -313,7 +313,7 @@ impl Converter for Library {
     }
 
     /// By its numbers, and then by the crate.
-    fn shift_pairs(&self, ours: &[u8], theirs: &[u8], report: &mut [u64; 16]) -> (Answer, u64) {
+    fn shift_pairs(&self, ours: &[u8], theirs: &[u8], report: &mut [u64; 18]) -> (Answer, u64) {
         let mut told = [7; 1];
         // SAFETY: as above.
         let number = unsafe {
@@ -359,14 +359,14 @@ fn answered(number: u32, told: [usize; 2]) -> Answer {
 }
 
 /// The numbers of a report of the crate.
-fn numbers_of(report: &segvartin::PairReport) -> [u64; 16] {
+fn numbers_of(report: &segvartin::PairReport) -> [u64; 18] {
     let counts = [
         report.equal,
         report.differing,
         report.only_ours,
         report.only_theirs,
     ];
-    let mut numbers = [0; 16];
+    let mut numbers = [0; 18];
     numbers[..4].copy_from_slice(&counts.map(|count| count as u64));
     let Some(first) = &report.first else {
         return numbers;
@@ -447,7 +447,7 @@ unsafe extern "C" {
         ours_len: usize,
         theirs: *const u8,
         theirs_len: usize,
-        report: &mut [u64; 16],
+        report: &mut [u64; 18],
         told: &mut [usize; 1],
     ) -> u32;
 

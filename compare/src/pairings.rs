@@ -8,10 +8,10 @@
 //!
 //! No file is longer than 65,536 bytes, so none has more than 2,849 records. What is printed of a pairing is
 //! a line: its place in the list from 1 on; number, expected and received; the file that is none, 1 for ours
-//! and 2 for theirs, else 0; the sixteen numbers of the report (RULES 10.7), each 9 before the call.
+//! and 2 for theirs, else 0; the eighteen numbers of the report (RULES 10.7), each 9 before the call.
 //!
-//!     1 0 0 0 broken=0 report 1 2 2 2 2 1400 1 0 0 0 0 0 2 0 1 0
-//!     27 15 0 0 broken=1 report 9 9 9 9 9 9 9 9 9 9 9 9 9 9 9 9
+//!     1 0 0 0 broken=0 report 1 2 2 2 2 1400 1 0 0 0 0 0 2 0 1 0 0 0
+//!     27 15 0 0 broken=1 report 9 9 9 9 9 9 9 9 9 9 9 9 9 9 9 9 9 9
 
 use crate::check::{Converters, checked, equal_bytes};
 use crate::conditions;
@@ -30,7 +30,7 @@ use std::path::Path;
 /// The longest file that the replaying program can lend.
 const LONGEST_FILE: usize = 65_536;
 
-/// What stands in each of the sixteen numbers before a call.
+/// What stands in each of the eighteen numbers before a call.
 const KEPT: u64 = 9;
 
 /// The widest frame of which every byte is told in turn.
@@ -446,7 +446,7 @@ impl Vector {
     fn new(call: Call, converters: &Converters) -> Result<Vector, String> {
         checked(&call.request, converters).map_err(|wrong| format!("{}: {wrong}", call.why))?;
         let Pairing { ours, theirs } = &call.request;
-        let mut numbers = [KEPT; 16];
+        let mut numbers = [KEPT; 18];
         let (answer, broken) = converters[0].shift_pairs(ours, theirs, &mut numbers);
         let called = (answer, broken, numbers);
         let line = line(&called);
@@ -998,7 +998,7 @@ impl Mistaken {
         }
     }
 
-    fn report(&self, ours: &[&[u8]], theirs: &[&[u8]]) -> [u64; 16] {
+    fn report(&self, ours: &[&[u8]], theirs: &[&[u8]]) -> [u64; 18] {
         let pairs = self.pairs(ours, theirs);
         let differing: Vec<(usize, usize, [u64; 8])> = (pairs.iter())
             .filter_map(|&(i, j)| Some((i, j, self.difference(ours[i], theirs[j])?)))
@@ -1023,7 +1023,7 @@ impl Mistaken {
             }
             _ => {}
         }
-        let mut numbers = [0; 16];
+        let mut numbers = [0; 18];
         let equal = pairs.len() - differing.len();
         let counts = [equal, differing.len(), left[0], left[1]];
         numbers[..4].copy_from_slice(&counts.map(|count| count as u64));
@@ -1044,7 +1044,7 @@ impl Mistaken {
             numbers[5..15].fill(KEPT);
         }
         if self.0 == LastNumberKept {
-            numbers[15] = KEPT;
+            numbers[17] = KEPT;
         }
         numbers
     }
@@ -1061,7 +1061,7 @@ impl Mistaken {
                 _ => which,
             };
             let kept = if self.0 == RefusedCleared { 0 } else { KEPT };
-            (BROKEN, told, [kept; 16])
+            (BROKEN, told, [kept; 18])
         };
         match (ours, theirs) {
             (_, None) if self.0 == TheirsAskedFirst => broken(2),

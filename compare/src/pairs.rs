@@ -13,8 +13,8 @@ use model::{Answer, Refusal};
 
 const MOST: usize = 4_096;
 
-/// What stands in the sixteen numbers before a call.
-const BEFORE: [u64; 16] = [0xeeee_eeee_eeee_eeee; 16];
+/// What stands in the eighteen numbers before a call.
+const BEFORE: [u64; 18] = [0xeeee_eeee_eeee_eeee; 18];
 
 /// A call.
 #[derive(Clone)]
@@ -23,8 +23,8 @@ pub struct Pairing {
     pub theirs: Vec<u8>,
 }
 
-/// The answer, the file that is none (1 ours, 2 theirs, 0 neither), and the sixteen numbers after the call.
-pub type Called = (Answer, u64, [u64; 16]);
+/// The answer, the file that is none (1 ours, 2 theirs, 0 neither), and the eighteen numbers after the call.
+pub type Called = (Answer, u64, [u64; 18]);
 
 fn side(record: &[u8], at: usize) -> u64 {
     u64::from(u16::from_le_bytes([record[at], record[at + 1]]))
@@ -52,7 +52,7 @@ fn difference(a: &[u8], b: &[u8]) -> Option<(u64, [u64; 4], [u64; 3])> {
 
 /// RULES 10.7, 13.1 to 13.3: the records of both files in one list, by crossing, by their turn in their
 /// file's records of it, and ours first. A pair is two that stand side by side there.
-fn report(ours: &[&[u8]], theirs: &[&[u8]]) -> [u64; 16] {
+fn report(ours: &[&[u8]], theirs: &[&[u8]]) -> [u64; 18] {
     let turns = |records: &[&[u8]], file: u8| {
         let mut all = Vec::new();
         let mut seen = std::collections::HashMap::new();
@@ -65,7 +65,7 @@ fn report(ours: &[&[u8]], theirs: &[&[u8]]) -> [u64; 16] {
     };
     let mut all = [turns(ours, 0), turns(theirs, 1)].concat();
     all.sort();
-    let mut numbers = [0; 16];
+    let mut numbers = [0; 18];
     let mut rest = &all[..];
     while let Some((&(crossing, turn, file, i), others)) = rest.split_first() {
         rest = others;

@@ -42,8 +42,8 @@ pub struct Report {
 
 impl Report {
     /// RULES 10.7.
-    pub fn numbers(&self) -> [u64; 16] {
-        let mut numbers = [0; 16];
+    pub fn numbers(&self) -> [u64; 18] {
+        let mut numbers = [0; 18];
         numbers[..4].copy_from_slice(&[
             self.equal,
             self.differing,

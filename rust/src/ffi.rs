@@ -117,7 +117,7 @@ unsafe extern "C" {
         ours_len: usize,
         theirs: *const u8,
         theirs_len: usize,
-        report: &mut [u64; 16],
+        report: &mut [u64; 18],
         told: &mut [usize; 1],
     ) -> u32;
 }

@@ -128,7 +128,7 @@ impl From<PairError> for YuvError {
 /// # Ok::<(), YuvError>(())
 /// ```
 pub fn pair_shift_files(ours: &[u8], theirs: &[u8]) -> Result<PairReport, PairError> {
-    let mut numbers = [0; 16];
+    let mut numbers = [0; 18];
     let mut told = [0; 1];
     // SAFETY: each pointer is that of a slice beside its own length, or of a value by itself; what is written overlaps nothing, as the borrows say.
     let number = unsafe {
@@ -150,7 +150,7 @@ pub fn pair_shift_files(ours: &[u8], theirs: &[u8]) -> Result<PairReport, PairEr
 }
 
 /// The report of which the library told these numbers.
-fn report_of(numbers: &[u64; 16]) -> PairReport {
+fn report_of(numbers: &[u64; 18]) -> PairReport {
     let [equal, differing, only_ours, only_theirs, kind, pair @ ..] =
         numbers.map(|number| number as usize);
     let [crossing, our_record, their_record, rest @ ..] = pair;
@@ -162,7 +162,7 @@ fn report_of(numbers: &[u64; 16]) -> PairReport {
         plane,
         row,
         column,
-        _,
+        ..,
     ] = rest;
     let size = |width: usize, height: usize| (width as u32, height as u32);
     let difference = match kind {

@@ -1,5 +1,5 @@
 /*
- * Two shift files paired: those of RULES 13.1, with the sixteen numbers of RULES 10.7; every cut of either file, and every bit of its count and pairs;
+ * Two shift files paired: those of RULES 13.1, with the eighteen numbers of RULES 10.7; every cut of either file, and every bit of its count and pairs;
  * every byte of frames of each width to 40 changed, and every bit of the planes of a small file; every list of up to three records against every other,
  * with equal crossings and other sizes; one file as both; full files, in the same order and the opposite one. All files and reports are against closed
  * pages.
@@ -10,7 +10,7 @@
 #define _GNU_SOURCE
 #include "records.h"
 
-enum { NUMBERS = 16, SMALL = 4 };
+enum { NUMBERS = 18, SMALL = 4 };
 
 /* RULES 13.1 */
 static const uint8_t worked_ours[126] = {
@@ -52,7 +52,7 @@ static lent lend_file(const item *items, size_t n) {
     return b;
 }
 
-/* A call with the report against a closed page, whichever: the sixteen numbers, and which file is none. */
+/* A call with the report against a closed page, whichever: the eighteen numbers, and which file is none. */
 static segvartin_answer paired(const lent *ours, const lent *theirs, segvartin_pair_report *report, int *broken) {
     lent room = lend(sizeof *report);
     segvartin_answer a;
@@ -65,7 +65,7 @@ static segvartin_answer paired(const lent *ours, const lent *theirs, segvartin_p
     return a;
 }
 
-/* Whether the report of two files is these sixteen numbers. */
+/* Whether the report of two files is these eighteen numbers. */
 static int reports(const lent *ours, const lent *theirs, const uint64_t *numbers) {
     segvartin_pair_report r;
     int which;
@@ -94,7 +94,7 @@ static void worked_files(void) {
     EXPECT(reports(&ours, &ours, same)); /* the same bytes */
     EXPECT(finished(paired(&ours, &theirs, &r, &which)) && r.equal == 1 && r.differing == 2 && r.only_ours == 2 && r.only_theirs == 2);
     EXPECT(r.difference == SEGVARTIN_BYTES_DIFFER && r.crossing == 1400 && r.our_record == 1 && r.their_record == 0);
-    EXPECT(r.plane == 2 && r.row == 0 && r.column == 1 && r.our_width == 0 && r.their_height == 0 && r.zero == 0);
+    EXPECT(r.plane == 2 && r.row == 0 && r.column == 1 && r.our_width == 0 && r.their_height == 0 && r.our_sampling == 0 && r.their_sampling == 0 && r.zero == 0);
     theirs.at[68] = 2, theirs.at[70] = 3;
     EXPECT(reports(&ours, &theirs, sizes));
     EXPECT(finished(paired(&ours, &theirs, &r, &which)) && r.difference == SEGVARTIN_SIZES_DIFFER && r.our_width == 3 && r.our_height == 2);
