@@ -1,7 +1,7 @@
 -- The entries of a file: entry k is that of record k; the numbers of each have room; the offsets rise. By induction on the records. Assumes nothing.
 use Prim.Native.Nat.{ℕ, zero, suc, _+_, _*_, _/_, _^_, _≤_, _<_}
 use mathlib.Core.Path.{_≡_, refl, ap, sym, _∙_}
-use mathlib.Core.List.{List, [], _∷_, _++_}
+use mathlib.Core.List.{List, [], _∷_, _++_, map}
 use native.Mathlib.Nat.{add-zero, add-assoc, div-lt-iff-lt-mul, mul-le-mul}
 use native.Mathlib.Omega.{arith}
 use lib.ListN.{length, getD, take, length-append}
@@ -17,7 +17,9 @@ use Rattle.shift_file.specs.declared.ShiftForm.the-variants.{WithoutSettings, W
 use Rattle.shift_file.specs.File.{ShiftRecord, Allowed, EachAllowed, HasFile, bytesOf, recordBytes, recordsAt}
 use Rattle.shift_file.proofs.Record.{side-bounds, size-most, length-bytes}
 use Rattle.shift_reader.specs.Entry.{nth, offsetOf}
+use Rattle.crossing_keys.specs.Keys.{crossingsOf}
 use Rattle.shift_summary.specs.Summary.{meanOf, entryOf, entriesFrom, entriesOf}
+use Rattle.shift_summary.specs.Built.{crossingOf}
 
 pub length-entries : (at : ℕ) (rs : List ShiftRecord) → length (entriesFrom at rs) ≡ length rs
 unfolding entriesFrom
@@ -31,8 +33,10 @@ entry-is at k [] h = absurd (omega arith)
 entry-is at zero (r ∷ rs) h = rw add-zero
 entry-is at (suc k) (r ∷ rs) h = rw (length-append, ← add-assoc) (entry-is (at + length (bytesOf r)) k rs (omega arith))
 
-pub crossing-is : (form : ShiftForm) (rs : List ShiftRecord) (k : ℕ) → k < length rs → getD (entriesOf form rs) k noEntry .crossing ≡ nth rs k .crossing
-crossing-is form rs k h = ap (λ (e : SummaryEntry). e .crossing) (entry-is (recordsAt form (length rs)) k rs h)
+pub crossings-from : (at : ℕ) (rs : List ShiftRecord) → map crossingOf (entriesFrom at rs) ≡ crossingsOf rs
+unfolding entriesFrom
+crossings-from at [] = refl
+crossings-from at (r ∷ rs) = ap (λ (cs : List ℕ). r .crossing ∷ cs) (crossings-from (at + length (bytesOf r)) rs)
 
 -- ---- their numbers have room
 

@@ -3,20 +3,16 @@
 use shift_file::ShiftForm;
 use summary_entry::SummaryEntry;
 ghost use mathlib.Core.Path.{_≡_};
-ghost use mathlib.Core.List.{map};
-ghost use Prim.Native.Nat.{_+_, _*_, _%_, _≤_, _<_};
+ghost use Prim.Native.Nat.{_*_, _≤_};
 ghost use lib.ListN.{length, getD};
 ghost use lib.Seq.{sets};
-ghost use Rattle.merge_sort.specs.Ascending.{sorted, keysFrom, byKeys};
+ghost use Rattle.merge_sort.specs.Ascending.{byKeys};
 ghost use Rattle.summary_entry.specs.Entry.{entriesBytes, noEntry};
 ghost use Rattle.shift_file.specs.Read.{recordsIn};
 ghost use Rattle.shift_reader.specs.Known.{HasRecord};
 ghost use Rattle.shift_summary.specs.Summary.{entriesOf};
-ghost use Rattle.shift_summary.specs.Built.{crossingOf, summaryOf};
+ghost use Rattle.shift_summary.specs.Built.{summaryOf};
 ghost use Rattle.shift_summary.specs.Known.{HasRecords, Places};
-
-// Keys have room for 4,096 places.
-const PLACES: u64 = 4096;
 
 // The bytes of an entry.
 const ENTRY: usize = 13;
@@ -35,34 +31,6 @@ pub fn entry_at(form: ShiftForm, file: &[u8], k: usize) -> SummaryEntry
     }
 }
 
-// A number of at most 52 bits above a place.
-pub fn key_of(number: u64, place: usize) -> u64
-    requires { ⌜ (number < 4503599627370496) × (place < 4096) ⌝ }
-    ensures { λ r. ⌜ r ≡ number * 4096 + place ⌝ }
-{
-    number * PLACES + place as u64
-}
-
-pub fn place_in(key: u64) -> usize
-    ensures { λ r. ⌜ r ≡ key % 4096 ⌝ }
-{
-    (key % PLACES) as usize
-}
-
-// The keys of a file's crossings, in order.
-pub fn crossing_keys(form: ShiftForm, file: &[u8], keys: &mut [u64])
-    requires { ⌜ HasRecords form (now file) (length (now keys)) ⌝ }
-    ensures { λ _. ⌜ now (keys .exit) ≡ sorted (keysFrom 0 (map crossingOf (entriesOf form (recordsIn form (now (file .entry)))))) ⌝ }
-{
-    let mut i = 0;
-    while i < keys.len() {
-        let entry = shift_reader::entry_of(form, file, i);
-        keys[i] = key_of(entry.crossing as u64, i);
-        i += 1;
-    }
-    merge_sort::sort(keys);
-}
-
 // The entries that the keys name, in their order.
 fn write_entries(form: ShiftForm, file: &[u8], keys: &[u64], summary: &mut [u8])
     requires { ⌜ HasRecords form (now file) (length (now keys)) ⌝ }
@@ -73,7 +41,7 @@ fn write_entries(form: ShiftForm, file: &[u8], keys: &[u64], summary: &mut [u8])
 {
     let mut i = 0;
     while i < keys.len() {
-        let k = place_in(keys[i]);
+        let k = crossing_keys::place_in(keys[i]);
         let entry = entry_at(form, file, k);
         summary_entry::write_entry(summary, ENTRY * i, entry);
         i += 1;
@@ -86,7 +54,7 @@ fn write_with(form: ShiftForm, file: &[u8], keys: &mut [u64], summary: &mut [u8]
     requires { ⌜ 13 * length (now keys) ≤ length (now summary) ⌝ }
     ensures { λ _. ⌜ now (summary .exit) ≡ sets (now (summary .entry)) 0 (summaryOf form (recordsIn form (now (file .entry)))) ⌝ }
 {
-    crossing_keys(form, file, keys);
+    crossing_keys::write_keys(form, file, keys);
     write_entries(form, file, keys, summary);
 }
 

@@ -23,7 +23,7 @@ fn are_those(form: ShiftForm, file: &[u8], keys: &[u64], summary: &[u8]) -> bool
 {
     let mut i = 0;
     while i < keys.len() {
-        let k = shift_summary::place_in(keys[i]);
+        let k = crossing_keys::place_in(keys[i]);
         let entry = summary_entry::read_entry(summary, ENTRY * i);
         if !entry.is_same(shift_summary::entry_at(form, file, k)) {
             return false;
@@ -40,7 +40,7 @@ fn check_with(form: ShiftForm, file: &[u8], keys: &mut [u64], summary: &[u8]) ->
     ensures { λ r. ⌜ r ≡ areEntries form (recordsIn form (now (file .entry)))
         (entriesIn (length (recordsIn form (now (file .entry)))) (now (summary .entry))) ⌝ }
 {
-    shift_summary::crossing_keys(form, file, keys);
+    crossing_keys::write_keys(form, file, keys);
     are_those(form, file, keys, summary)
 }
 

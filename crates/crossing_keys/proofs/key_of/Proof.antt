@@ -1,8 +1,8 @@
 -- A product and a sum, which have room. Assumes nothing.
 use mathlib.Core.Path.{refl}
 use native.Mathlib.Omega.{arith}
-use Rattle.shift_summary.proofs.key_of.Statement.{statement}
-use Rattle.shift_summary.proofs.key_of.Tie as tie
+use Rattle.crossing_keys.proofs.key_of.Statement.{statement}
+use Rattle.crossing_keys.proofs.key_of.Tie as tie
 
 returns : tie.Need-returns
 returns c = refl
