@@ -1,6 +1,6 @@
 /*
- * Conversion of 8-bit RGB frames to Y, U and V planes, the shift file that holds such planes, and its summary, as docs/RULES.md
- * states them.
+ * Conversion of 8-bit RGB frames to Y, U and V planes, the shift file that holds such planes, its summary, and two such files
+ * paired, as docs/RULES.md states them.
  *
  * Whole numbers only: kr and kb are handed over by their bits, and no floating-point type is used. Nothing is allocated and
  * nothing is kept between calls: the caller owns the tables, the buffers and the state of a frame that comes in bands.
@@ -59,7 +59,7 @@ enum {
 /* RULES 7.1: numbers of an answer, in the order in which they are asked. */
 enum {
     REFERENCE_ACCEPTED = 0,
-    REFERENCE_BAD_LAYOUT = 15,    /* RULES 11.3, 11.6, 12.7 */
+    REFERENCE_BAD_LAYOUT = 15,    /* RULES 11.3, 11.6, 12.7, 13.4 */
     REFERENCE_BAD_SUMMARY = 17,   /* RULES 12.4, 12.6, 12.7 */
     REFERENCE_BAD_CODE = 1,       /* RULES 9.2, 9.4, 10.2, 10.4 */
     REFERENCE_EMPTY = 2,          /* RULES 7.3 */
@@ -88,6 +88,21 @@ enum {
 /* RULES 11.1: most records of a shift file. RULES 11.4: numbers of an entry. */
 #define REFERENCE_MOST_RECORDS 4096u
 #define REFERENCE_ENTRY_NUMBERS 11u
+
+/* RULES 10.7: numbers of a report; kinds of its first difference; which file is none. */
+#define REFERENCE_REPORT_NUMBERS 16u
+
+enum {
+    REFERENCE_NO_DIFFERENCE = 0,
+    REFERENCE_SIZES = 1,
+    REFERENCE_PLACE = 2
+};
+
+enum {
+    REFERENCE_NEITHER = 0,
+    REFERENCE_OURS = 1,
+    REFERENCE_THEIRS = 2
+};
 
 /* RULES 2.1: Y, U and V. */
 #define REFERENCE_PLANES 3u
@@ -241,5 +256,12 @@ struct reference_answer reference_summary_find(const struct reference_bytes *fil
 /* RULES 10.6, 12.7: updates a summary for a file that grows by one record at its end. It asks 15, 17; the file itself stays. */
 struct reference_answer reference_summary_update(const struct reference_bytes *file, const struct reference_bytes *record,
                                                  const struct reference_buffer *summary);
+
+/*
+ * RULES 10.7, 13.4: pairs two shift files and writes their report, REFERENCE_REPORT_NUMBERS of the caller's numbers. It asks 15
+ * and tells which file is none. The same bytes may be lent as both.
+ */
+struct reference_answer reference_shift_pairs(const struct reference_bytes *ours, const struct reference_bytes *theirs,
+                                              uint64_t *report, uint64_t *none);
 
 #endif

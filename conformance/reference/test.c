@@ -1576,7 +1576,7 @@ static void test_every_window(void)
     }
 }
 
-/* RULES 6.5, 11, 12: numbers below a bound of at most 2^24, without order but the same in each run. */
+/* RULES 6.5, 11, 12, 13: numbers below a bound of at most 2^24, without order but the same in each run. */
 static uint32_t below(uint32_t bound)
 {
     static uint32_t state = 1;
@@ -3202,6 +3202,631 @@ static void test_update_order(void)
     }
 }
 
+/* RULES 13.1: the records of the two files of the examples. */
+enum { OUR_RECORDS = 62, THEIR_RECORDS = 69, PAIRED = 5, PAIRED_TABLE = 64 };
+
+static const uint8_t our_records[OUR_RECORDS] = {
+    0x70, 0x11, 0x01, 0x00, 0x01, 0x00, 0x01, 0x00, 0x50, 0x60, 0x70,
+    0x78, 0x05, 0x00, 0x00, 0x03, 0x00, 0x02, 0x00, 0x10, 0x11, 0x12, 0x20, 0x21, 0x22, 0x30, 0x31, 0x40, 0x41,
+    0x09, 0x00, 0x00, 0x00, 0x01, 0x00, 0x01, 0x00, 0x11, 0x60, 0x70,
+    0x70, 0x11, 0x01, 0x00, 0x01, 0x00, 0x01, 0x00, 0x51, 0x60, 0x70,
+    0x1E, 0x00, 0x00, 0x00, 0x01, 0x00, 0x01, 0x00, 0x22, 0x60, 0x70,
+};
+static const uint8_t their_records[THEIR_RECORDS] = {
+    0x78, 0x05, 0x00, 0x00, 0x03, 0x00, 0x02, 0x00, 0x10, 0x11, 0x12, 0x20, 0x21, 0x22, 0x30, 0x31, 0x40, 0x42,
+    0x08, 0x00, 0x00, 0x00, 0x01, 0x00, 0x01, 0x00, 0x33, 0x60, 0x70,
+    0x70, 0x11, 0x01, 0x00, 0x01, 0x00, 0x01, 0x00, 0x51, 0x60, 0x70,
+    0x78, 0x05, 0x00, 0x00, 0x03, 0x00, 0x02, 0x00, 0x10, 0x11, 0x12, 0x20, 0x21, 0x22, 0x30, 0x31, 0x40, 0x41,
+    0x1E, 0x00, 0x00, 0x00, 0x01, 0x00, 0x01, 0x00, 0x22, 0x60, 0x70,
+};
+
+/* RULES 10.7, 13.4: a pairing, each of the numbers 9 before it; a refused one leaves them. */
+static void expect_pairing(const char *rule, long place, const struct reference_buffer *ours, const struct reference_buffer *theirs,
+                           uint32_t number, long long none, const uint64_t *wanted)
+{
+    uint64_t *report = (uint64_t *)(void *)own_bytes(REFERENCE_REPORT_NUMBERS * sizeof(uint64_t));
+    struct reference_bytes our_bytes = only_read(ours);
+    struct reference_bytes their_bytes = only_read(theirs);
+    uint64_t told = 77;
+    size_t at;
+
+    for (at = 0; at < REFERENCE_REPORT_NUMBERS; at++) {
+        report[at] = LENT;
+    }
+    expect_answer(rule, place, number, 0, 0, reference_shift_pairs(&our_bytes, &their_bytes, report, &told));
+    expect(rule, place, none, (long long)told);
+    for (at = 0; at < REFERENCE_REPORT_NUMBERS; at++) {
+        expect(rule, place, number == 0 ? (long long)wanted[at] : LENT, (long long)report[at]);
+    }
+    free(report);
+}
+
+/* RULES 11.4: the entries of a file by crossing number and then by place, which is key[1]; what they say stays in numbers. */
+struct read_file {
+    uint64_t numbers[MOST_FULL * REFERENCE_ENTRY_NUMBERS];
+    struct listed list[MOST_FULL];
+    uint64_t records;
+};
+
+static void read_sorted(const struct reference_buffer *buffer, struct read_file *into)
+{
+    struct reference_bytes file = only_read(buffer);
+    uint64_t entries;
+    size_t record;
+
+    expect_answer("13.1 file", 0, 0, 0, 0,
+                  reference_shift_records(&file, 0, into->numbers, MOST_FULL * REFERENCE_ENTRY_NUMBERS, &into->records, &entries));
+    for (record = 0; record < entries; record++) {
+        into->list[record].key[0] = into->numbers[record * REFERENCE_ENTRY_NUMBERS];
+        into->list[record].key[1] = record;
+    }
+    qsort(into->list, (size_t)entries, sizeof into->list[0], compare_listed);
+}
+
+/* RULES 13.3: the difference of a pair again, from its entries, plane by plane and row by row; whether there is one. */
+static int find_difference(const uint8_t *ours, const uint64_t *our_entry, const uint8_t *theirs, const uint64_t *their_entry,
+                           uint64_t *numbers)
+{
+    uint64_t plane;
+    uint64_t row;
+    uint64_t column;
+
+    if (our_entry[1] != their_entry[1] || our_entry[2] != their_entry[2]) {
+        numbers[4] = 1;
+        memcpy(numbers + 8, our_entry + 1, 2 * sizeof numbers[0]);
+        memcpy(numbers + 10, their_entry + 1, 2 * sizeof numbers[0]);
+        return 1;
+    }
+    for (plane = 0; plane < 3; plane++) {
+        uint64_t half = plane == 0 ? 1 : 2;
+        uint64_t columns = (our_entry[1] + half - 1) / half;
+        uint64_t rows = (our_entry[2] + half - 1) / half;
+
+        for (row = 0; row < rows; row++) {
+            for (column = 0; column < columns; column++) {
+                if (ours[our_entry[5 + 2 * plane] + row * columns + column] !=
+                    theirs[their_entry[5 + 2 * plane] + row * columns + column]) {
+                    numbers[4] = 2;
+                    numbers[12] = plane;
+                    numbers[13] = row;
+                    numbers[14] = column;
+                    return 1;
+                }
+            }
+        }
+    }
+    return 0;
+}
+
+/*
+ * RULES 10.7, 13.1 to 13.3: the report again. Both files are sorted, and the two lists are gone through side by side: of one
+ * crossing number record by record, so that those left over are without a pair.
+ */
+static void make_report(const struct reference_buffer *ours, const struct reference_buffer *theirs, uint64_t *report)
+{
+    static struct read_file our_file;
+    static struct read_file their_file;
+    uint64_t a = 0;
+    uint64_t b = 0;
+
+    read_sorted(ours, &our_file);
+    read_sorted(theirs, &their_file);
+    memset(report, 0, REFERENCE_REPORT_NUMBERS * sizeof report[0]);
+    while (a < our_file.records || b < their_file.records) {
+        const struct listed *left = our_file.list + a;
+        const struct listed *right = their_file.list + b;
+
+        if (b == their_file.records || (a < our_file.records && left->key[0] < right->key[0])) {
+            report[2]++;
+            a++;
+        } else if (a == our_file.records || right->key[0] < left->key[0]) {
+            report[3]++;
+            b++;
+        } else {
+            uint64_t numbers[REFERENCE_REPORT_NUMBERS] = {0};
+            int differs = find_difference(ours->bytes, our_file.numbers + left->key[1] * REFERENCE_ENTRY_NUMBERS, theirs->bytes,
+                                          their_file.numbers + right->key[1] * REFERENCE_ENTRY_NUMBERS, numbers);
+
+            if (differs && report[1] == 0) {
+                memcpy(report + 4, numbers + 4, 12 * sizeof numbers[0]);
+                report[5] = left->key[0];
+                report[6] = left->key[1];
+                report[7] = right->key[1];
+            }
+            report[differs]++;
+            a++;
+            b++;
+        }
+    }
+}
+
+/* RULES 13.2 to 13.4: two files paired, exchanged, and each with itself. */
+static void test_pairing_of(long place, const struct reference_buffer *ours, const struct reference_buffer *theirs)
+{
+    uint64_t report[REFERENCE_REPORT_NUMBERS];
+    uint64_t exchanged[REFERENCE_REPORT_NUMBERS];
+    uint64_t same[REFERENCE_REPORT_NUMBERS] = {0};
+
+    make_report(ours, theirs, report);
+    expect_pairing("13.4 pairs", place, ours, theirs, 0, 0, report);
+    make_report(theirs, ours, exchanged);
+    expect_pairing("13.4 exchanged", place, theirs, ours, 0, 0, exchanged);
+    same[0] = number_at(ours->bytes, 4);
+    expect_pairing("13.4 same", place, ours, ours, 0, 0, same);
+    expect("13.2 sum", place, (long long)number_at(ours->bytes, 4), (long long)(report[0] + report[1] + report[2]));
+    expect("13.2 sum", place, (long long)number_at(theirs->bytes, 4), (long long)(report[0] + report[1] + report[3]));
+    expect("13.2 exchanged", place, (long long)report[0], (long long)exchanged[0]);
+    expect("13.2 exchanged", place, (long long)report[1], (long long)exchanged[1]);
+    expect("13.2 exchanged", place, (long long)report[2], (long long)exchanged[3]);
+}
+
+/* RULES 13.1: the pair of each record of ours; -1 is none. Records are of 1 × 1, their crossing numbers given. */
+static void expect_pairs(long place, const struct reference_buffer *ours, const struct reference_buffer *theirs,
+                         const long long *wanted)
+{
+    struct reference_bytes our_bytes = only_read(ours);
+    struct reference_bytes their_bytes = only_read(theirs);
+    uint64_t records = number_at(ours->bytes, 4);
+    uint64_t record;
+
+    for (record = 0; record < records; record++) {
+        uint64_t found = 0;
+        int is_found = is_paired(&our_bytes, record, &their_bytes, number_at(theirs->bytes, 4), &found);
+
+        expect("13.1", place, wanted[record], is_found ? (long long)found : -1);
+    }
+}
+
+/* RULES 11.2: a file of records of 1 × 1 of these crossing numbers. */
+static struct reference_buffer file_of_crossings(const uint32_t *crossings, size_t count)
+{
+    uint8_t records[4 * SECOND_BYTES];
+    size_t record;
+
+    for (record = 0; record < count; record++) {
+        put_record(records + record * SECOND_BYTES, crossings[record], 1, 1);
+    }
+    return file_of(records, count * SECOND_BYTES, count);
+}
+
+/* RULES 13.1: pairs of the examples. */
+static void test_pairs(void)
+{
+    static const long long of_files[PAIRED] = {2, 0, -1, -1, 4};
+    static const long long of_files_exchanged[PAIRED] = {1, -1, 0, -1, 4};
+    static const struct {
+        size_t count[2];
+        uint32_t crossings[2][3];
+        long long pairs[3];
+    } wanted[] = {
+        {{3, 2}, {{5, 5, 5}, {5, 5, 0}}, {0, 1, -1}},
+        {{2, 3}, {{5, 5, 0}, {5, 5, 5}}, {0, 1, -1}},
+        {{2, 2}, {{4294967295u, 0, 0}, {0, 4294967295u, 0}}, {1, 0, -1}},
+        {{2, 1}, {{1, 2, 0}, {3, 0, 0}}, {-1, -1, -1}},
+        {{3, 3}, {{5, 6, 5}, {6, 5, 5}}, {1, 0, 2}},
+        {{3, 0}, {{5, 6, 5}, {0, 0, 0}}, {-1, -1, -1}},
+    };
+    struct reference_buffer ours = file_of(our_records, OUR_RECORDS, PAIRED);
+    struct reference_buffer theirs = file_of(their_records, THEIR_RECORDS, PAIRED);
+    size_t place;
+
+    expect("13.1 ours", 0, 126, (long long)ours.length);
+    expect("13.1 theirs", 0, 133, (long long)theirs.length);
+    expect_pairs(0, &ours, &theirs, of_files);
+    expect_pairs(1, &theirs, &ours, of_files_exchanged);
+    for (place = 0; place < sizeof wanted / sizeof wanted[0]; place++) {
+        struct reference_buffer left = file_of_crossings(wanted[place].crossings[0], wanted[place].count[0]);
+        struct reference_buffer right = file_of_crossings(wanted[place].crossings[1], wanted[place].count[1]);
+
+        expect_pairs((long)place + 2, &left, &right, wanted[place].pairs);
+        test_pairing_of((long)place, &left, &right);
+        free(left.bytes);
+        free(right.bytes);
+    }
+    free(theirs.bytes);
+    free(ours.bytes);
+}
+
+/* RULES 10.7, 13.2 to 13.4: reports of the examples. */
+static void test_reports(void)
+{
+    static const uint64_t both[REFERENCE_REPORT_NUMBERS] = {1, 2, 2, 2, 2, 1400, 1, 0, 0, 0, 0, 0, 2, 0, 1, 0};
+    static const uint64_t exchanged[REFERENCE_REPORT_NUMBERS] = {1, 2, 2, 2, 2, 1400, 0, 1, 0, 0, 0, 0, 2, 0, 1, 0};
+    static const uint64_t sizes[REFERENCE_REPORT_NUMBERS] = {1, 2, 2, 2, 1, 1400, 1, 0, 3, 2, 2, 3, 0, 0, 0, 0};
+    static const uint64_t last[REFERENCE_REPORT_NUMBERS] = {0, 3, 2, 2, 2, 30, 4, 4, 0, 0, 0, 0, 2, 0, 0, 0};
+    static const uint64_t same[REFERENCE_REPORT_NUMBERS] = {5};
+    static const uint64_t nothing[REFERENCE_REPORT_NUMBERS] = {0};
+    static const uint64_t only_ours[REFERENCE_REPORT_NUMBERS] = {0, 0, 5};
+    static const uint64_t only_theirs[REFERENCE_REPORT_NUMBERS] = {0, 0, 0, 5};
+    static const uint64_t opposite[REFERENCE_REPORT_NUMBERS] = {3, 2, 0, 0, 2, 70000, 0, 1, 0, 0, 0, 0, 0, 0, 0, 0};
+    static const unsigned starts[PAIRED + 1] = {0, 11, 29, 40, 51, 62};
+    struct reference_buffer ours = file_of(our_records, OUR_RECORDS, PAIRED);
+    struct reference_buffer theirs = file_of(their_records, THEIR_RECORDS, PAIRED);
+    struct reference_buffer none = file_of(our_records, 0, 0);
+    struct reference_buffer empty = own_buffer(our_records, 0, 0);
+    struct reference_buffer our_cut = own_buffer(ours.bytes, (size_t)ours.length - 1, (size_t)ours.length - 1);
+    struct reference_buffer their_cut = own_buffer(theirs.bytes, (size_t)theirs.length - 1, (size_t)theirs.length - 1);
+    struct reference_buffer turned;
+    uint8_t records[OUR_RECORDS];
+    size_t length = 0;
+    unsigned record;
+
+    expect_pairing("10.7", 0, &ours, &theirs, 0, 0, both);
+    expect_pairing("10.7", 1, &theirs, &ours, 0, 0, exchanged);
+    expect_pairing("10.7", 2, &ours, &ours, 0, 0, same);
+    expect_pairing("10.7", 3, &none, &none, 0, 0, nothing);
+    expect_pairing("10.7", 4, &our_cut, &theirs, 15, 1, NULL);
+    expect_pairing("10.7", 5, &ours, &their_cut, 15, 2, NULL);
+    expect_pairing("10.7", 6, &our_cut, &their_cut, 15, 1, NULL);
+    expect_pairing("13.4", 0, &empty, &none, 15, 1, NULL);
+    expect_pairing("13.4", 1, &none, &empty, 15, 2, NULL);
+    expect_pairing("13.4", 2, &empty, &empty, 15, 1, NULL);
+    expect_pairing("13.2", 0, &ours, &none, 0, 0, only_ours);
+    expect_pairing("13.2", 1, &none, &ours, 0, 0, only_theirs);
+    for (record = PAIRED; record > 0; record--) {
+        memcpy(records + length, our_records + starts[record - 1], starts[record] - starts[record - 1]);
+        length += starts[record] - starts[record - 1];
+    }
+    turned = file_of(records, length, PAIRED);
+    expect_pairing("13.2", 2, &ours, &turned, 0, 0, opposite);
+    free(turned.bytes);
+    put_number(theirs.bytes + PAIRED_TABLE + 4, 2, 2);
+    put_number(theirs.bytes + PAIRED_TABLE + 6, 3, 2);
+    expect_pairing("13.3", 0, &ours, &theirs, 0, 0, sizes);
+    put_number(theirs.bytes + PAIRED_TABLE + 4, 3, 2);
+    put_number(theirs.bytes + PAIRED_TABLE + 6, 2, 2);
+    theirs.bytes[theirs.length - 1] ^= 1;
+    expect_pairing("13.3", 1, &ours, &theirs, 0, 0, last);
+    free(their_cut.bytes);
+    free(our_cut.bytes);
+    free(empty.bytes);
+    free(none.bytes);
+    free(theirs.bytes);
+    free(ours.bytes);
+}
+
+/* RULES 13.3: the worked record with one or two of its bytes another; the first of them is told. */
+static void test_first_difference(void)
+{
+    static const struct {
+        unsigned bytes[2];
+        uint64_t place[3];
+    } wanted[] = {
+        {{8, 8}, {0, 0, 0}}, {{10, 10}, {0, 0, 2}}, {{11, 11}, {0, 1, 0}}, {{13, 13}, {0, 1, 2}}, {{14, 14}, {1, 0, 0}},
+        {{15, 15}, {1, 0, 1}}, {{16, 16}, {2, 0, 0}}, {{17, 17}, {2, 0, 1}}, {{17, 14}, {1, 0, 0}}, {{16, 13}, {0, 1, 2}},
+        {{12, 10}, {0, 0, 2}},
+    };
+    static const uint64_t equal[REFERENCE_REPORT_NUMBERS] = {1};
+    static const uint64_t unpaired[REFERENCE_REPORT_NUMBERS] = {0, 0, 1, 1};
+    enum { TABLE = 16 };
+    struct reference_buffer ours = file_of(worked_records, FIRST_BYTES, 1);
+    struct reference_buffer theirs = file_of(worked_records, FIRST_BYTES, 1);
+    size_t place;
+
+    for (place = 0; place < sizeof wanted / sizeof wanted[0]; place++) {
+        uint64_t report[REFERENCE_REPORT_NUMBERS] = {0, 1, 0, 0, 2, 1400};
+
+        memcpy(report + 12, wanted[place].place, sizeof wanted[place].place);
+        theirs.bytes[TABLE + wanted[place].bytes[0]] = 0xAA;
+        theirs.bytes[TABLE + wanted[place].bytes[1]] = 0x55;
+        expect_pairing("13.3 byte", (long)place, &ours, &theirs, 0, 0, report);
+        memcpy(theirs.bytes, ours.bytes, (size_t)ours.length);
+    }
+    expect_pairing("13.3 none", 0, &ours, &theirs, 0, 0, equal);
+    theirs.bytes[TABLE] ^= 1;
+    expect_pairing("13.3 crossing", 0, &ours, &theirs, 0, 0, unpaired);
+    free(theirs.bytes);
+    free(ours.bytes);
+}
+
+/*
+ * RULES 13.2, 13.3: records of every size up to 5 × 5, in the middle of a file, with each bit of their planes changed; with every
+ * second bit the byte behind it is changed too, which does not matter.
+ */
+static void test_every_place(void)
+{
+    enum { SIDES = 5, MOST_RECORD = 8 + 25 + 18 };
+    uint8_t records[SECOND_BYTES + MOST_RECORD + SECOND_BYTES];
+    uint32_t width;
+    uint32_t height;
+
+    for (width = 1; width <= SIDES; width++) {
+        for (height = 1; height <= SIDES; height++) {
+            size_t head = put_record(records, 9, 1, 1);
+            size_t length = put_record(records + head, 7, width, height);
+            size_t end = head + length + put_record(records + head + length, 8, 1, 1);
+            struct reference_buffer ours = file_of(records, end, 3);
+            struct reference_buffer theirs = file_of(records, end, 3);
+            size_t start = (size_t)ours.length - end + head + 8;
+            uint32_t plane;
+            uint32_t row;
+            uint32_t column;
+
+            for (plane = 0; plane < 3; plane++) {
+                uint32_t half = plane == 0 ? 1 : 2;
+
+                for (row = 0; row < (height + half - 1) / half; row++) {
+                    for (column = 0; column < (width + half - 1) / half; column++) {
+                        uint64_t report[REFERENCE_REPORT_NUMBERS] = {2, 1, 0, 0, 2, 7, 1, 1};
+                        unsigned bit;
+
+                        report[12] = plane;
+                        report[13] = row;
+                        report[14] = column;
+                        for (bit = 0; bit < 8; bit++) {
+                            theirs.bytes[start] = (uint8_t)(theirs.bytes[start] ^ 1u << bit);
+                            if (bit % 2 != 0 && start + 1 < theirs.length - SECOND_BYTES) {
+                                theirs.bytes[start + 1] ^= 0xFF;
+                            }
+                            expect_pairing("13.3 bit", (long)(100 * width + height), &ours, &theirs, 0, 0, report);
+                            memcpy(theirs.bytes, ours.bytes, (size_t)ours.length);
+                        }
+                        start++;
+                    }
+                }
+            }
+            expect("13.3 end", (long)(100 * width + height), (long long)ours.length - SECOND_BYTES, (long long)start);
+            free(theirs.bytes);
+            free(ours.bytes);
+        }
+    }
+}
+
+/* RULES 13.2, 13.3: records of all pairs of sizes up to 4 × 4, some of which have as many bytes and the same ones. */
+static void test_every_sizes(void)
+{
+    enum { SIDES = 4, MOST_RECORD = 8 + 16 + 8 };
+    uint8_t records[2][MOST_RECORD];
+    uint32_t first;
+    uint32_t second;
+
+    for (first = 0; first < SIDES * SIDES; first++) {
+        for (second = 0; second < SIDES * SIDES; second++) {
+            uint64_t report[REFERENCE_REPORT_NUMBERS] = {0, 1, 0, 0, 1, 0xFFFFFFFFu};
+            size_t lengths[2];
+            struct reference_buffer ours;
+            struct reference_buffer theirs;
+
+            report[8] = 1 + first % SIDES;
+            report[9] = 1 + first / SIDES;
+            report[10] = 1 + second % SIDES;
+            report[11] = 1 + second / SIDES;
+            lengths[0] = put_record(records[0], 0xFFFFFFFFu, (uint32_t)report[8], (uint32_t)report[9]);
+            lengths[1] = put_record(records[1], 0xFFFFFFFFu, (uint32_t)report[10], (uint32_t)report[11]);
+            memcpy(records[1] + 8, records[0] + 8, (lengths[0] < lengths[1] ? lengths[0] : lengths[1]) - 8);
+            if (first == second) {
+                memset(report, 0, sizeof report);
+                report[0] = 1;
+            }
+            ours = file_of(records[0], lengths[0], 1);
+            theirs = file_of(records[1], lengths[1], 1);
+            expect_pairing("13.3 sizes", (long)(100 * first + second), &ours, &theirs, 0, 0, report);
+            free(theirs.bytes);
+            free(ours.bytes);
+        }
+    }
+}
+
+/*
+ * RULES 13.4: each file of the examples cut at each byte and with each bit changed. Where that bit is of a crossing number or of
+ * a plane it is still a file, and else it is none.
+ */
+static void test_broken_pairs(void)
+{
+    static const unsigned starts[2][PAIRED] = {{0, 11, 29, 40, 51}, {0, 18, 29, 40, 58}};
+    struct reference_buffer files[2];
+    struct reference_buffer cut;
+    unsigned file;
+    unsigned bit;
+    size_t place;
+
+    files[0] = file_of(our_records, OUR_RECORDS, PAIRED);
+    files[1] = file_of(their_records, THEIR_RECORDS, PAIRED);
+    for (file = 0; file < 2; file++) {
+        const struct reference_buffer *other = &files[1 - file];
+
+        for (place = 0; place < files[file].length; place++) {
+            cut = own_buffer(files[file].bytes, place, place);
+            expect_pairing("13.4 cut", (long)place, &cut, other, 15, 1, NULL);
+            expect_pairing("13.4 cut", (long)place, other, &cut, 15, 2, NULL);
+            expect_pairing("13.4 cut", (long)place, &cut, &cut, 15, 1, NULL);
+            free(cut.bytes);
+        }
+        for (place = 0; place < files[file].length; place++) {
+            int is_free = place >= PAIRED_TABLE;
+            unsigned record;
+
+            for (record = 0; record < PAIRED; record++) {
+                size_t size = PAIRED_TABLE + starts[file][record] + 4;
+
+                is_free = is_free && (place < size || place >= size + 4);
+            }
+            for (bit = 0; bit < 8; bit++) {
+                files[file].bytes[place] = (uint8_t)(files[file].bytes[place] ^ 1u << bit);
+                if (is_free) {
+                    test_pairing_of((long)(8 * place + bit), &files[file], other);
+                } else {
+                    expect_pairing("13.4 bit", (long)(8 * place + bit), &files[file], other, 15, 1, NULL);
+                    expect_pairing("13.4 bit", (long)(8 * place + bit), other, &files[file], 15, 2, NULL);
+                }
+                files[file].bytes[place] = (uint8_t)(files[file].bytes[place] ^ 1u << bit);
+            }
+        }
+    }
+    free(files[1].bytes);
+    free(files[0].bytes);
+}
+
+/* RULES 13: a list of records in every order, by exchanging what stands from `fixed` on. */
+static void test_orders(long place, const struct reference_buffer *ours, const uint8_t *records, unsigned *order, unsigned fixed,
+                        unsigned count)
+{
+    unsigned other;
+
+    if (fixed == count) {
+        uint8_t turned[4 * SECOND_BYTES];
+        struct reference_buffer theirs;
+
+        for (other = 0; other < count; other++) {
+            memcpy(turned + other * SECOND_BYTES, records + order[other] * SECOND_BYTES, SECOND_BYTES);
+        }
+        theirs = file_of(turned, count * (size_t)SECOND_BYTES, count);
+        test_pairing_of(place, ours, &theirs);
+        free(theirs.bytes);
+        return;
+    }
+    for (other = fixed; other < count; other++) {
+        unsigned kept = order[fixed];
+
+        order[fixed] = order[other];
+        order[other] = kept;
+        test_orders(place, ours, records, order, fixed + 1, count);
+        order[other] = order[fixed];
+        order[fixed] = kept;
+    }
+}
+
+/* RULES 13: every list of up to four records of three crossing numbers, with each of its orders, and with some of its records. */
+static void test_every_pairing(void)
+{
+    enum { MOST = 4 };
+    static const uint32_t crossings[3] = {0x00000100u, 0x7FFFFFFFu, 0x80000001u};
+    uint8_t records[MOST * SECOND_BYTES];
+    long lists = 0;
+    unsigned count;
+    unsigned list;
+    unsigned all = 1;
+
+    for (count = 0; count <= MOST; count++) {
+        for (list = 0; list < all; list++) {
+            unsigned order[MOST] = {0, 1, 2, 3};
+            unsigned rest = list;
+            unsigned record;
+            unsigned kept;
+            struct reference_buffer ours;
+
+            for (record = 0; record < count; record++) {
+                put_record(records + record * SECOND_BYTES, crossings[rest % 3], 1, 1);
+                rest /= 3;
+            }
+            ours = file_of(records, count * (size_t)SECOND_BYTES, count);
+            test_orders(lists, &ours, records, order, 0, count);
+            for (kept = 0; kept < 1u << count; kept++) {
+                uint8_t some[MOST * SECOND_BYTES];
+                size_t left = 0;
+                struct reference_buffer theirs;
+
+                for (record = 0; record < count; record++) {
+                    if ((kept >> record & 1u) != 0) {
+                        memcpy(some + left * SECOND_BYTES, records + record * SECOND_BYTES, SECOND_BYTES);
+                        left++;
+                    }
+                }
+                theirs = file_of(some, left * SECOND_BYTES, left);
+                test_pairing_of(lists, &ours, &theirs);
+                free(theirs.bytes);
+            }
+            free(ours.bytes);
+            lists++;
+        }
+        all *= 3;
+    }
+    expect("13 lists", 0, 121, lists);
+}
+
+/*
+ * RULES 13: a file by chance, and another of its records in any order, of which some are left out, some have a bit, their sides
+ * or their crossing number changed, and with some more.
+ */
+static void test_any_pairing(long place)
+{
+    enum { MOST = 12, SIDES = 9, MOST_RECORD = 8 + SIDES * SIDES + 50 };
+    static uint8_t records[MOST][MOST_RECORD];
+    static uint8_t list[MOST * MOST_RECORD];
+    size_t lengths[MOST];
+    size_t count = below(MOST + 1);
+    uint32_t kinds = 1 + below(8);
+    uint32_t changes = 1 + below(12);
+    size_t length = 0;
+    size_t left = 0;
+    size_t record;
+    struct reference_buffer ours;
+    struct reference_buffer theirs;
+
+    for (record = 0; record < count; record++) {
+        lengths[record] = put_record(records[record], below(kinds) << 29 | below(2), 1 + below(SIDES), 1 + below(SIDES));
+        memcpy(list + length, records[record], lengths[record]);
+        length += lengths[record];
+    }
+    ours = file_of(list, length, count);
+    length = 0;
+    while (count > 0) {
+        size_t chosen = below((uint32_t)count);
+        uint32_t change = below(4 * changes);
+        uint8_t *head = list + length;
+
+        memcpy(head, records[chosen], lengths[chosen]);
+        if (change == 1) {
+            head[8 + below((uint32_t)lengths[chosen] - 8)] ^= 1;
+        } else if (change == 2) {
+            memcpy(head + 4, records[chosen] + 6, 2);
+            memcpy(head + 6, records[chosen] + 4, 2);
+        } else if (change == 3) {
+            head[0] ^= 1;
+        }
+        if (change != 0) {
+            length += lengths[chosen];
+            left++;
+        }
+        count--;
+        memmove(records[chosen], records[count], lengths[count]);
+        lengths[chosen] = lengths[count];
+    }
+    if (left < MOST && below(2) != 0) {
+        length += put_record(list + length, below(kinds) << 29 | below(2), 1 + below(SIDES), 1 + below(SIDES));
+        left++;
+    }
+    theirs = file_of(list, length, left);
+    test_pairing_of(place, &ours, &theirs);
+    free(theirs.bytes);
+    free(ours.bytes);
+}
+
+/* RULES 13: pairings by chance. */
+static void test_any_pairings(void)
+{
+    enum { PAIRINGS = 2000 };
+    long pairing;
+
+    for (pairing = 0; pairing < PAIRINGS; pairing++) {
+        test_any_pairing(pairing);
+    }
+}
+
+/* RULES 13: two files of 4,096 records of 1 × 1, theirs in the opposite order, of one crossing number or of 4,096. */
+static void test_full_pairing(uint32_t kinds)
+{
+    static uint8_t records[2][MOST_FULL * SECOND_BYTES];
+    struct reference_buffer ours;
+    struct reference_buffer theirs;
+    size_t record;
+
+    for (record = 0; record < MOST_FULL; record++) {
+        uint8_t *here = records[0] + record * SECOND_BYTES;
+
+        put_record(here, 0xFFFFFFFFu - (uint32_t)record % kinds, 1, 1);
+        memcpy(records[1] + (MOST_FULL - 1 - record) * SECOND_BYTES, here, SECOND_BYTES);
+    }
+    ours = file_of(records[0], sizeof records[0], MOST_FULL);
+    theirs = file_of(records[1], sizeof records[1], MOST_FULL);
+    test_pairing_of((long)kinds, &ours, &theirs);
+    theirs.bytes[theirs.length - 1] ^= 1;
+    theirs.bytes[theirs.length - SECOND_BYTES - 2] ^= 1;
+    test_pairing_of((long)kinds, &ours, &theirs);
+    free(theirs.bytes);
+    free(ours.bytes);
+}
+
 /* All examples, one chapter after the other. */
 int main(void)
 {
@@ -3263,6 +3888,17 @@ int main(void)
     test_full(1);
     test_full(2);
     test_full(3);
+    test_pairs();
+    test_reports();
+    test_first_difference();
+    test_every_place();
+    test_every_sizes();
+    test_broken_pairs();
+    test_every_pairing();
+    test_any_pairings();
+    test_full_pairing(1);
+    test_full_pairing(7);
+    test_full_pairing(MOST_FULL);
     printf("%lu comparisons, %lu differ\n", asked, differing);
     return differing == 0 ? EXIT_SUCCESS : EXIT_FAILURE;
 }
