@@ -1,6 +1,6 @@
 /*
- * Replays a stored list of calls: `replay frames`, `replay bands`, `replay shift` or `replay summary`, the list on standard
- * input, a line for each call on standard output, both as vectors/README.md describes them: LISTS in the comments below.
+ * Replays a stored list of calls: `replay frames`, `replay bands`, `replay shift`, `replay summary` or `replay pairs`, the list on
+ * standard input, a line for each call on standard output, both as vectors/README.md describes them: LISTS in the comments below.
  */
 #include "digest.h"
 #include "reference.h"
@@ -12,7 +12,7 @@
 /* LISTS: the planes and the carried row of a sequence. */
 enum { KEPT_BYTES = 256 };
 
-/* LISTS: the most numbers that are lent to a reading, and what each is before the call. */
+/* LISTS: the most numbers that are lent to a reading, and what each is before the call; those of a report too. */
 enum { MOST_LENT = 44, LENT = 9 };
 
 static struct reference_tables tables;
@@ -431,12 +431,45 @@ static void replay_summary(uint32_t line)
     free(buffer.bytes);
 }
 
+/* LISTS: a pairing of two shift files and its line (RULES 10.7, 13.4); the report before the call. */
+static void replay_pairing(uint32_t line)
+{
+    uint32_t our_length = read_number();
+    uint32_t their_length = read_number();
+    struct reference_buffer our_buffer = read_buffer(our_length);
+    struct reference_buffer their_buffer = read_buffer(their_length);
+    uint64_t report[REFERENCE_REPORT_NUMBERS];
+    struct reference_bytes ours;
+    struct reference_bytes theirs;
+    struct reference_answer answer;
+    uint64_t none;
+    unsigned number;
+
+    for (number = 0; number < REFERENCE_REPORT_NUMBERS; number++) {
+        report[number] = LENT;
+    }
+    ours.bytes = our_buffer.bytes;
+    ours.length = our_buffer.length;
+    theirs.bytes = their_buffer.bytes;
+    theirs.length = their_buffer.length;
+    answer = reference_shift_pairs(&ours, &theirs, report, &none);
+    printf("%lu", (unsigned long)line);
+    print_answer(&answer);
+    printf(" broken=%llu report", (unsigned long long)none);
+    for (number = 0; number < REFERENCE_REPORT_NUMBERS; number++) {
+        printf(" %llu", (unsigned long long)report[number]);
+    }
+    printf("\n");
+    free(our_buffer.bytes);
+    free(their_buffer.bytes);
+}
+
 /* LISTS: how many calls or sequences there are, and these; lines count from 1. */
 int main(int count, char **arguments)
 {
-    enum { LISTS = 4 };
-    static const char *const names[LISTS] = {"frames", "bands", "shift", "summary"};
-    static void (*const replays[LISTS])(uint32_t) = {replay_frame, replay_sequence, replay_shift, replay_summary};
+    enum { LISTS = 5 };
+    static const char *const names[LISTS] = {"frames", "bands", "shift", "summary", "pairs"};
+    static void (*const replays[LISTS])(uint32_t) = {replay_frame, replay_sequence, replay_shift, replay_summary, replay_pairing};
     unsigned list = 0;
     uint32_t calls;
     uint32_t line;
@@ -445,7 +478,7 @@ int main(int count, char **arguments)
         list++;
     }
     if (list == LISTS) {
-        fputs("usage: replay frames|bands|shift|summary < list\n", stderr);
+        fputs("usage: replay frames|bands|shift|summary|pairs < list\n", stderr);
         return EXIT_FAILURE;
     }
     reference_make_tables(&tables);
