@@ -90,7 +90,7 @@ enum {
 #define REFERENCE_ENTRY_NUMBERS 11u
 
 /* RULES 10.7: numbers of a report; kinds of its first difference; which file is none. */
-#define REFERENCE_REPORT_NUMBERS 16u
+#define REFERENCE_REPORT_NUMBERS 18u
 
 enum {
     REFERENCE_NO_DIFFERENCE = 0,
