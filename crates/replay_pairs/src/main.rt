@@ -21,7 +21,7 @@ fn pair_on(ours: &mut [u8], theirs: &mut [u8]) {
         ShiftForm::WithoutSettings,
         theirs,
     );
-    let mut numbers = [BEFORE; 16];
+    let mut numbers = [BEFORE; 18];
     report_numbers::tell_pairing(pairing, &mut numbers);
     let answer = pairing.answer;
     replay::print_answer(answer);
