@@ -1,14 +1,16 @@
--- How far two planes are equal: the front grows by an equal byte, and ends at the first unequal one; all is equal where it reaches the end.
--- Assumes nothing.
+-- How far two planes are equal: the front grows by an equal byte, or number of bytes, and ends at the first unequal one; all is equal where it
+-- reaches the end. Assumes nothing.
 use Prim.Native.Nat.{ℕ, zero, suc, _+_, _*_, _/_, _%_, _≤_, _<_}
 use mathlib.Core.Path.{_≡_, refl, sym, _∙_, ap, ap₂}
 use mathlib.Core.Bool.{Bool, true, false, cond}
 use mathlib.Core.List.{List, [], _∷_}
 use native.Mathlib.Nat.{add-zero, mul-suc, mul-add-div, mul-add-mod-self-left, div-eq-of-lt, mod-eq-of-lt, mul-le-mul-left}
 use native.Mathlib.Omega.{arith}
-use borrow.Author.Tests.{eqb-true, eq-eqb, ne-eqb, lt-ltb, le-ltb}
-use lib.Dec.{ltb, eqb}
-use lib.ListN.{length, getD}
+use borrow.Author.Tests.{eqb-true, eq-eqb, ne-eqb, lt-ltb, le-ltb, leb-true}
+use lib.Dec.{ltb, leb, eqb}
+use lib.ListN.{length, getD, drop}
+use lib.Seq.{getD-drop, drop-drop}
+use Rattle.little_endian.specs.Number.{Bytes, numberIn}
 use Rattle.plane_difference.specs.declared.PlaneDifference.{PlaneDifference}
 use Rattle.plane_difference.specs.declared.PlaneDifference.the-variants.{Same, At}
 use Rattle.plane_difference.specs.Difference.{equalFront, planeDifference}
@@ -60,6 +62,55 @@ pub front-same : (a : List ℕ) → equalFront a a ≡ length a
 unfolding equalFront
 front-same [] = refl
 front-same (x ∷ a) = rw (eq-eqb x x refl) (ap suc (front-same a))
+
+-- ---- numbers of n bytes
+
+pub front-byte : (a b : List ℕ) (i : ℕ) → i < equalFront a b → getD a i 0 ≡ getD b i 0
+unfolding equalFront
+front-byte [] b i h = absurd (omega arith)
+front-byte (x ∷ a) [] i h = absurd (omega arith)
+front-byte (x ∷ a) (y ∷ b) zero h = eqb-true x y (step (eqb x y) 0 (equalFront a b) (omega arith) .0)
+front-byte (x ∷ a) (y ∷ b) (suc i) h = front-byte a b i (step (eqb x y) (suc i) (equalFront a b) (omega arith) .1)
+
+-- a number's low byte, and what is above it
+low : (x y m n : ℕ) → x < 256 → y < 256 → x + 256 * m ≡ y + 256 * n → (x ≡ y) × (m ≡ n)
+low x y m n hx hy e = (omega arith, omega arith)
+
+-- a number of one byte more, from any place on
+one-more : (n i : ℕ) (a : List ℕ) → numberIn (suc n) (drop i a) ≡ getD a i 0 + 256 * numberIn n (drop (i + 1) a)
+unfolding numberIn
+one-more n i a = simp (getD-drop, drop-drop, add-zero)
+
+-- equal numbers are equal bytes, and the other way round
+pub front-number : (n i : ℕ) (a b : List ℕ) → Bytes a → Bytes b → i + n ≤ length a → i + n ≤ length b
+    → numberIn n (drop i a) ≡ numberIn n (drop i b) → i ≤ equalFront a b → i + n ≤ equalFront a b
+front-number zero i a b ba bb ha hb e h = omega arith
+front-number (suc n) i a b ba bb ha hb e h =
+    let parts = low (getD a i 0) (getD b i 0) _ _ (ba i) (bb i) (sym (one-more n i a) ∙ e ∙ one-more n i b) in
+    let first = front-more a b i (omega arith) (omega arith) (parts .0) h in
+    let rest = front-number n (i + 1) a b ba bb (omega arith) (omega arith) (parts .1) first in
+    omega arith
+
+number-front : (n i : ℕ) (a b : List ℕ) → i + n ≤ equalFront a b → numberIn n (drop i a) ≡ numberIn n (drop i b)
+unfolding numberIn
+number-front zero i a b h = refl
+number-front (suc n) i a b h =
+    one-more n i a ∙ ap₂ (λ (x m : ℕ). x + 256 * m) (front-byte a b i (omega arith)) (number-front n (i + 1) a b (omega arith)) ∙ sym (one-more n i b)
+
+-- ---- what the test of a row answers
+
+not-below : (e f : ℕ) → (e ≤ f → ⊥) → false ≡ leb e f
+not-below e f h = at (leb e f) refl
+  where
+    at : (t : Bool) → leb e f ≡ t → false ≡ t
+    at true q = absurd (h (leb-true e f q))
+    at false q = refl
+
+pub word-differs : (n i e : ℕ) (a b : List ℕ) → i + n ≤ e → (numberIn n (drop i a) ≡ numberIn n (drop i b) → ⊥) → false ≡ leb e (equalFront a b)
+word-differs n i e a b h d = not-below e (equalFront a b) (λ l. d (number-front n i a b (omega arith)))
+
+pub byte-differs : (i e : ℕ) (a b : List ℕ) → i < e → (getD a i 0 ≡ getD b i 0 → ⊥) → false ≡ leb e (equalFront a b)
+byte-differs i e a b h d = not-below e (equalFront a b) (λ l. d (front-byte a b i (omega arith)))
 
 -- ---- rows
 

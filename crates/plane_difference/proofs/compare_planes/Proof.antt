@@ -1,9 +1,10 @@
--- Both loops: all bytes before the place are equal, so the front reaches at least there; where bytes differ it ends there. Assumes nothing.
+-- Both loops, which begin in the first row that is not equal: all bytes before the place are equal, so the front reaches at least there; where
+-- bytes differ it ends there. Assumes nothing.
 use Prim.Native.Nat.{ℕ, _+_, _*_, _-_, _≤_, _<_}
 use mathlib.Core.Path.{_≡_, _∙_, ap}
 use mathlib.Core.Logic.{⊎-elim}
 use borrow.Author.Needs.{needs}
-use native.Mathlib.Nat.{mul-zero}
+use native.Mathlib.Nat.{mul-le-mul-left}
 use native.Mathlib.Omega.{arith}
 use Rattle.plane_difference.specs.Difference.{equalFront}
 use Rattle.plane_difference.proofs.Front.{front-more, front-ends, row-end, next-row, differs-at, nowhere}
@@ -22,17 +23,23 @@ Inv-rows ours theirs width height row₀ column₀ at₀ row column at = (row �
 abbrev μ-rows : tie.MeasureT-rows
 μ-rows ours theirs width height row₀ column₀ at₀ row column at = height - row
 
+-- so many rows are within the planes
+mul-at : tie.Need-mul-at Inv-loop μ-loop Inv-rows μ-rows
+mul-at c =
+    let p = c .before .before .before in
+    omega (arith, p .pre, mul-le-mul-left {m = c .equal-rows .result} {n = p .args .height} (p .args .width) (c .equal-rows .ensures .0))
+
 rows-holds : tie.Need-rows-holds Inv-loop μ-loop Inv-rows μ-rows
-rows-holds c = (search needs, omega (arith, mul-zero (c .args .width)), omega arith)
+rows-holds c = omega (arith, c .equal-rows .ensures)
 
 loop-holds : tie.Need-loop-holds Inv-loop μ-loop Inv-rows μ-rows
 loop-holds c = omega arith
 
 -- a byte of a row is a byte of the planes
 inside : (c : tie.In-loop Inv-loop μ-loop Inv-rows μ-rows)
-    → c .before .loop .at < c .before .before .before .before .args .width * c .before .before .before .before .args .height
+    → let p = c .before .before .before .before .before .before .before .args in c .before .loop .at < p .width * p .height
 inside c =
-    let p = c .before .before .before .before .args in
+    let p = c .before .before .before .before .before .before .before .args in
     omega (arith, row-end (p .width) (c .before .before .before .rows .row) (p .height) (c .before .before .rows-test .taken))
 
 shared-slice-read-if1 : tie.Need-shared-slice-read-if1 Inv-loop μ-loop Inv-rows μ-rows
@@ -51,11 +58,11 @@ loop-again c =
     (search needs, search needs, front-more _ _ (l .at) (omega arith) (omega arith) (c .if1 .left) (l .inv .2))
 
 rows-again : tie.Need-rows-again Inv-loop μ-loop Inv-rows μ-rows
-rows-again c = omega (arith, next-row (c .before .before .before .before .args .width) (c .before .before .before .rows .row))
+rows-again c = omega (arith, next-row (c .before .before .before .before .before .before .before .args .width) (c .before .before .before .rows .row))
 
 returns : tie.Need-returns Inv-loop μ-loop Inv-rows μ-rows
 returns c =
-    let s = c .before .before .before .args in
+    let s = c .before .before .before .before .before .before .args in
     let row = c .before .before .rows .row in
     ⊎-elim (λ q. absurd (omega arith))
     (λ q.
@@ -66,7 +73,7 @@ returns c =
 
 returns-2 : tie.Need-returns-2 Inv-loop μ-loop Inv-rows μ-rows
 returns-2 c =
-    let s = c .before .before .before .args in
+    let s = c .before .before .before .before .before .before .args in
     let r = c .before .before .rows in
     ⊎-elim
     (λ q.
@@ -83,6 +90,8 @@ compare-planes-spec =
     μ-loop
     Inv-rows
     μ-rows
+    (λ c κs. search needs)
+    mul-at
     rows-holds
     loop-holds
     shared-slice-read-if1
