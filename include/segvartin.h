@@ -734,8 +734,8 @@ static inline segvartin_answer segvartin_update_summary(segvartin_bytes file, se
 #define SEGVARTIN_BYTES_DIFFER 2
 
 /*
- * The report of two files (RULES 13.2, 13.3). equal + differing + only_ours is the number of records of ours, and so it is of theirs. The last
- * three are 0; a later version may give them other values.
+ * The report of two files (RULES 13.2, 13.3). equal + differing + only_ours is the number of records of ours, equal + differing + only_theirs that
+ * of theirs. The last three are 0; a later version may give them other values.
  */
 typedef struct segvartin_pair_report {
     uint64_t equal;                                            /* pairs of the same size with the same bytes in all planes */
@@ -750,9 +750,9 @@ typedef struct segvartin_pair_report {
 } segvartin_pair_report;
 
 /*
- * Pairs two shift files (RULES 13.4), the k-th record of a crossing in ours with the k-th in theirs, by offset; and reports how many pairs are equal, and
- * how the first differs that is not. Answers 0, or a refusal: 15, exactly where one of them is no shift file. No summary is needed. Its time is that of
- * the planes of both files, each pair's up to the row of its first unequal byte, and of sorting the records.
+ * Pairs two shift files (RULES 13.4), the k-th record of a crossing in ours with the k-th in theirs, by offset; and reports how many pairs are
+ * equal, and how the first differs that is not. Answers 0, or a refusal: 15, exactly where one of them is no shift file. No summary is needed. Its
+ * time is that of the planes of both files, each pair's up to the row of its first unequal byte, and of sorting the records.
  *
  *   ours, theirs     two whole files, and nothing behind them
  *   report           gets the report. After a refusal it is left as it is

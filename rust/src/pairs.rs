@@ -51,8 +51,8 @@ pub struct DifferingPair {
     pub difference: PairDifference,
 }
 
-/// The report of two files: RULES 13.2, 13.3. `equal + differing + only_ours` is the number of records of ours, and so it is of theirs. It may gain
-/// fields.
+/// The report of two files: RULES 13.2, 13.3. `equal + differing + only_ours` is the number of records of ours, `equal + differing + only_theirs`
+/// that of theirs. It may gain fields.
 #[derive(Debug, Copy, Clone, Eq, PartialEq)]
 #[non_exhaustive]
 pub struct PairReport {
