@@ -18,7 +18,7 @@ use Rattle.record_difference.proofs.Equal.{same-is-equal}
 use Rattle.shift_pairs.specs.declared.Pairing.{Pairing}
 use Rattle.shift_pairs.specs.Report.{reportOf}
 use Rattle.shift_pairs.specs.Pairing.{brokenFile, PairingPost}
-use Rattle.shift_pairs.proofs.Counts.{counts-add-up}
+use Rattle.shift_pairs.proofs.Counts.{one-or-none, counts-add-up}
 use Rattle.report_numbers.specs.Numbers.{reportNumbers, numbersAfter}
 use Rattle.segvartin.specs.Pairs.{ExportedPairing, PairingKept}
 use Rattle.demands.specs.Demands.{NoFile, ShiftPairs}
@@ -69,6 +69,7 @@ module _ (k : ExportedPairing) (rs ss : List ShiftRecord) (f : IsFileOf WithoutS
 pub shift-pairs : ShiftPairs
 shift-pairs = record {
   same-is-equal = same-is-equal;
+  one-or-none = one-or-none;
   counts-add-up = counts-add-up;
   ours-broken = λ our-form ours their-form theirs r bytes p.
       ours-told (isFile our-form ours) (isFile their-form theirs) (some-list our-form ours bytes) (p .broken);

@@ -77,7 +77,7 @@ use Rattle.segvartin.specs.Summary.{ExportedFind, rulesOfFind, FindKept, Export
 use Rattle.record_difference.specs.Record.{SameIsEqual}
 use Rattle.shift_pairs.specs.declared.Pairing.{Pairing}
 use Rattle.shift_pairs.specs.Report.{reportOf}
-use Rattle.shift_pairs.specs.Means.{CountsAddUp}
+use Rattle.shift_pairs.specs.Means.{OneOrNone, CountsAddUp}
 use Rattle.shift_pairs.specs.Pairing.{pairingRules, PairingPost}
 use Rattle.report_numbers.specs.Numbers.{reportNumbers}
 use Rattle.segvartin.specs.Pairs.{ExportedPairing, rulesOfPairing, PairingKept}
@@ -410,6 +410,7 @@ pub record ShiftSummaries : Type 0 where
 pub record ShiftPairs : Type 0 where
   -- of the definitions
   pub same-is-equal : SameIsEqual
+  pub one-or-none : OneOrNone
   pub counts-add-up : CountsAddUp
   -- of the call: ours, else theirs, is told exactly where no list of records has its bytes
   pub ours-broken : (our-form : ShiftForm) (ours : List ℕ) (their-form : ShiftForm) (theirs : List ℕ) (r : Pairing) → Bytes ours

@@ -19,9 +19,9 @@ use Rattle.shift_pairs.specs.declared.DifferingPair.{DifferingPair}
 use Rattle.shift_pairs.specs.declared.PairReport.{PairReport}
 use Rattle.shift_pairs.specs.declared.Tally.{Tally}
 use Rattle.shift_pairs.specs.Pairs.{Files, Pair, allPairs}
-use Rattle.shift_pairs.specs.Report.{noPair, firstDiffering, equalPairs, differingPairs, reportOf}
+use Rattle.shift_pairs.specs.Report.{noPair, firstDiffering, equalPairs, differingPairs, withOurs, withTheirs, without, reportOf}
 use Rattle.shift_pairs.specs.Known.{HasKeys, tallyOf, OneMore}
-use Rattle.shift_pairs.proofs.Counts.{pairs-counted}
+use Rattle.shift_pairs.proofs.Counts.{pairs-counted, file-whole}
 use Rattle.shift_pairs.proofs.Named.{sorted-named}
 use Rattle.shift_pairs.proofs.Walk.{pairAt, Walk, no-ours, no-theirs, ours-only, theirs-only, both, walk-pairs, named-pairs}
 
@@ -129,6 +129,9 @@ module _ (f : Files) (a b : List ℕ) where
         let differing : t .differing ≡ differingPairs f (allPairs f) = ap (λ (x : Tally). x .differing) all in
         let first : t .first ≡ firstDiffering f (allPairs f) = ap (λ (x : Tally). x .first) all in
         let pairs : t .equal + t .differing ≡ length (allPairs f) = ap₂ _+_ equal differing ∙ pairs-counted f (allPairs f) in
-        let only-ours = ap₂ _-_ (ap length ours ∙ sorted-long (f .ours)) pairs in
-        let only-theirs = ap₂ _-_ (ap length theirs ∙ sorted-long (f .theirs)) pairs in
+        let whole = file-whole f in
+        let only-ours : length a - (t .equal + t .differing) ≡ without (length (f .ours)) (λ k. withOurs k (allPairs f)) =
+        omega (arith, ap length ours, sorted-long (f .ours)) in
+        let only-theirs : length b - (t .equal + t .differing) ≡ without (length (f .theirs)) (λ k. withTheirs k (allPairs f)) =
+        omega (arith, ap length theirs, sorted-long (f .theirs)) in
         λ i. record { equal = equal i; differing = differing i; «only_ours» = only-ours i; «only_theirs» = only-theirs i; first = first i }

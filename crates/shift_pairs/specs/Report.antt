@@ -1,10 +1,11 @@
 -- The report of two files: docs/RULES.md, 13.2 and 13.3.
 -- Assumes nothing.
-use Prim.Native.Nat.{ℕ, _-_}
+use Prim.Native.Nat.{ℕ, zero, suc, _+_}
 use mathlib.Core.Bool.{Bool, cond, not}
 use mathlib.Core.List.{List, [], _∷_}
+use lib.Dec.{eqb}
 use lib.ListN.{length}
-use Rattle.merge_sort.specs.Order.{count}
+use Rattle.merge_sort.specs.Order.{one, count}
 use Rattle.shift_reader.specs.Entry.{nth}
 use Rattle.record_difference.specs.declared.RecordDifference.{RecordDifference}
 use Rattle.record_difference.specs.declared.RecordDifference.the-variants.{Same}
@@ -42,6 +43,19 @@ equalPairs f ps = count (isEqual f) ps
 abbrev pub differingPairs : Files → List Pair → ℕ
 differingPairs f ps = count (λ p. not (isEqual f p)) ps
 
+-- RULES 13.2: how many of these pairs have record k of ours
+abbrev pub withOurs : (k : ℕ) → List Pair → ℕ
+withOurs k ps = count (λ p. eqb k (p .ours)) ps
+
+-- RULES 13.2: and record k of theirs
+abbrev pub withTheirs : (k : ℕ) → List Pair → ℕ
+withTheirs k ps = count (λ p. eqb k (p .theirs)) ps
+
+-- RULES 13.2: how many of records 0, 1, .., n - 1 are without a pair, where record k is in so many
+unfoldable pub without : (n : ℕ) → (pairs : ℕ → ℕ) → ℕ
+without zero pairs = 0
+without (suc n) pairs = without n pairs + one (eqb (pairs n) 0)
+
 -- RULES 13.2, 13.3: pairs that are equal and that differ, records that are in no pair, and the first pair that differs
 unfoldable pub reportOf : Files → PairReport
 reportOf f =
@@ -49,7 +63,7 @@ reportOf f =
     record {
       equal = equalPairs f ps;
       differing = differingPairs f ps;
-      «only_ours» = length (f .ours) - length ps;
-      «only_theirs» = length (f .theirs) - length ps;
+      «only_ours» = without (length (f .ours)) (λ k. withOurs k ps);
+      «only_theirs» = without (length (f .theirs)) (λ k. withTheirs k ps);
       first = firstDiffering f ps;
     }
