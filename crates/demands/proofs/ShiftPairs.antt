@@ -1,14 +1,16 @@
 -- What is claimed of two shift files paired: the two checks say whose records there are, and the call's report is that of these. Assumes nothing.
 use Prim.Native.Nat.{ℕ}
 use mathlib.Core.Path.{_≡_, refl, sym, ap, ap₂, _∙_}
-use mathlib.Core.Bool.{Bool, true, false, true≢false}
+use mathlib.Core.Bool.{Bool, true, false, cond, not, true≢false}
 use mathlib.Core.List.{List, [], _∷_}
-use mathlib.Core.Logic.{_↔_}
+use mathlib.Core.Logic.{_↔_, _⊎_, inl, inr, ⊎-elim}
 use native.Mathlib.Omega.{arith}
+use lib.ListN.{getD}
 use Rattle.yuv_error.specs.declared.YuvAnswer.{YuvAnswer}
 use Rattle.yuv_error.specs.declared.YuvAnswer.the-variants.{Finished}
 use Rattle.yuv_error.specs.Numbers.{Numbers, numbers, numbersOf}
 use Rattle.yuv_error.proofs.Numbers.{is-finished}
+use Rattle.little_endian.specs.Number.{Bytes}
 use Rattle.shift_file.specs.declared.ShiftForm.{ShiftForm}
 use Rattle.shift_file.specs.declared.ShiftForm.the-variants.{WithoutSettings}
 use Rattle.shift_file.specs.File.{ShiftRecord, IsFileOf}
@@ -21,6 +23,7 @@ use Rattle.shift_pairs.specs.Pairing.{brokenFile, PairingPost}
 use Rattle.shift_pairs.proofs.Counts.{one-or-none, counts-add-up}
 use Rattle.report_numbers.specs.Numbers.{reportNumbers, numbersAfter}
 use Rattle.segvartin.specs.Pairs.{ExportedPairing, PairingKept}
+use Rattle.segvartin.proofs.Pairs.{pairing-writes-nothing}
 use Rattle.demands.specs.Demands.{NoFile, ShiftPairs}
 
 -- ---- which file is none, by the two tests
@@ -37,6 +40,54 @@ module _ {A : List ShiftRecord → Type 0} where
   theirs-told true true is his e = (λ z. absurd (omega arith), λ q. let some = his .0 refl in absurd (q .1 (some .0) (some .1)))
   theirs-told true false is his e = (λ z. (is .0 refl, λ rs b. true≢false (sym (his .1 (rs, b)))), λ q. e)
   theirs-told false u is his e = (λ z. absurd (omega arith), λ q. absurd (true≢false (sym (is .1 (q .0)))))
+
+  either-told : {B : List ShiftRecord → Type 0} (t u : Bool) {n : ℕ} → (t ≡ true) ↔ ((rs : List ShiftRecord) × A rs)
+      → (u ≡ true) ↔ ((rs : List ShiftRecord) × B rs)
+      → n ≡ cond (not t) (numbers 15 0 0) (cond (not u) (numbers 15 0 0) (numbers 0 0 0)) .number
+      → (n ≡ 15) ↔ (((rs : List ShiftRecord) → A rs → ⊥) ⊎ ((rs : List ShiftRecord) → B rs → ⊥))
+  either-told true true is his e = (
+    λ z. absurd (omega arith),
+    λ q. ⊎-elim (λ none. let some = is .0 refl in absurd (none (some .0) (some .1))) (λ none. let some = his .0 refl in absurd (none (some .0) (some .1))) q,
+  )
+  either-told true false is his e = (λ z. inr (λ rs b. true≢false (sym (his .1 (rs, b)))), λ q. e)
+  either-told false u is his e = (λ z. inl (λ rs a. true≢false (sym (is .1 (rs, a)))), λ q. e)
+
+module _ (our-form : ShiftForm) (ours : List ℕ) (their-form : ShiftForm) (theirs : List ℕ) (r : Pairing) (b : Bytes ours) (d : Bytes theirs)
+    (p : PairingPost our-form ours their-form theirs r) where
+  is-refused : (numbersOf (r .answer) .number ≡ 15) ↔ (NoFile our-form ours ⊎ NoFile their-form theirs)
+  is-refused =
+      either-told (isFile our-form ours) (isFile their-form theirs) (some-list our-form ours b) (some-list their-form theirs d)
+      (ap (λ (x : Numbers). x .number) (p .answered))
+
+  ours-none : (r .broken ≡ 1) ↔ NoFile our-form ours
+  ours-none = ours-told (isFile our-form ours) (isFile their-form theirs) (some-list our-form ours b) (p .broken)
+
+  theirs-none : (r .broken ≡ 2) ↔ (((rs : List ShiftRecord) × IsFileOf our-form ours rs) × NoFile their-form theirs)
+  theirs-none =
+      theirs-told (isFile our-form ours) (isFile their-form theirs) (some-list our-form ours b) (some-list their-form theirs d) (p .broken)
+
+-- ---- for who links the library
+
+module _ (k : ExportedPairing) (b : Bytes (k .ours)) (d : Bytes (k .theirs)) (p : PairingKept k) where
+  linked-none : (k .number ≡ 15) ↔ (NoFile WithoutSettings (k .ours) ⊎ NoFile WithoutSettings (k .theirs))
+  linked-none =
+      let is = is-refused WithoutSettings (k .ours) WithoutSettings (k .theirs) (p .pairing) b d (p .paired) in
+      (λ e. is .0 (sym (p .number) ∙ e), λ none. p .number ∙ is .1 none)
+
+  -- the file that is told is the one that the pairing tells
+  told-is : (n : ℕ) → (k .told ≡ n ∷ []) ↔ (p .pairing .broken ≡ n)
+  told-is n = (λ e. ap (λ (l : List ℕ). getD l 0 0) (sym (p .told) ∙ e), λ e. p .told ∙ ap (λ (m : ℕ). m ∷ []) e)
+
+  linked-ours : ((k .number ≡ 15) × (k .told ≡ 1 ∷ [])) ↔ NoFile WithoutSettings (k .ours)
+  linked-ours =
+      let is = ours-none WithoutSettings (k .ours) WithoutSettings (k .theirs) (p .pairing) b d (p .paired) in
+      (λ q. is .0 (told-is 1 .0 (q .1)), λ none. (linked-none .1 (inl none), told-is 1 .1 (is .1 none)))
+
+  linked-theirs : ((k .number ≡ 15) × (k .told ≡ 2 ∷ []))
+      ↔ (((rs : List ShiftRecord) × IsFileOf WithoutSettings (k .ours) rs) × NoFile WithoutSettings (k .theirs))
+  linked-theirs =
+      let is = theirs-none WithoutSettings (k .ours) WithoutSettings (k .theirs) (p .pairing) b d (p .paired) in
+      (λ q. is .0 (told-is 2 .0 (q .1)), λ q. (linked-none .1 (inr (q .1)), told-is 2 .1 (is .1 q)))
 
 -- ---- two files
 
@@ -71,12 +122,16 @@ shift-pairs = record {
   same-is-equal = same-is-equal;
   one-or-none = one-or-none;
   counts-add-up = counts-add-up;
-  ours-broken = λ our-form ours their-form theirs r bytes p.
-      ours-told (isFile our-form ours) (isFile their-form theirs) (some-list our-form ours bytes) (p .broken);
-  theirs-broken = λ our-form ours their-form theirs r our-bytes their-bytes p.
-      theirs-told (isFile our-form ours) (isFile their-form theirs) (some-list our-form ours our-bytes) (some-list their-form theirs their-bytes) (p .broken);
+  refused = is-refused;
+  ours-broken = λ our-form ours their-form theirs r b p.
+      ours-told (isFile our-form ours) (isFile their-form theirs) (some-list our-form ours b) (p .broken);
+  theirs-broken = theirs-none;
   reported = λ our-form ours their-form theirs r rs ss f g p.
       (finished our-form ours their-form theirs r rs ss f g p, its-report our-form ours their-form theirs r rs ss f g p);
+  linked-refused = linked-none;
+  linked-ours-broken = linked-ours;
+  linked-theirs-broken = linked-theirs;
+  linked-untouched = λ k p e. pairing-writes-nothing p (omega arith);
   linked = λ k rs ss f g p. (
     p .number ∙ ap (λ (a : YuvAnswer). numbersOf a .number) (done k rs ss f g p),
     p .told ∙ ap (λ (n : ℕ). n ∷ []) (none-broken WithoutSettings (k .ours) WithoutSettings (k .theirs) (p .pairing) rs ss f g (p .paired)),

@@ -9,7 +9,7 @@ use Prim.Native.Nat.{ℕ, _+_, _*_, _≤_, _<_}
 use mathlib.Core.Path.{_≡_}
 use mathlib.Core.Bool.{true, false}
 use mathlib.Core.List.{List, [], _∷_, _++_}
-use mathlib.Core.Logic.{_↔_}
+use mathlib.Core.Logic.{_↔_, _⊎_}
 use lib.Dec.{T}
 use lib.ListN.{length, getD, take, drop}
 use Rattle.yuv_support.specs.declared.YuvChromaSubsampling.the-variants.{Yuv420}
@@ -412,7 +412,9 @@ pub record ShiftPairs : Type 0 where
   pub same-is-equal : SameIsEqual
   pub one-or-none : OneOrNone
   pub counts-add-up : CountsAddUp
-  -- of the call: ours, else theirs, is told exactly where no list of records has its bytes
+  -- of the call: 15 exactly where no list of records has the bytes of the one or of the other, and ours, else theirs, is told
+  pub refused : (our-form : ShiftForm) (ours : List ℕ) (their-form : ShiftForm) (theirs : List ℕ) (r : Pairing) → Bytes ours → Bytes theirs
+      → PairingPost our-form ours their-form theirs r → (numbersOf (r .answer) .number ≡ 15) ↔ (NoFile our-form ours ⊎ NoFile their-form theirs)
   pub ours-broken : (our-form : ShiftForm) (ours : List ℕ) (their-form : ShiftForm) (theirs : List ℕ) (r : Pairing) → Bytes ours
       → PairingPost our-form ours their-form theirs r → (r .broken ≡ 1) ↔ NoFile our-form ours
   pub theirs-broken : (our-form : ShiftForm) (ours : List ℕ) (their-form : ShiftForm) (theirs : List ℕ) (r : Pairing) → Bytes ours → Bytes theirs
@@ -420,7 +422,16 @@ pub record ShiftPairs : Type 0 where
   pub reported : (our-form : ShiftForm) (ours : List ℕ) (their-form : ShiftForm) (theirs : List ℕ) (r : Pairing) (rs ss : List ShiftRecord)
       → IsFileOf our-form ours rs → IsFileOf their-form theirs ss → PairingPost our-form ours their-form theirs r
       → (r .answer ≡ Finished) × (r .report ≡ reportOf (record { our-form = our-form; ours = rs; their-form = their-form; theirs = ss }))
-  -- for who links the library: 0, no file told, and the report in its numbers
+  -- for who links the library: the same, and then the report is as it was
+  pub linked-refused : (k : ExportedPairing) → Bytes (k .ours) → Bytes (k .theirs) → PairingKept k
+      → (k .number ≡ 15) ↔ (NoFile WithoutSettings (k .ours) ⊎ NoFile WithoutSettings (k .theirs))
+  pub linked-ours-broken : (k : ExportedPairing) → Bytes (k .ours) → Bytes (k .theirs) → PairingKept k
+      → ((k .number ≡ 15) × (k .told ≡ 1 ∷ [])) ↔ NoFile WithoutSettings (k .ours)
+  pub linked-theirs-broken : (k : ExportedPairing) → Bytes (k .ours) → Bytes (k .theirs) → PairingKept k
+      → ((k .number ≡ 15) × (k .told ≡ 2 ∷ []))
+      ↔ (((rs : List ShiftRecord) × IsFileOf WithoutSettings (k .ours) rs) × NoFile WithoutSettings (k .theirs))
+  pub linked-untouched : (k : ExportedPairing) → PairingKept k → k .number ≡ 15 → k .report′ ≡ k .report
+  -- 0, no file told, and the report in its numbers
   pub linked : (k : ExportedPairing) (rs ss : List ShiftRecord) → IsFileOf WithoutSettings (k .ours) rs → IsFileOf WithoutSettings (k .theirs) ss
       → PairingKept k → (k .number ≡ 0) × (k .told ≡ 0 ∷ [])
       × (k .report′ ≡ reportNumbers (reportOf (record { our-form = WithoutSettings; ours = rs; their-form = WithoutSettings; theirs = ss })))
