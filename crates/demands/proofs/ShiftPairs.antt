@@ -17,10 +17,12 @@ use Rattle.shift_file.specs.File.{ShiftRecord, IsFileOf}
 use Rattle.shift_file.specs.Check.{isFile}
 use Rattle.shift_file.proofs.File.{some-list, its-records, is-checked}
 use Rattle.record_difference.proofs.Equal.{same-is-equal}
+use Rattle.record_difference.proofs.First.{place-is-first, sizes-are-told}
 use Rattle.shift_pairs.specs.declared.Pairing.{Pairing}
 use Rattle.shift_pairs.specs.Report.{reportOf}
 use Rattle.shift_pairs.specs.Pairing.{brokenFile, PairingPost}
 use Rattle.shift_pairs.proofs.Counts.{one-or-none, counts-add-up}
+use Rattle.shift_pairs.proofs.First.{first-or-none}
 use Rattle.report_numbers.specs.Numbers.{reportNumbers, numbersAfter}
 use Rattle.segvartin.specs.Pairs.{ExportedPairing, PairingKept}
 use Rattle.segvartin.proofs.Pairs.{pairing-writes-nothing}
@@ -120,8 +122,11 @@ module _ (k : ExportedPairing) (rs ss : List ShiftRecord) (f : IsFileOf WithoutS
 pub shift-pairs : ShiftPairs
 shift-pairs = record {
   same-is-equal = same-is-equal;
+  place-is-first = place-is-first;
+  sizes-are-told = sizes-are-told;
   one-or-none = one-or-none;
   counts-add-up = counts-add-up;
+  first-or-none = first-or-none;
   refused = is-refused;
   ours-broken = λ our-form ours their-form theirs r b p.
       ours-told (isFile our-form ours) (isFile their-form theirs) (some-list our-form ours b) (p .broken);

@@ -74,10 +74,10 @@ use Rattle.summary_update.specs.Update.{updateRules, UpdatePost}
 use Rattle.summary_update.specs.Summaries.{Left}
 use Rattle.segvartin.specs.Summary.{ExportedBuild, rulesOfBuild, BuildKept, ExportedCheck, rulesOfCheck, CheckKept}
 use Rattle.segvartin.specs.Summary.{ExportedFind, rulesOfFind, FindKept, ExportedUpdate, rulesOfUpdate, UpdateKept}
-use Rattle.record_difference.specs.Record.{SameIsEqual}
+use Rattle.record_difference.specs.Record.{SameIsEqual, PlaceIsFirst, SizesAreTold}
 use Rattle.shift_pairs.specs.declared.Pairing.{Pairing}
 use Rattle.shift_pairs.specs.Report.{reportOf}
-use Rattle.shift_pairs.specs.Means.{OneOrNone, CountsAddUp}
+use Rattle.shift_pairs.specs.Means.{OneOrNone, CountsAddUp, FirstOrNone}
 use Rattle.shift_pairs.specs.Pairing.{pairingRules, PairingPost}
 use Rattle.report_numbers.specs.Numbers.{reportNumbers}
 use Rattle.segvartin.specs.Pairs.{ExportedPairing, rulesOfPairing, PairingKept}
@@ -404,14 +404,18 @@ pub record ShiftSummaries : Type 0 where
       → take (13 * (length rs + 1)) after ≡ take (13 * (length rs + 1)) after₂
 
 -- ---- Two shift files paired: the report is that of their records, and 15 says which of the two is no file. Two records count as equal exactly where
--- sizes, samplings and planes are; both pair counts and a file's own leftovers are that file's count. In both forms, also one of each.
+-- sizes, samplings and planes are; a record has one pair or none, and both pair counts and a file's own leftovers are that file's count; the pair that
+-- is told is the first that differs, and the place the first byte. In both forms, also one of each.
 
--- RULES 13.2, 13.3, 13.4, 10.7
+-- RULES 13.1, 13.2, 13.3, 13.4, 10.7
 pub record ShiftPairs : Type 0 where
   -- of the definitions
   pub same-is-equal : SameIsEqual
+  pub place-is-first : PlaceIsFirst
+  pub sizes-are-told : SizesAreTold
   pub one-or-none : OneOrNone
   pub counts-add-up : CountsAddUp
+  pub first-or-none : FirstOrNone
   -- of the call: 15 exactly where no list of records has the bytes of the one or of the other, and ours, else theirs, is told
   pub refused : (our-form : ShiftForm) (ours : List ℕ) (their-form : ShiftForm) (theirs : List ℕ) (r : Pairing) → Bytes ours → Bytes theirs
       → PairingPost our-form ours their-form theirs r → (numbersOf (r .answer) .number ≡ 15) ↔ (NoFile our-form ours ⊎ NoFile their-form theirs)

@@ -24,7 +24,7 @@ use Rattle.record_difference.proofs.Compared.{size-same, size-itself, p
 
 -- ---- a plane
 
-plane-equal : (w : ℕ) (a b : List ℕ) → length a ≡ length b → planeDifference w a b ≡ planes.Same → a ≡ b
+pub plane-equal : (w : ℕ) (a b : List ℕ) → length a ≡ length b → planeDifference w a b ≡ planes.Same → a ≡ b
 unfolding planeDifference
 plane-equal w a b l e = at (ltb (equalFront a b) (length a)) refl e
   where
@@ -32,7 +32,7 @@ plane-equal w a b l e = at (ltb (equalFront a b) (length a)) refl e
     at true h q = let z : _≡_ {A = ℕ} 0 1 = cc in absurd (omega arith)
     at false h q = front-whole a b l (ltb-false (equalFront a b) (length a) h)
 
-plane-itself : (w : ℕ) (a : List ℕ) → planeDifference w a a ≡ planes.Same
+pub plane-itself : (w : ℕ) (a : List ℕ) → planeDifference w a a ≡ planes.Same
 plane-itself w a = sym (nowhere w a a (omega (arith, front-same a)))
 
 -- nothing in this plane, and nothing later

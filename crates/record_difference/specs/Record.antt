@@ -13,10 +13,11 @@ use Rattle.shift_file.specs.declared.ShiftForm.{ShiftForm}
 use Rattle.shift_file.specs.File.{ShiftRecord, Allowed, samplingOf}
 use Rattle.plane_difference.specs.declared.PlaneDifference.{PlaneDifference}
 use Rattle.plane_difference.specs.declared.PlaneDifference.the-variants as planes
-use Rattle.plane_difference.specs.Difference.{planeDifference}
+use Rattle.plane_difference.specs.Difference.{planeDifference, FirstByte}
 use Rattle.record_difference.specs.declared.Plane.{Plane}
 use Rattle.record_difference.specs.declared.Plane.the-variants.{Y, U, «V»}
 use Rattle.record_difference.specs.declared.FrameSize.{FrameSize}
+use Rattle.record_difference.specs.declared.PlanePlace.{PlanePlace}
 use Rattle.record_difference.specs.declared.RecordDifference.{RecordDifference}
 use Rattle.record_difference.specs.declared.RecordDifference.the-variants.{Same, Sizes, At}
 
@@ -102,3 +103,27 @@ pub record EqualRecords (form-r : ShiftForm) (r : ShiftRecord) (form-s : ShiftFo
 abbrev pub SameIsEqual : Type 0
 SameIsEqual = (form-r : ShiftForm) (r : ShiftRecord) (form-s : ShiftForm) (s : ShiftRecord) → Allowed form-r r → Allowed form-s s
     → (recordDifference form-r r form-s s ≡ Same) ↔ EqualRecords form-r r form-s s
+
+-- RULES 13.3: the planes before this one are equal; Y comes before U, and U before V
+abbrev pub EqualBefore : Plane → (r s : ShiftRecord) → Type 0
+EqualBefore Y r s = Unit {0}
+EqualBefore U r s = r .y ≡ s .y
+EqualBefore «V» r s = (r .y ≡ s .y) × (r .u ≡ s .u)
+
+-- RULES 13.3: the records have one size, and this is their first byte that differs
+pub record FirstDifference (form-r : ShiftForm) (r : ShiftRecord) (form-s : ShiftForm) (s : ShiftRecord) (p : PlanePlace) : Type 0 where
+  pub one-size : sizeOf form-r r ≡ sizeOf form-s s
+  pub before : EqualBefore (p .plane) r s
+  pub here :
+      let size = sizeOf form-r r in
+      FirstByte (planeWidth (p .plane) size) (planeHeight (p .plane) size) (planeOf (p .plane) r) (planeOf (p .plane) s) (p .row) (p .column)
+
+-- RULES 13.3: a place is told exactly where it is that of the first byte that differs
+abbrev pub PlaceIsFirst : Type 0
+PlaceIsFirst = (form-r : ShiftForm) (r : ShiftRecord) (form-s : ShiftForm) (s : ShiftRecord) → Allowed form-r r → Allowed form-s s → (p : PlanePlace)
+    → (recordDifference form-r r form-s s ≡ At p) ↔ FirstDifference form-r r form-s s p
+
+-- RULES 13.3: sizes are told exactly where they differ, both as they are
+abbrev pub SizesAreTold : Type 0
+SizesAreTold = (form-r : ShiftForm) (r : ShiftRecord) (form-s : ShiftForm) (s : ShiftRecord) (a b : FrameSize)
+    → (recordDifference form-r r form-s s ≡ Sizes a b) ↔ ((a ≡ sizeOf form-r r) × (b ≡ sizeOf form-s s) × (sizeOf form-r r ≡ sizeOf form-s s → ⊥))

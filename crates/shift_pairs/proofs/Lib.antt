@@ -1,5 +1,6 @@
--- Laws of the pairs and of the report: the counts add up; the tally of one pair more; sorted keys, crossing by crossing; the walk over them.
+-- Laws of the pairs and of the report: one pair or none, and the counts add up; the first pair that differs; the tally of one pair more; sorted keys, crossing by crossing; the walk over them.
 pub mod Counts
+pub mod First
 pub mod Tallied
 pub mod Named
 pub mod Walk
