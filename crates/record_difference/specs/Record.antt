@@ -23,11 +23,11 @@ use Rattle.record_difference.specs.declared.RecordDifference.the-variant
 
 -- ---- sizes
 
--- RULES 13.2: width, height and sampling
+-- RULES 13.2: width and height; and the sampling, which is one only in the form that the rules have
 unfoldable pub sizeOf : ShiftForm → ShiftRecord → FrameSize
 sizeOf form r = record { width = r .width; height = r .height; sampling = samplingOf form (r .settings) }
 
--- RULES 13.2
+-- one only, until the rules have a form of the file with more
 abbrev pub sameSampling : YuvChromaSubsampling → YuvChromaSubsampling → Bool
 sameSampling Yuv420 Yuv420 = true
 sameSampling Yuv420 Yuv422 = false
@@ -99,7 +99,7 @@ pub record EqualRecords (form-r : ShiftForm) (r : ShiftRecord) (form-s : ShiftFo
   pub u : r .u ≡ s .u
   pub v : r .v ≡ s .v
 
--- RULES 13.2: no difference, exactly where sizes, samplings and all three planes are equal
+-- RULES 13.2: no difference, exactly where sizes and all three planes are equal
 abbrev pub SameIsEqual : Type 0
 SameIsEqual = (form-r : ShiftForm) (r : ShiftRecord) (form-s : ShiftForm) (s : ShiftRecord) → Allowed form-r r → Allowed form-s s
     → (recordDifference form-r r form-s s ≡ Same) ↔ EqualRecords form-r r form-s s
