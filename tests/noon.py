@@ -5,6 +5,7 @@
 
 The pairing below follows the request's own words, and shares no code with the rest of this repository.
 """
+import os
 import random
 import struct
 import subprocess
@@ -75,13 +76,17 @@ def report(ours, theirs):
 runs = 0
 
 
-def said(ours, theirs):
+def noon(*paths, **options):
     global runs
     runs += 1
+    return subprocess.run([NOON, *paths], stderr=subprocess.PIPE, text=True, timeout=60, **options)
+
+
+def said(ours, theirs):
     paths = OUT / 'ours.shift', OUT / 'theirs.shift'
     for path, data in zip(paths, (ours, theirs)):
         path.write_bytes(data)
-    done = subprocess.run([NOON, *paths], capture_output=True, text=True)
+    done = noon(*paths, stdout=subprocess.PIPE)
     return done.stdout, done.returncode, done.stderr
 
 
@@ -106,7 +111,8 @@ def main():
     for case in range(120):
         count, crossings = numbers.choice((0, 1, 2, 5, 12)), numbers.choice((1, 3, 1 << 32))
         ours = [record(numbers, numbers.randrange(crossings), numbers.randint(1, 20), numbers.randint(1, 20)) for _ in range(count)]
-        theirs = [(crossing, size, changed(numbers, planes) if numbers.random() < 0.2 else planes) for crossing, size, planes in ours if numbers.random() < 0.9]
+        theirs = [(crossing, size, changed(numbers, planes) if numbers.random() < 0.2 else planes)
+                  for crossing, size, planes in ours if numbers.random() < 0.9]
         if case % 2:
             numbers.shuffle(theirs)
         if case % 3 == 0:
@@ -117,6 +123,17 @@ def main():
     for name, ours, theirs, which in (('ours', good[:-1], good, 'ours'), ('theirs', good, good + b'\0', 'theirs'), ('both', b'', b'', 'ours')):
         text = f'noon: {OUT / which}.shift is no shift file\n'
         expect(said(ours, theirs) == ('', 2, text), f'{name}: not refused')
+    path, pipe = OUT / 'good.shift', OUT / 'pipe.shift'
+    path.write_bytes(good)
+    pipe.unlink(missing_ok=True)
+    os.mkfifo(pipe)
+    for names, which in (((pipe, path), pipe), ((path, pipe), pipe), ((path, OUT), OUT), ((path, OUT / 'none'), OUT / 'none')):
+        done = noon(*names, stdout=subprocess.PIPE)
+        expect((done.stdout, done.returncode, done.stderr) == ('', 2, f'noon: cannot read {which}\n'), f'{which}: read')
+    pipe.unlink()
+    with open('/dev/full', 'w') as full:
+        done = noon(path, path, stdout=full)
+    expect((done.returncode, done.stderr) == (2, 'noon: cannot write\n'), 'lines that cannot be written: no failure told')
     print(f'noon.py: {runs} runs: two shift files held against each other')
 
 

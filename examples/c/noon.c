@@ -4,9 +4,10 @@
  *     noon OURS THEIRS
  *
  * It prints five lines: how many frames are the same in both, how many differ, how many are only in ours, how many only in theirs; and the first that
- * differs, or that none does. Exit status 0: both files have the same frames. 1: they have not. 2: a file cannot be read, or is no shift file.
+ * differs, or that none does. Exit status 0: both files have the same frames. 1: they have not. 2: a file cannot be read, or is no shift file, or the
+ * lines cannot be written.
  *
- * The files are read on memory maps, so they may be larger than memory.
+ * The files are read on memory maps, so they may be larger than memory. A pipe, which has no map, cannot be read.
  */
 #define _DEFAULT_SOURCE
 #include "segvartin.h"
@@ -18,14 +19,15 @@
 #include <sys/stat.h>
 #include <unistd.h>
 
-/* The bytes of a file, or at is NULL. A map has a byte or more, so nothing is mapped of an empty file. */
+/* The bytes of a regular file, or at is NULL. A map has a byte or more, so nothing is mapped of an empty file. */
 static segvartin_bytes mapped(const char *name) {
     static const uint8_t nothing[1];
     segvartin_bytes bytes = {NULL, 0};
     struct stat status;
-    int file = open(name, O_RDONLY);
+    /* O_NONBLOCK: a pipe that nothing writes to is opened at once, and passed over below. */
+    int file = open(name, O_RDONLY | O_NONBLOCK);
     if (file < 0) return bytes;
-    if (fstat(file, &status) == 0) {
+    if (fstat(file, &status) == 0 && S_ISREG(status.st_mode)) {
         bytes.len = (size_t)status.st_size;
         bytes.at = nothing;
         if (bytes.len > 0) bytes.at = mmap(NULL, bytes.len, PROT_READ, MAP_SHARED, file, 0);
@@ -41,9 +43,11 @@ static void print_first(const segvartin_pair_report *r) {
         printf("first difference: none\n");
         return;
     }
-    printf("first difference: crossing %" PRIu64 " (record %" PRIu64 " of ours, record %" PRIu64 " of theirs): ", r->crossing, r->our_record, r->their_record);
+    printf("first difference: crossing %" PRIu64 " (record %" PRIu64 " of ours, record %" PRIu64 " of theirs): ",
+           r->crossing, r->our_record, r->their_record);
     if (r->difference == SEGVARTIN_SIZES_DIFFER)
-        printf("%" PRIu64 " x %" PRIu64 " in ours, %" PRIu64 " x %" PRIu64 " in theirs\n", r->our_width, r->our_height, r->their_width, r->their_height);
+        printf("%" PRIu64 " x %" PRIu64 " in ours, %" PRIu64 " x %" PRIu64 " in theirs\n",
+               r->our_width, r->our_height, r->their_width, r->their_height);
     else
         printf("plane %c, row %" PRIu64 ", column %" PRIu64 "\n", planes[r->plane], r->row, r->column);
 }
@@ -72,5 +76,9 @@ int main(int argc, char **argv) {
     printf("only in ours:     %" PRIu64 "\n", r.only_ours);
     printf("only in theirs:   %" PRIu64 "\n", r.only_theirs);
     print_first(&r);
+    if (fflush(stdout) != 0) {
+        fprintf(stderr, "noon: cannot write\n");
+        return 2;
+    }
     return r.differing + r.only_ours + r.only_theirs == 0 ? 0 : 1;
 }
