@@ -136,9 +136,10 @@ one-or-none f = record {
 
 -- ---- the records without a pair
 
-positive : (m : ℕ) → (m ≡ 0 → ⊥) → 1 ≤ m
-positive zero h = absurd (h refl)
-positive (suc m) h = omega arith
+-- a record is in one pair, or without
+one-of-two : (m : ℕ) → m ≤ 1 → m + one (eqb m 0) ≡ 1
+one-of-two zero h = omega (arith, ap one (eq-eqb 0 0 refl))
+one-of-two (suc m) h = omega (arith, ap one (ne-eqb (suc m) 0 (λ e. omega arith)))
 
 module _ (place : Pair → ℕ) where
   -- one place more
@@ -179,14 +180,8 @@ module _ (place : Pair → ℕ) where
     with-or-without : (n : ℕ) → count (λ p. ltb (place p) n) ps + without n (λ k. count (λ p. eqb k (place p)) ps) ≡ n
     unfolding without
     with-or-without zero = omega (arith, none-below ps)
-    with-or-without (suc n) = at (with-or-without n) (eqb (count (λ p. eqb n (place p)) ps) 0) refl
-      where
-        at : count (λ p. ltb (place p) n) ps + without n (λ k. count (λ p. eqb k (place p)) ps) ≡ n
-            → (t : Bool) → eqb (count (λ p. eqb n (place p)) ps) 0 ≡ t
-            → count (λ p. ltb (place p) (suc n)) ps + (without n (λ k. count (λ p. eqb k (place p)) ps) + one t) ≡ suc n
-        at before true e = omega (arith, below-more n ps, eqb-true (count (λ p. eqb n (place p)) ps) 0 e)
-        at before false e =
-            omega (arith, below-more n ps, once n, positive _ (eqb-false (count (λ p. eqb n (place p)) ps) 0 e))
+    with-or-without (suc n) =
+        omega (arith, with-or-without n, below-more n ps, one-of-two (count (λ p. eqb n (place p)) ps) (once n))
 
     its-pairs : (n : ℕ) → All (λ p. place p < n) ps → length ps + without n (λ k. count (λ p. eqb k (place p)) ps) ≡ n
     its-pairs n h = omega (arith, all-below n ps h, with-or-without n)
