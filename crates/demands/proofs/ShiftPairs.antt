@@ -49,7 +49,7 @@ module _ {A : List ShiftRecord → Type 0} where
       → (n ≡ 15) ↔ (((rs : List ShiftRecord) → A rs → ⊥) ⊎ ((rs : List ShiftRecord) → B rs → ⊥))
   either-told true true is his e = (
     λ z. absurd (omega arith),
-    λ q. ⊎-elim (λ none. let some = is .0 refl in absurd (none (some .0) (some .1))) (λ none. let some = his .0 refl in absurd (none (some .0) (some .1))) q,
+    λ q. ⊎-elim (λ none. absurd (none (is .0 refl .0) (is .0 refl .1))) (λ none. absurd (none (his .0 refl .0) (his .0 refl .1))) q,
   )
   either-told true false is his e = (λ z. inr (λ rs b. true≢false (sym (his .1 (rs, b)))), λ q. e)
   either-told false u is his e = (λ z. inl (λ rs a. true≢false (sym (is .1 (rs, a)))), λ q. e)

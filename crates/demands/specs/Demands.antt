@@ -404,8 +404,8 @@ pub record ShiftSummaries : Type 0 where
       → take (13 * (length rs + 1)) after ≡ take (13 * (length rs + 1)) after₂
 
 -- ---- Two shift files paired: the report is that of their records, and 15 says which of the two is no file. Two records count as equal exactly where
--- sizes, samplings and planes are; a record has one pair or none, and both pair counts and a file's own leftovers are that file's count; the pair that
--- is told is the first that differs, and the place the first byte. In both forms, also one of each.
+-- sizes, samplings and planes are; a record has one pair or none, and both pair counts and a file's own leftovers are that file's count; the pair
+-- that is told is the first that differs, and the place is that of the first byte. In both forms, also one of each.
 
 -- RULES 13.1, 13.2, 13.3, 13.4, 10.7
 pub record ShiftPairs : Type 0 where

@@ -53,7 +53,8 @@ module _ (w h : ℕ) (a b : List ℕ) (ha : length a ≡ w * h) (hb : length b �
     unfolding planeDifference
     told-first e = at (ltb (equalFront a b) (length a)) refl e
       where
-        at : (t : Bool) → ltb (equalFront a b) (length a) ≡ t → cond t (placeOf w (equalFront a b)) Same ≡ At row column → FirstByte w h a b row column
+        at : (t : Bool) → ltb (equalFront a b) (length a) ≡ t → cond t (placeOf w (equalFront a b)) Same ≡ At row column
+            → FirstByte w h a b row column
         at true l q =
             let below : equalFront a b < w * h = omega (arith, ltb-true (equalFront a b) (length a) l) in
             let some = some-column w h (equalFront a b) below in

@@ -70,8 +70,8 @@ module _ (form-r : ShiftForm) (r : ShiftRecord) (form-s : ShiftForm) (s : ShiftR
       found plane row column before e = record { one-size = same; before = before; here = told-here plane row column .0 e }
 
       -- the first plane that tells a place
-      by-plane : (y u v : PlaneDifference) → differenceIn Y size r s ≡ y → differenceIn U size r s ≡ u → differenceIn «V» size r s ≡ v → (p : PlanePlace)
-          → inPlane Y y (inPlane U u (inPlane «V» v Same)) ≡ At p → FirstDifference form-r r form-s s p
+      by-plane : (y u v : PlaneDifference) → differenceIn Y size r s ≡ y → differenceIn U size r s ≡ u → differenceIn «V» size r s ≡ v
+          → (p : PlanePlace) → inPlane Y y (inPlane U u (inPlane «V» v Same)) ≡ At p → FirstDifference form-r r form-s s p
       by-plane (planes.At row column) u v ey eu ev p e = subst (FirstDifference form-r r form-s s) (ap (placeTold p) e) (found Y row column tt ey)
       by-plane planes.Same (planes.At row column) v ey eu ev p e =
           subst (FirstDifference form-r r form-s s) (ap (placeTold p) e) (found U row column (one-plane Y ey) eu)
@@ -103,7 +103,8 @@ module _ (form-r : ShiftForm) (r : ShiftRecord) (form-s : ShiftForm) (s : ShiftR
   tests-same : sizeOf form-r r ≡ sizeOf form-s s → sameSize (sizeOf form-r r) (sizeOf form-s s) ≡ true
   tests-same e = ap (sameSize size) (sym e) ∙ size-itself size
 
-  first-place : Allowed form-r r → Allowed form-s s → (p : PlanePlace) → FirstDifference form-r r form-s s p → recordDifference form-r r form-s s ≡ At p
+  first-place : Allowed form-r r → Allowed form-s s → (p : PlanePlace) → FirstDifference form-r r form-s s p
+      → recordDifference form-r r form-s s ≡ At p
   first-place ours theirs p d =
       sym (by-planes form-r r form-s s (tests-same (d .one-size)))
       ∙ first-planes ours theirs (d .one-size) (p .plane) (p .row) (p .column) (d .before) (d .here)
@@ -121,12 +122,14 @@ module _ (form-r : ShiftForm) (r : ShiftRecord) (form-s : ShiftForm) (s : ShiftR
 
         at : (t : Bool) → sameSize (sizeOf form-r r) (sizeOf form-s s) ≡ t
             → (a ≡ sizeOf form-r r) × (b ≡ sizeOf form-s s) × (sizeOf form-r r ≡ sizeOf form-s s → ⊥)
-        at true h = absurd (no-sizes (differenceIn Y size r s) (differenceIn U size r s) (differenceIn «V» size r s) (by-planes form-r r form-s s h ∙ e))
+        at true h =
+            absurd (no-sizes (differenceIn Y size r s) (differenceIn U size r s) (differenceIn «V» size r s) (by-planes form-r r form-s s h ∙ e))
         at false h =
             let told : Sizes (sizeOf form-r r) (sizeOf form-s s) ≡ Sizes a b = by-sizes form-r r form-s s h ∙ e in
             (sym (ap (oursTold a) told), sym (ap (theirsTold b) told), λ one. true≢false (sym (tests-same one) ∙ h))
 
-    differ-sizes : (a ≡ sizeOf form-r r) × (b ≡ sizeOf form-s s) × (sizeOf form-r r ≡ sizeOf form-s s → ⊥) → recordDifference form-r r form-s s ≡ Sizes a b
+    differ-sizes : (a ≡ sizeOf form-r r) × (b ≡ sizeOf form-s s) × (sizeOf form-r r ≡ sizeOf form-s s → ⊥)
+        → recordDifference form-r r form-s s ≡ Sizes a b
     differ-sizes q = at (sameSize (sizeOf form-r r) (sizeOf form-s s)) refl
       where
         at : (t : Bool) → sameSize (sizeOf form-r r) (sizeOf form-s s) ≡ t → recordDifference form-r r form-s s ≡ Sizes a b
