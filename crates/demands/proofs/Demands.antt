@@ -55,9 +55,8 @@ use Rattle.segvartin.specs.Pairs.{rulesOfPairing}
 use Rattle.segvartin.proofs.Pairs.{pairing-first, pairing-writes-nothing}
 use Rattle.segvartin.proofs.Shift.{unwritten, reading-first, reading-writes-nothing, writing-first, writing-writes-nothing, record-first, record-writes-nothing}
 use Rattle.shift_file.specs.declared.ShiftForm.{ShiftForm}
-use Rattle.shift_file.specs.declared.ShiftForm.the-variants.{WithoutSettings}
 use Rattle.shift_file.specs.Read.{recordsIn}
-use Rattle.shift_file.specs.Check.{isFile}
+use Rattle.shift_file.specs.Check.{isFile, formIn}
 use Rattle.summary_check.specs.Check.{isSummary}
 use Rattle.summary_calls.specs.declared.FoundRecord.{FoundRecord}
 use Rattle.summary_calls.specs.declared.FoundRecord.the-variants.{Nowhere}
@@ -177,12 +176,12 @@ demand-1 = record {
   linked-summary-build = λ k p. record { lowest = lowest (rulesOfBuild k) refl (build-first p); writes-nothing = build-writes-nothing p };
   linked-summary-check = λ k p. (
     lowest (rulesOfCheck k) refl (check-first p),
-    λ l. p .told ∙ ap (λ (b : Bool). asNumber b ∷ []) (says-no WithoutSettings (k .file) (k .summary) (p .verdict) (p .checked) (rw (p .number) at l)),
+    λ l. p .told ∙ ap (λ (b : Bool). asNumber b ∷ []) (says-no (formIn (k .file)) (k .file) (k .summary) (p .verdict) (p .checked) (rw (p .number) at l)),
   );
   linked-summary-find = λ k p. (
     lowest (rulesOfFind k) refl (find-first p),
     λ l. p .told ∙ ap (λ (f : FoundRecord). foundCount f ∷ foundPlace f ∷ [])
-        (finds-nothing WithoutSettings (k .file) (k .summary) (k .crossing) (p .finding) (p .found) (rw (p .number) at l)),
+        (finds-nothing (formIn (k .file)) (k .file) (k .summary) (k .crossing) (p .finding) (p .found) (rw (p .number) at l)),
   );
   linked-summary-update = λ k p. record { lowest = lowest (rulesOfUpdate k) refl (update-first p); writes-nothing = update-writes-nothing p };
 }

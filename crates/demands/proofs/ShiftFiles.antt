@@ -31,7 +31,7 @@ use Rattle.shift_file.specs.File.{ShiftRecord, Allowed, isSide, recordsAt, reco
 use Rattle.shift_file.specs.Read.{recordsIn}
 use Rattle.shift_file.specs.Check.{isFile}
 use Rattle.shift_file.proofs.Record.{both, also}
-use Rattle.shift_file.proofs.File.{some-list, one-list, read-back, rewritten, one-form, its-records, is-checked, after-pairs}
+use Rattle.shift_file.proofs.File.{some-list, one-list, read-back, rewritten, one-form, form-of-file, some-form, form-of, its-records, is-checked, after-pairs}
 use Rattle.shift_reader.specs.declared.ShiftReading.{ShiftReading}
 use Rattle.shift_reader.specs.Entry.{entriesOf}
 use Rattle.shift_reader.specs.Reading.{ReadPost}
@@ -205,6 +205,9 @@ shift-files = record {
   read-back = read-back;
   rewritten = rewritten;
   one-form = one-form;
+  form-of-file = form-of-file;
+  some-form = some-form;
+  either-form = λ file none form rs f. none rs (rw (form-of form file rs f) f);
   refused = λ form file first before r after bytes p.
       by-test (isFile form file) (numbers 0 0 0) (some-list form file bytes) (λ z. omega arith) (ap (λ (x : Numbers). x .number) (p .answered));
   read = λ form file first before r after rs f p. told form file first before r after rs f p (its-records form file rs f);

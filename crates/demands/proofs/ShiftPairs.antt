@@ -12,10 +12,9 @@ use Rattle.yuv_error.specs.Numbers.{Numbers, numbers, numbersOf}
 use Rattle.yuv_error.proofs.Numbers.{is-finished}
 use Rattle.little_endian.specs.Number.{Bytes}
 use Rattle.shift_file.specs.declared.ShiftForm.{ShiftForm}
-use Rattle.shift_file.specs.declared.ShiftForm.the-variants.{WithoutSettings}
 use Rattle.shift_file.specs.File.{ShiftRecord, IsFileOf}
-use Rattle.shift_file.specs.Check.{isFile}
-use Rattle.shift_file.proofs.File.{some-list, its-records, is-checked}
+use Rattle.shift_file.specs.Check.{isFile, formIn}
+use Rattle.shift_file.proofs.File.{some-list, form-of, its-records, is-checked}
 use Rattle.record_difference.proofs.Equal.{same-is-equal}
 use Rattle.record_difference.proofs.First.{place-is-first, sizes-are-told}
 use Rattle.shift_pairs.specs.declared.Pairing.{Pairing}
@@ -71,24 +70,24 @@ module _ (our-form : ShiftForm) (ours : List ℕ) (their-form : ShiftForm) (thei
 -- ---- for who links the library
 
 module _ (k : ExportedPairing) (b : Bytes (k .ours)) (d : Bytes (k .theirs)) (p : PairingKept k) where
-  linked-none : (k .number ≡ 15) ↔ (NoFile WithoutSettings (k .ours) ⊎ NoFile WithoutSettings (k .theirs))
+  linked-none : (k .number ≡ 15) ↔ (NoFile (formIn (k .ours)) (k .ours) ⊎ NoFile (formIn (k .theirs)) (k .theirs))
   linked-none =
-      let is = is-refused WithoutSettings (k .ours) WithoutSettings (k .theirs) (p .pairing) b d (p .paired) in
+      let is = is-refused (formIn (k .ours)) (k .ours) (formIn (k .theirs)) (k .theirs) (p .pairing) b d (p .paired) in
       (λ e. is .0 (sym (p .number) ∙ e), λ none. p .number ∙ is .1 none)
 
   -- the file that is told is the one that the pairing tells
   told-is : (n : ℕ) → (k .told ≡ n ∷ []) ↔ (p .pairing .broken ≡ n)
   told-is n = (λ e. ap (λ (l : List ℕ). getD l 0 0) (sym (p .told) ∙ e), λ e. p .told ∙ ap (λ (m : ℕ). m ∷ []) e)
 
-  linked-ours : ((k .number ≡ 15) × (k .told ≡ 1 ∷ [])) ↔ NoFile WithoutSettings (k .ours)
+  linked-ours : ((k .number ≡ 15) × (k .told ≡ 1 ∷ [])) ↔ NoFile (formIn (k .ours)) (k .ours)
   linked-ours =
-      let is = ours-none WithoutSettings (k .ours) WithoutSettings (k .theirs) (p .pairing) b d (p .paired) in
+      let is = ours-none (formIn (k .ours)) (k .ours) (formIn (k .theirs)) (k .theirs) (p .pairing) b d (p .paired) in
       (λ q. is .0 (told-is 1 .0 (q .1)), λ none. (linked-none .1 (inl none), told-is 1 .1 (is .1 none)))
 
   linked-theirs : ((k .number ≡ 15) × (k .told ≡ 2 ∷ []))
-      ↔ (((rs : List ShiftRecord) × IsFileOf WithoutSettings (k .ours) rs) × NoFile WithoutSettings (k .theirs))
+      ↔ (((rs : List ShiftRecord) × IsFileOf (formIn (k .ours)) (k .ours) rs) × NoFile (formIn (k .theirs)) (k .theirs))
   linked-theirs =
-      let is = theirs-none WithoutSettings (k .ours) WithoutSettings (k .theirs) (p .pairing) b d (p .paired) in
+      let is = theirs-none (formIn (k .ours)) (k .ours) (formIn (k .theirs)) (k .theirs) (p .pairing) b d (p .paired) in
       (λ q. is .0 (told-is 2 .0 (q .1)), λ q. (linked-none .1 (inr (q .1)), told-is 2 .1 (is .1 q)))
 
 -- ---- two files
@@ -109,15 +108,18 @@ module _ (our-form : ShiftForm) (ours : List ℕ) (their-form : ShiftForm) (thei
       ∙ ap₂ (λ (a b : List ShiftRecord). reportOf (record { our-form = our-form; ours = a; their-form = their-form; theirs = b }))
       (its-records our-form ours rs f) (its-records their-form theirs ss g)
 
-module _ (k : ExportedPairing) (rs ss : List ShiftRecord) (f : IsFileOf WithoutSettings (k .ours) rs) (g : IsFileOf WithoutSettings (k .theirs) ss)
-    (p : PairingKept k) where
-  done : p .pairing .answer ≡ Finished
-  done = finished WithoutSettings (k .ours) WithoutSettings (k .theirs) (p .pairing) rs ss f g (p .paired)
+module _ (our-form their-form : ShiftForm) (k : ExportedPairing) (rs ss : List ShiftRecord) (f : IsFileOf our-form (k .ours) rs)
+    (g : IsFileOf their-form (k .theirs) ss) (p : PairingKept k) where
+  in-their-forms : PairingPost our-form (k .ours) their-form (k .theirs) (p .pairing)
+  in-their-forms = rw (form-of our-form (k .ours) rs f, form-of their-form (k .theirs) ss g) at (p .paired)
 
-  linked-report : k .report′ ≡ reportNumbers (reportOf (record { our-form = WithoutSettings; ours = rs; their-form = WithoutSettings; theirs = ss }))
+  done : p .pairing .answer ≡ Finished
+  done = finished our-form (k .ours) their-form (k .theirs) (p .pairing) rs ss f g in-their-forms
+
+  linked-report : k .report′ ≡ reportNumbers (reportOf (record { our-form = our-form; ours = rs; their-form = their-form; theirs = ss }))
   linked-report =
       p .report ∙ ap (λ (a : YuvAnswer). numbersAfter a (p .pairing .report) (k .report)) done
-      ∙ ap reportNumbers (its-report WithoutSettings (k .ours) WithoutSettings (k .theirs) (p .pairing) rs ss f g (p .paired))
+      ∙ ap reportNumbers (its-report our-form (k .ours) their-form (k .theirs) (p .pairing) rs ss f g in-their-forms)
 
 pub shift-pairs : ShiftPairs
 shift-pairs = record {
@@ -137,9 +139,9 @@ shift-pairs = record {
   linked-ours-broken = linked-ours;
   linked-theirs-broken = linked-theirs;
   linked-untouched = λ k p e. pairing-writes-nothing p (omega arith);
-  linked = λ k rs ss f g p. (
-    p .number ∙ ap (λ (a : YuvAnswer). numbersOf a .number) (done k rs ss f g p),
-    p .told ∙ ap (λ (n : ℕ). n ∷ []) (none-broken WithoutSettings (k .ours) WithoutSettings (k .theirs) (p .pairing) rs ss f g (p .paired)),
-    linked-report k rs ss f g p,
+  linked = λ our-form their-form k rs ss f g p. (
+    p .number ∙ ap (λ (a : YuvAnswer). numbersOf a .number) (done our-form their-form k rs ss f g p),
+    p .told ∙ ap (λ (n : ℕ). n ∷ []) (none-broken our-form (k .ours) their-form (k .theirs) (p .pairing) rs ss f g (in-their-forms our-form their-form k rs ss f g p)),
+    linked-report our-form their-form k rs ss f g p,
   );
 }

@@ -20,7 +20,7 @@ use Rattle.shift_file.specs.Read.{sizeAt, recordAt, recordsIn}
 use Rattle.shift_file.specs.Check.{recordStands, isFile}
 use Rattle.shift_file.proofs.Record.{both, also, stands-true, size-bytes, stands-bytes, record-bytes}
 use Rattle.shift_file.proofs.Walk.{first-of}
-use Rattle.shift_file.proofs.File.{some-list, checked-file, its-records, is-checked, after-pairs}
+use Rattle.shift_file.proofs.File.{some-list, form-of, checked-file, its-records, is-checked, after-pairs}
 use Rattle.shift_reader.proofs.Places.{record-there}
 use Rattle.shift_writer.specs.Records.{BackToBack}
 use Rattle.shift_summary.specs.Summary.{IsSummary}
@@ -203,4 +203,8 @@ shift-summaries = record {
       rw many at (summaries .built form grown before₂ b after₂ (rs ++ r ∷ []) f q done₂ .summary) in
       one-summary form (rs ++ r ∷ []) _ _ (g .has) (its-updated form file added rs r g before a after bf ba p done .summary) built;
   grown = λ form file added before w after rs r g p done. its-file form _ before w after p (rs ++ r ∷ []) (back-to-back form file added rs r g) done;
+  linked-build = λ k p form rs f. rw (form-of form (k .file) rs f) at (p .built);
+  linked-check = λ k p form rs f. rw (form-of form (k .file) rs f) at (p .checked);
+  linked-find = λ k p form rs f. rw (form-of form (k .file) rs f) at (p .found);
+  linked-update = λ k p form rs f. rw (form-of form (k .file) rs f) at (p .wrote);
 }

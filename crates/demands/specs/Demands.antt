@@ -52,7 +52,8 @@ use Rattle.little_endian.specs.Number.{Bytes}
 use Rattle.shift_file.specs.declared.ShiftForm.{ShiftForm}
 use Rattle.shift_file.specs.declared.ShiftForm.the-variants.{WithoutSettings}
 use Rattle.shift_file.specs.File.{ShiftRecord, Allowed, recordsAt, bytesOf, fileOf, HasFile, IsFileOf}
-use Rattle.shift_file.specs.Means.{SomeList, OneList, ReadBack, Rewritten, OneForm}
+use Rattle.shift_file.specs.Check.{formIn}
+use Rattle.shift_file.specs.Means.{SomeList, OneList, ReadBack, Rewritten, OneForm, FormOfFile, SomeForm}
 use Rattle.shift_reader.specs.declared.ShiftReading.{ShiftReading}
 use Rattle.shift_reader.specs.Entry.{nth, offsetOf, entriesOf}
 use Rattle.shift_reader.specs.Reading.{fileRules, ReadPost}
@@ -313,6 +314,10 @@ pub record ShiftFiles : Type 0 where
   pub read-back : ReadBack
   pub rewritten : Rewritten
   pub one-form : OneForm
+  pub form-of-file : FormOfFile
+  pub some-form : SomeForm
+  -- so bytes that are no file of the form that they tell are no file
+  pub either-form : (file : List ℕ) → NoFile (formIn file) file → (form : ShiftForm) → NoFile form file
   -- of the calls: 15, and otherwise the records
   pub refused : (form : ShiftForm) (file : List ℕ) (first : ℕ) (before : List ℕ) (r : ShiftReading) (after : List ℕ) → Bytes file
       → ReadPost form file first before r after → (numbersOf (r .answer) .number ≡ 15) ↔ NoFile form file
@@ -402,6 +407,15 @@ pub record ShiftSummaries : Type 0 where
       → Grows form file added rs r → Bytes file → Bytes added → UpdatePost form file added before a after → a ≡ Finished
       → (grown before₂ : List ℕ) (b : YuvAnswer) (after₂ : List ℕ) → IsFileOf form grown (rs ++ r ∷ []) → BuildPost form grown before₂ b after₂ → b ≡ Finished
       → take (13 * (length rs + 1)) after ≡ take (13 * (length rs + 1)) after₂
+  -- for who links the library, the same calls in the form that the file has
+  pub linked-build : (k : ExportedBuild) (p : BuildKept k) (form : ShiftForm) (rs : List ShiftRecord) → IsFileOf form (k .file) rs
+      → BuildPost form (k .file) (k .summary) (p .answer) (k .summary′)
+  pub linked-check : (k : ExportedCheck) (p : CheckKept k) (form : ShiftForm) (rs : List ShiftRecord) → IsFileOf form (k .file) rs
+      → CheckPost form (k .file) (k .summary) (p .verdict)
+  pub linked-find : (k : ExportedFind) (p : FindKept k) (form : ShiftForm) (rs : List ShiftRecord) → IsFileOf form (k .file) rs
+      → FindPost form (k .file) (k .summary) (k .crossing) (p .finding)
+  pub linked-update : (k : ExportedUpdate) (p : UpdateKept k) (form : ShiftForm) (rs : List ShiftRecord) → IsFileOf form (k .file) rs
+      → UpdatePost form (k .file) (k .added) (k .summary) (p .answer) (k .summary′)
 
 -- ---- Two shift files paired: the report is that of their records, and 15 says which of the two is no file. Two records count as equal exactly where
 -- sizes, samplings and planes are; a record has one pair or none, and both pair counts and a file's own leftovers are that file's count; the pair
@@ -428,14 +442,14 @@ pub record ShiftPairs : Type 0 where
       → (r .answer ≡ Finished) × (r .report ≡ reportOf (record { our-form = our-form; ours = rs; their-form = their-form; theirs = ss }))
   -- for who links the library: the same, and then the report is as it was
   pub linked-refused : (k : ExportedPairing) → Bytes (k .ours) → Bytes (k .theirs) → PairingKept k
-      → (k .number ≡ 15) ↔ (NoFile WithoutSettings (k .ours) ⊎ NoFile WithoutSettings (k .theirs))
+      → (k .number ≡ 15) ↔ (NoFile (formIn (k .ours)) (k .ours) ⊎ NoFile (formIn (k .theirs)) (k .theirs))
   pub linked-ours-broken : (k : ExportedPairing) → Bytes (k .ours) → Bytes (k .theirs) → PairingKept k
-      → ((k .number ≡ 15) × (k .told ≡ 1 ∷ [])) ↔ NoFile WithoutSettings (k .ours)
+      → ((k .number ≡ 15) × (k .told ≡ 1 ∷ [])) ↔ NoFile (formIn (k .ours)) (k .ours)
   pub linked-theirs-broken : (k : ExportedPairing) → Bytes (k .ours) → Bytes (k .theirs) → PairingKept k
       → ((k .number ≡ 15) × (k .told ≡ 2 ∷ []))
-      ↔ (((rs : List ShiftRecord) × IsFileOf WithoutSettings (k .ours) rs) × NoFile WithoutSettings (k .theirs))
+      ↔ (((rs : List ShiftRecord) × IsFileOf (formIn (k .ours)) (k .ours) rs) × NoFile (formIn (k .theirs)) (k .theirs))
   pub linked-untouched : (k : ExportedPairing) → PairingKept k → k .number ≡ 15 → k .report′ ≡ k .report
   -- 0, no file told, and the report in its numbers
-  pub linked : (k : ExportedPairing) (rs ss : List ShiftRecord) → IsFileOf WithoutSettings (k .ours) rs → IsFileOf WithoutSettings (k .theirs) ss
-      → PairingKept k → (k .number ≡ 0) × (k .told ≡ 0 ∷ [])
-      × (k .report′ ≡ reportNumbers (reportOf (record { our-form = WithoutSettings; ours = rs; their-form = WithoutSettings; theirs = ss })))
+  pub linked : (our-form their-form : ShiftForm) (k : ExportedPairing) (rs ss : List ShiftRecord) → IsFileOf our-form (k .ours) rs
+      → IsFileOf their-form (k .theirs) ss → PairingKept k → (k .number ≡ 0) × (k .told ≡ 0 ∷ [])
+      × (k .report′ ≡ reportNumbers (reportOf (record { our-form = our-form; ours = rs; their-form = their-form; theirs = ss })))

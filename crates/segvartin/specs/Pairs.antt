@@ -1,12 +1,12 @@
--- Two shift files paired for C and Rust: what `segvartin_call_shift_pairs` answers and leaves, which is the promise of `pair_files` in the form
--- without settings. docs/RULES.md, 10.7.
+-- Two shift files paired for C and Rust: what `segvartin_call_shift_pairs` answers and leaves, which is the promise of `pair_files` in the forms
+-- that the files have. docs/RULES.md, 10.7.
 -- Assumes nothing.
 use Prim.Native.Nat.{ℕ}
 use mathlib.Core.Path.{_≡_}
 use mathlib.Core.List.{List, [], _∷_}
 use Rattle.yuv_error.specs.Numbers.{numbersOf}
 use Rattle.yuv_error.specs.Rules.{Rule}
-use Rattle.shift_file.specs.declared.ShiftForm.the-variants.{WithoutSettings}
+use Rattle.shift_file.specs.Check.{formIn}
 use Rattle.shift_pairs.specs.declared.Pairing.{Pairing}
 use Rattle.shift_pairs.specs.Pairing.{pairingRules, PairingPost}
 use Rattle.report_numbers.specs.Numbers.{pairingNumbers}
@@ -27,7 +27,7 @@ exportedPairing ours theirs report number told report′ =
 
 -- RULES 10.7: 15
 abbrev pub rulesOfPairing : ExportedPairing → List Rule
-rulesOfPairing k = pairingRules WithoutSettings (k .ours) WithoutSettings (k .theirs)
+rulesOfPairing k = pairingRules (formIn (k .ours)) (k .ours) (formIn (k .theirs)) (k .theirs)
 
 -- RULES 10.7: the promise of `pair_files`; told is the file that is none, and the report is in its numbers
 pub record PairingKept (k : ExportedPairing) : Type 0 where
@@ -35,4 +35,4 @@ pub record PairingKept (k : ExportedPairing) : Type 0 where
   pub number : k .number ≡ numbersOf (pairing .answer) .number
   pub told : k .told ≡ pairing .broken ∷ []
   pub report : k .report′ ≡ pairingNumbers pairing (k .report)
-  pub paired : PairingPost WithoutSettings (k .ours) WithoutSettings (k .theirs) pairing
+  pub paired : PairingPost (formIn (k .ours)) (k .ours) (formIn (k .theirs)) (k .theirs) pairing

@@ -1,5 +1,5 @@
 -- The summary of a shift file for C and Rust: what the four calls `segvartin_call_summary_build`, `_check`, `_find` and `_update` answer and leave, which
--- is the promise of the call under each, in the form without settings. docs/RULES.md, 10.6.
+-- is the promise of the call under each, in the form that the file has. docs/RULES.md, 10.6.
 -- Assumes nothing.
 use Prim.Native.Nat.{ℕ}
 use mathlib.Core.Path.{_≡_}
@@ -9,7 +9,7 @@ use lib.ListN.{length}
 use Rattle.yuv_error.specs.declared.YuvAnswer.{YuvAnswer}
 use Rattle.yuv_error.specs.Numbers.{numbersOf}
 use Rattle.yuv_error.specs.Rules.{Rule}
-use Rattle.shift_file.specs.declared.ShiftForm.the-variants.{WithoutSettings}
+use Rattle.shift_file.specs.Check.{formIn}
 use Rattle.shift_reader.specs.Reading.{fileRules}
 use Rattle.summary_calls.specs.declared.FoundRecord.{FoundRecord}
 use Rattle.summary_calls.specs.declared.FoundRecord.the-variants.{At, Nowhere}
@@ -33,13 +33,13 @@ exportedBuild file summary number summary′ = record { file = file; summary = s
 
 -- RULES 10.6: 15, 17
 abbrev pub rulesOfBuild : ExportedBuild → List Rule
-rulesOfBuild k = buildRules WithoutSettings (k .file) (length (k .summary))
+rulesOfBuild k = buildRules (formIn (k .file)) (k .file) (length (k .summary))
 
 -- RULES 10.6: the promise of `build_summary`
 pub record BuildKept (k : ExportedBuild) : Type 0 where
   pub answer : YuvAnswer
   pub number : k .number ≡ numbersOf answer .number
-  pub built : BuildPost WithoutSettings (k .file) (k .summary) answer (k .summary′)
+  pub built : BuildPost (formIn (k .file)) (k .file) (k .summary) answer (k .summary′)
 
 -- ---- `segvartin_call_summary_check`
 
@@ -56,7 +56,7 @@ exportedCheck file summary number told = record { file = file; summary = summary
 
 -- RULES 10.6: 15
 abbrev pub rulesOfCheck : ExportedCheck → List Rule
-rulesOfCheck k = fileRules WithoutSettings (k .file)
+rulesOfCheck k = fileRules (formIn (k .file)) (k .file)
 
 -- RULES 10.6: 1 for yes, 0 for no
 abbrev pub asNumber : Bool → ℕ
@@ -68,7 +68,7 @@ pub record CheckKept (k : ExportedCheck) : Type 0 where
   pub verdict : SummaryVerdict
   pub number : k .number ≡ numbersOf (verdict .answer) .number
   pub told : k .told ≡ asNumber (verdict .«is_summary») ∷ []
-  pub checked : CheckPost WithoutSettings (k .file) (k .summary) verdict
+  pub checked : CheckPost (formIn (k .file)) (k .file) (k .summary) verdict
 
 -- ---- `segvartin_call_summary_find`
 
@@ -87,7 +87,7 @@ exportedFind file summary crossing number told =
 
 -- RULES 10.6: 15, 17
 abbrev pub rulesOfFind : ExportedFind → List Rule
-rulesOfFind k = findRules WithoutSettings (k .file) (k .summary)
+rulesOfFind k = findRules (formIn (k .file)) (k .file) (k .summary)
 
 -- RULES 10.6: how many records were found, 1 or 0
 abbrev pub foundCount : FoundRecord → ℕ
@@ -104,7 +104,7 @@ pub record FindKept (k : ExportedFind) : Type 0 where
   pub finding : SummaryFinding
   pub number : k .number ≡ numbersOf (finding .answer) .number
   pub told : k .told ≡ foundCount (finding .found) ∷ foundPlace (finding .found) ∷ []
-  pub found : FindPost WithoutSettings (k .file) (k .summary) (k .crossing) finding
+  pub found : FindPost (formIn (k .file)) (k .file) (k .summary) (k .crossing) finding
 
 -- ---- `segvartin_call_summary_update`
 
@@ -123,10 +123,10 @@ exportedUpdate file added summary number summary′ =
 
 -- RULES 10.6: 15, 17
 abbrev pub rulesOfUpdate : ExportedUpdate → List Rule
-rulesOfUpdate k = updateRules WithoutSettings (k .file) (k .added) (k .summary)
+rulesOfUpdate k = updateRules (formIn (k .file)) (k .file) (k .added) (k .summary)
 
 -- RULES 10.6: the promise of `update_summary`
 pub record UpdateKept (k : ExportedUpdate) : Type 0 where
   pub answer : YuvAnswer
   pub number : k .number ≡ numbersOf answer .number
-  pub wrote : UpdatePost WithoutSettings (k .file) (k .added) (k .summary) answer (k .summary′)
+  pub wrote : UpdatePost (formIn (k .file)) (k .file) (k .added) (k .summary) answer (k .summary′)

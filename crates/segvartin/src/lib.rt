@@ -275,7 +275,7 @@ pub extern "C" fn segvartin_call_shift_record(
     tell_written(written, told)
 }
 
-// ---- The summary of a shift file. Its refusals 15 and 17 come without expected and received.
+// ---- The summary of a shift file of either form. Its refusals 15 and 17 come without expected and received.
 
 fn number_of(answer: YuvAnswer) -> u32
     ensures { λ n. ⌜ n ≡ numbersOf answer .number ⌝ }
@@ -290,7 +290,7 @@ fn number_of(answer: YuvAnswer) -> u32
 pub extern "C" fn segvartin_call_summary_build(file: &[u8], summary: &mut [u8]) -> u32
     ensures { λ n. ⌜ BuildKept (exportedBuild (now (file .entry)) (now (summary .entry)) n (now (summary .exit))) ⌝ }
 {
-    let answer = summary_calls::build_summary(ShiftForm::WithoutSettings, file, summary);
+    let answer = summary_calls::build_summary(shift_file::form_of(file), file, summary);
     number_of(answer)
 }
 
@@ -318,7 +318,7 @@ pub extern "C" fn segvartin_call_summary_check(
 ) -> u32
     ensures { λ n. ⌜ CheckKept (exportedCheck (now (file .entry)) (now (summary .entry)) n (now (told .exit))) ⌝ }
 {
-    let verdict = summary_calls::check_summary(ShiftForm::WithoutSettings, file, summary);
+    let verdict = summary_calls::check_summary(shift_file::form_of(file), file, summary);
     tell_verdict(verdict, told)
 }
 
@@ -363,7 +363,7 @@ pub extern "C" fn segvartin_call_summary_find(
 ) -> u32
     ensures { λ n. ⌜ FindKept (exportedFind (now (file .entry)) (now (summary .entry)) crossing n (now (told .exit))) ⌝ }
 {
-    let finding = summary_calls::find_record(ShiftForm::WithoutSettings, file, summary, crossing);
+    let finding = summary_calls::find_record(shift_file::form_of(file), file, summary, crossing);
     tell_finding(finding, told)
 }
 
@@ -377,7 +377,7 @@ pub extern "C" fn segvartin_call_summary_update(
 ) -> u32
     ensures { λ n. ⌜ UpdateKept (exportedUpdate (now (file .entry)) (now (added .entry)) (now (summary .entry)) n (now (summary .exit))) ⌝ }
 {
-    let answer = summary_update::update_summary(ShiftForm::WithoutSettings, file, added, summary);
+    let answer = summary_update::update_summary(shift_file::form_of(file), file, added, summary);
     number_of(answer)
 }
 
@@ -391,11 +391,11 @@ fn tell_broken(pairing: Pairing, told: &mut [usize]) -> u32
     numbered.number
 }
 
-// Pairs two shift files, the k-th record of a crossing in ours with the k-th in theirs (0); or answers 15 where one is no shift file, and writes no
-// number of the report. report: how many pairs are equal and how many differ, how many records are only in ours and only in theirs; of the first
-// pair that differs the kind (0 none, 1 sizes, 2 a place), its crossing, the places of its records in ours and in theirs; for sizes width and height
-// of ours and of theirs; for a place plane (0 Y, 1 U, 2 V), row and column; three times 0. told: the file that is none, 1 for ours, 2 for
-// theirs, or 0.
+// Pairs two shift files, each of either form, the k-th record of a crossing in ours with the k-th in theirs (0); or answers 15 where one is no shift
+// file, and writes no number of the report. report: how many pairs are equal and how many differ, how many records are only in ours and only in
+// theirs; of the first pair that differs the kind (0 none, 1 sizes, 2 a place), its crossing, the places of its records in ours and in theirs; for
+// sizes width and height of ours and of theirs; for a place plane (0 Y, 1 U, 2 V), row and column; three times 0. told: the file that is none, 1 for
+// ours, 2 for theirs, or 0.
 #[no_mangle]
 pub extern "C" fn segvartin_call_shift_pairs(
     ours: &[u8],
@@ -405,12 +405,9 @@ pub extern "C" fn segvartin_call_shift_pairs(
 ) -> u32
     ensures { λ n. ⌜ PairingKept (exportedPairing (now (ours .entry)) (now (theirs .entry)) (now (report .entry)) n (now (told .exit)) (now (report .exit))) ⌝ }
 {
-    let pairing = shift_pairs::pair_files(
-        ShiftForm::WithoutSettings,
-        ours,
-        ShiftForm::WithoutSettings,
-        theirs,
-    );
+    let our_form = shift_file::form_of(ours);
+    let their_form = shift_file::form_of(theirs);
+    let pairing = shift_pairs::pair_files(our_form, ours, their_form, theirs);
     report_numbers::tell_pairing(pairing, report);
     tell_broken(pairing, told)
 }

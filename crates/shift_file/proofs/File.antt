@@ -9,15 +9,15 @@ use native.Mathlib.Omega.{arith}
 use lib.Dec.{leb, eqb}
 use lib.ListN.{length, getD, take, drop, length-append, length-drop, take-append-drop}
 use lib.Seq.{drop-drop, drop-at}
-use borrow.Author.Tests.{leb-true, le-leb, eqb-true, eq-eqb}
+use borrow.Author.Tests.{leb-true, le-leb, eqb-true, eq-eqb, ne-eqb}
 use Rattle.little_endian.specs.Number.{Bytes, lowBytes, numberIn}
 use Rattle.little_endian.proofs.Number.{length-low, bytes-drop, number-low, low-number, low-rest, drop-low}
 use Rattle.shift_file.specs.declared.ShiftForm.{ShiftForm}
 use Rattle.shift_file.specs.declared.ShiftForm.the-variants.{WithoutSettings, WithSettings}
 use Rattle.shift_file.specs.File.{ShiftRecord, EachAllowed, HasFile, IsFileOf, mark, markSize, pairsAt, recordsAt, bytesOf, pairsOf, recordBytes, fileOf}
 use Rattle.shift_file.specs.Read.{countAt, recordsIn}
-use Rattle.shift_file.specs.Check.{isMarked, recordsFollow, isFile}
-use Rattle.shift_file.specs.Means.{SomeList, OneList, ReadBack, Rewritten, OneForm}
+use Rattle.shift_file.specs.Check.{isMarked, recordsFollow, isFile, formIn}
+use Rattle.shift_file.specs.Means.{SomeList, OneList, ReadBack, Rewritten, OneForm, FormOfFile, SomeForm}
 use Rattle.shift_file.proofs.Record.{both, also, size-most}
 use Rattle.shift_file.proofs.Walk.{Walked, walk-records, records-walk, records-are, pair-drop}
 
@@ -151,14 +151,28 @@ pub some-list : SomeList
 some-list form b bytes = (λ e. (recordsIn form b, checked-file form b bytes e .file), λ f. is-checked form b (f .0) (f .1))
 
 -- a count is not as large as the mark
-pub one-form : OneForm
-unfolding isFile countAt
-one-form b e f =
+pub form-of-file : FormOfFile
+unfolding isFile countAt formIn
+form-of-file WithSettings b e =
     let p = both (leb 8 (length b)) _ e in
     let q = both (eqb (numberIn 4 b) 4294967295) _ (p .1) in
-    let r = both (leb 4 (length b)) _ f in
-    let t = both (leb (numberIn 4 b) 4096) _ (r .1) in
-    omega (arith, eqb-true (numberIn 4 b) 4294967295 (q .0), leb-true (numberIn 4 b) 4096 (t .0))
+    rw (le-leb 4 (length b) (omega (arith, leb-true 8 (length b) (p .0))), q .0)
+form-of-file WithoutSettings b e =
+    let p = both (leb 4 (length b)) _ e in
+    let q = both (leb (numberIn 4 b) 4096) _ (p .1) in
+    rw (p .0, ne-eqb (numberIn 4 b) 4294967295 (λ z. omega (arith, leb-true (numberIn 4 b) 4096 (q .0))))
+
+pub form-of : (form : ShiftForm) (b : List ℕ) (rs : List ShiftRecord) → IsFileOf form b rs → formIn b ≡ form
+form-of form b rs f = form-of-file form b (is-checked form b rs f)
+
+pub some-form : SomeForm
+some-form b = (λ e. (formIn b, e), λ f. rw (form-of-file (f .0) b (f .1)) (f .1))
+
+pub one-form : OneForm
+one-form b e f =
+    let same : WithSettings ≡ WithoutSettings = sym (form-of-file WithSettings b e) ∙ form-of-file WithoutSettings b f in
+    let never : _≡_ {A = ℕ} 0 1 = cc in
+    omega arith
 
 -- ---- where record k stands
 

@@ -49,3 +49,7 @@ recordsFollow form b n = leb (recordsAt form n) (length b) && walk form b (pairs
 unfoldable pub isFile : ShiftForm → List ℕ → Bool
 isFile form b =
     leb (pairsAt form) (length b) && (isMarked form b && (leb (countAt form b) 4096 && recordsFollow form b (countAt form b)))
+
+-- RULES 11.7: the form that bytes have, by the mark; whether they are a file of it is the check's to say
+unfoldable pub formIn : List ℕ → ShiftForm
+formIn b = cond (leb 4 (length b) && eqb (numberIn 4 b) 4294967295) WithSettings WithoutSettings

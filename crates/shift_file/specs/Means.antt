@@ -10,7 +10,7 @@ use Rattle.shift_file.specs.declared.ShiftForm.{ShiftForm}
 use Rattle.shift_file.specs.declared.ShiftForm.the-variants.{WithoutSettings, WithSettings}
 use Rattle.shift_file.specs.File.{ShiftRecord, HasFile, IsFileOf, fileOf}
 use Rattle.shift_file.specs.Read.{recordsIn}
-use Rattle.shift_file.specs.Check.{isFile}
+use Rattle.shift_file.specs.Check.{isFile, formIn}
 
 -- RULES 11.3: bytes are a file exactly where some list of records has them
 abbrev pub SomeList : Type 0
@@ -31,3 +31,11 @@ Rewritten = (form : ShiftForm) (file : List ℕ) → Bytes file → isFile form 
 -- RULES 11.7: no bytes are a file of both forms
 abbrev pub OneForm : Type 0
 OneForm = (file : List ℕ) → isFile WithSettings file ≡ true → isFile WithoutSettings file ≡ true → ⊥
+
+-- RULES 11.7: the form of a file is the one that its first bytes tell
+abbrev pub FormOfFile : Type 0
+FormOfFile = (form : ShiftForm) (file : List ℕ) → isFile form file ≡ true → formIn file ≡ form
+
+-- RULES 11.7: bytes are a file of the form that they tell exactly where they are one of some form
+abbrev pub SomeForm : Type 0
+SomeForm = (file : List ℕ) → (isFile (formIn file) file ≡ true) ↔ ((form : ShiftForm) × (isFile form file ≡ true))

@@ -8,7 +8,7 @@ ghost use lib.ListN.{length, take, drop};
 ghost use Rattle.yuv_support.specs.Sampling.{chromaWidth, chromaHeight};
 ghost use Rattle.shift_file.specs.File.{markSize, settingsSize, headerSize, pairsAt, isCode, isSide, codesAllowed, samplingOf};
 ghost use Rattle.shift_file.specs.Read.{settingsAt, sizeAt, countAt};
-ghost use Rattle.shift_file.specs.Check.{shapeAllowed, recordStands, pairIs, nextSize, walk, isMarked, recordsFollow, isFile};
+ghost use Rattle.shift_file.specs.Check.{shapeAllowed, recordStands, pairIs, nextSize, walk, isMarked, recordsFollow, isFile, formIn};
 
 // Which of its two forms a file has.
 pub enum ShiftForm {
@@ -255,4 +255,18 @@ pub fn is_file(form: ShiftForm, file: &[u8]) -> bool
         return false;
     }
     records_follow(form, file, count as usize)
+}
+
+// Which form a file has, by the mark that it begins with or not: no other form can be a file's.
+pub fn form_of(file: &[u8]) -> ShiftForm
+    ensures { λ r. ⌜ r ≡ formIn (now (file .entry)) ⌝ }
+{
+    if file.len() < 4 {
+        return ShiftForm::WithoutSettings;
+    }
+    if little_endian::read_u32(file, 0) == MARK {
+        ShiftForm::WithSettings
+    } else {
+        ShiftForm::WithoutSettings
+    }
 }

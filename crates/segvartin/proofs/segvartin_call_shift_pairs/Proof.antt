@@ -9,15 +9,16 @@ returns : tie.Need-returns
 returns c =
     let t = c .before .before in
     let p = t .before .before in
-    let a = p .before .before .before .args in
+    let f = p .before in
+    let a = f .before .before .before .before .args in
     record {
       pairing = p .pair-files .result;
       number = c .tell-broken .ensures .0;
       told = c .tell-broken .ensures .1 ∙ one-told (a .told .now) _ (c .before .tell-broken-arg .given .0 .1);
       report = t .tell-pairing .ensures;
-      paired = p .pair-files .ensures;
+      paired = rw (← f .before .form-of .ensures, ← f .form-of2 .ensures) (p .pair-files .ensures);
     }
 
 pub segvartin-call-shift-pairs-spec : {M : Type 1} → statement M
 segvartin-call-shift-pairs-spec =
-    tie.close (tie.spec (λ c κs. search needs) (λ c κs. search needs) (λ c κs. search needs) returns)
+    tie.close (tie.spec (λ c κs. search needs) (λ c κs. search needs) (λ c κs. search needs) (λ c κs. search needs) (λ c κs. search needs) returns)

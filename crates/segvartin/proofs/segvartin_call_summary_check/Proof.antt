@@ -9,13 +9,13 @@ use Rattle.segvartin.proofs.segvartin_call_summary_check.Tie as tie
 returns : tie.Need-returns
 returns c =
     let r = c .before .before in
-    let a = r .before .before .before .args in
+    let a = r .before .before .before .before .args in
     record {
       verdict = r .check-summary .result;
       number = c .tell-verdict .ensures .0;
       told = c .tell-verdict .ensures .1 ∙ one-told (a .told .now) _ (c .before .tell-verdict-arg .given .0 .1);
-      checked = r .check-summary .ensures;
+      checked = rw (← r .before .form-of .ensures) (r .check-summary .ensures);
     }
 
 pub segvartin-call-summary-check-spec : {M : Type 1} → statement M
-segvartin-call-summary-check-spec = tie.close (tie.spec (λ c κs. search needs) (λ c κs. search needs) returns)
+segvartin-call-summary-check-spec = tie.close (tie.spec (λ c κs. search needs) (λ c κs. search needs) (λ c κs. search needs) returns)

@@ -9,13 +9,13 @@ use Rattle.segvartin.proofs.segvartin_call_summary_find.Tie as tie
 returns : tie.Need-returns
 returns c =
     let r = c .before .before in
-    let a = r .before .before .before .args in
+    let a = r .before .before .before .before .args in
     record {
       finding = r .find-record .result;
       number = c .tell-finding .ensures .0;
       told = c .tell-finding .ensures .1 ∙ two-told (a .told .now) _ _ (c .before .tell-finding-arg .given .0 .1);
-      found = r .find-record .ensures;
+      found = rw (← r .before .form-of .ensures) (r .find-record .ensures);
     }
 
 pub segvartin-call-summary-find-spec : {M : Type 1} → statement M
-segvartin-call-summary-find-spec = tie.close (tie.spec (λ c κs. search needs) (λ c κs. search needs) returns)
+segvartin-call-summary-find-spec = tie.close (tie.spec (λ c κs. search needs) (λ c κs. search needs) (λ c κs. search needs) returns)

@@ -1,0 +1,18 @@
+-- `segvartin_call_summary_build` meets its contract: its number is that of `build_summary`'s answer, in the form that the file has.
+-- Assumes nothing.
+use borrow.Author.Needs.{needs}
+use Rattle.segvartin.proofs.segvartin_call_summary_build.Statement.{statement}
+use Rattle.segvartin.proofs.segvartin_call_summary_build.Tie as tie
+
+returns : tie.Need-returns
+returns c =
+    let m = c .before .before .before in
+    record {
+      answer = m .build-summary .result;
+      number = c .number-of .ensures;
+      built = rw (← m .before .before .form-of .ensures) (m .build-summary .ensures);
+    }
+
+pub segvartin-call-summary-build-spec : {M : Type 1} → statement M
+segvartin-call-summary-build-spec =
+    tie.close (tie.spec (λ c κs. search needs) (λ c κs. search needs) (λ c κs. search needs) (λ c. search needs) returns)
