@@ -41,6 +41,7 @@ pub enum YuvError {
     MalformedShiftFile,
     OutputTooShort,
     SummaryMismatch,
+    SettingsRecorded,
 }
 
 // What a call answers: finished work, or one refusal.

@@ -57,10 +57,14 @@ returns-16 c = sym (ap errorNumbers (c .enum-told8 .given .1))
 returns-17 : tie.Need-returns-17
 returns-17 c = sym (ap errorNumbers (c .enum-told9 .given .1))
 
+returns-18 : tie.Need-returns-18
+returns-18 c = sym (ap errorNumbers (c .enum-told10 .given .1))
+
 pub error-numbers-spec : {M : Type 1} → statement M
 error-numbers-spec =
     tie.close
     (tie.spec
+    (λ c. search needs)
     (λ c. search needs)
     (λ c. search needs)
     (λ c. search needs)
@@ -94,4 +98,5 @@ error-numbers-spec =
     returns-14
     returns-15
     returns-16
-    returns-17)
+    returns-17
+    returns-18)
