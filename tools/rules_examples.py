@@ -419,72 +419,115 @@ def counts_program(given):
 # ---- chapter 11
 
 MOST_RECORDS = 4096
-Entry = namedtuple('Entry', 'crossing w h offset length y y_length u u_length v v_length')
+Entry = namedtuple('Entry', 'crossing w h offset length y y_length u u_length v v_length sampling range matrix transfer')
+WITHOUT, WITH = 0, 1  # the forms, by the numbers of 10.5
+NOT_RECORDED = 255
+UNSAID = bytes([0, NOT_RECORDED, NOT_RECORDED, NOT_RECORDED])  # what a record without settings has by 11.7
 
 
 def low_first(value, count):
     return value.to_bytes(count, 'little')
 
 
-def plane_sizes(w, h):
-    cw, ch = chroma_size(Settings(), w, h)
+MARK = low_first(4294967295, 4)
+
+
+def plane_sizes(w, h, sampling=0):
+    cw, ch = chroma_size(Settings(sampling=CODES['sampling'][sampling]), w, h)
     return w * h, cw * ch, cw * ch
 
 
-def record_of(crossing, w, h, planes):
-    return low_first(crossing, 4) + low_first(w, 2) + low_first(h, 2) + b''.join(planes)
+def are_settings(four):
+    """11.7: whether a record may have these as sampling, range, matrix and transfer."""
+    counts = [len(CODES[setting]) + (setting == 'matrix') for setting in ('sampling', 'range', 'matrix', 'transfer')]
+    return four[0] < counts[0] and all(code < count or code == NOT_RECORDED for code, count in zip(four[1:], counts[1:]))
 
 
-def file_of(records):
-    pairs, offset = b'', 4 + 12 * len(records)
+def record_of(crossing, w, h, planes, settings=b''):
+    """11.2; with four bytes of settings 11.7."""
+    return low_first(crossing, 4) + low_first(w, 2) + low_first(h, 2) + settings + b''.join(planes)
+
+
+def start_of(form, count):
+    """The bytes before the first record."""
+    return 4 + 4 * form + 12 * count
+
+
+def file_of(records, form=WITHOUT):
+    pairs, offset = b'', start_of(form, len(records))
     for record in records:
         pairs += low_first(offset, 8) + low_first(len(record), 4)
         offset += len(record)
-    return low_first(len(records), 4) + pairs + b''.join(records)
+    return MARK * form + low_first(len(records), 4) + pairs + b''.join(records)
 
 
-def records_in(data):
-    """The records that stand back to back, or None."""
-    records, at = [], 0
+def settings_in(record, form):
+    return record[8:12] if form else UNSAID
+
+
+def records_in(data, form=WITHOUT):
+    """The records of this form that stand back to back, or None."""
+    records, at, header_length = [], 0, 8 + 4 * form
     while at < len(data):
-        header = data[at:at + 8]
+        header = data[at:at + header_length]
         w, h = int.from_bytes(header[4:6], 'little'), int.from_bytes(header[6:8], 'little')
-        length = 8 + sum(plane_sizes(w, h))
-        if len(header) < 8 or not (1 <= w <= 16384 and 1 <= h <= 16384) or at + length > len(data):
+        if len(header) < header_length or not (1 <= w <= 16384 and 1 <= h <= 16384) or not are_settings(settings_in(header, form)):
+            return None
+        length = header_length + sum(plane_sizes(w, h, settings_in(header, form)[0]))
+        if at + length > len(data):
             return None
         records.append(data[at:at + length])
         at += length
     return records if len(records) <= MOST_RECORDS else None
 
 
-def records_of(data):
-    """The records of a file, or None: those of the one list that may have these bytes."""
-    n = int.from_bytes(data[:4], 'little')
-    records = records_in(data[4 + 12 * n:]) if len(data) >= 4 and n <= MOST_RECORDS else None
-    return records if records is not None and file_of(records) == data else None
+def records_of(data, form=WITHOUT):
+    """The records of a file of this form, or None: those of the one list that may have these bytes."""
+    at = 4 * form
+    n = int.from_bytes(data[at:at + 4], 'little')
+    records = records_in(data[start_of(form, n):], form) if len(data) >= at + 4 and n <= MOST_RECORDS else None
+    return records if records is not None and file_of(records, form) == data else None
 
 
-def entries_of(data):
-    """An entry for each record of a file, or None."""
-    records = records_of(data)
+def form_of(data):
+    """The form of which these bytes are a file, or None."""
+    return next((form for form in (WITHOUT, WITH) if records_of(data, form) is not None), None)
+
+
+def entries_of(data, form=WITHOUT):
+    """An entry for each record of a file of this form, or None."""
+    records = records_of(data, form)
     if records is None:
         return None
-    entries, offset = [], 4 + 12 * len(records)
+    entries, offset = [], start_of(form, len(records))
     for record in records:
         crossing, w, h = (int.from_bytes(record[a:b], 'little') for a, b in ((0, 4), (4, 6), (6, 8)))
-        parts, at = [], offset + 8
-        for size in plane_sizes(w, h):
+        settings = settings_in(record, form)
+        parts, at = [], offset + 8 + 4 * form
+        for size in plane_sizes(w, h, settings[0]):
             parts += [at, size]
             at += size
-        entries.append(Entry(crossing, w, h, offset, len(record), *parts))
+        entries.append(Entry(crossing, w, h, offset, len(record), *parts, *settings))
         offset += len(record)
     return entries
 
 
+def any_entries(data):
+    """The same of a file of either form."""
+    form = form_of(data)
+    return None if form is None else entries_of(data, form)
+
+
 def read_call(data, first, room):
-    """11.4: the answer, how many records, and the entries written."""
+    """11.4: the answer, how many records, and the entries written, of eleven numbers."""
     entries = entries_of(data)
-    return (15, 0, []) if entries is None else (0, len(entries), entries[first:first + room])
+    return (15, 0, []) if entries is None else (0, len(entries), [entry[:11] for entry in entries[first:first + room]])
+
+
+def read_any_call(data, first, room):
+    """11.4: the same of either form, entries of fifteen numbers, and the form, 0 where there is none."""
+    entries = any_entries(data)
+    return (15, 0, [], 0) if entries is None else (0, len(entries), entries[first:first + room], form_of(data))
 
 
 def put(output, data):
@@ -495,25 +538,54 @@ def put(output, data):
     return 0
 
 
-def write_call(data, output):
+def write_call(data, output, form=WITHOUT):
     """11.5: the answer and the size."""
-    records = records_in(data)
-    return (15, 0) if records is None else (put(output, file_of(records)), len(file_of(records)))
+    records = records_in(data, form)
+    return (15, 0) if records is None else (put(output, file_of(records, form)), len(file_of(records, form)))
 
 
-def record_call(crossing, w, h, strides, planes, output):
-    """11.6: the answer, three numbers, and the size."""
-    if not (1 <= w <= 16384 and 1 <= h <= 16384):
+def record_call(crossing, w, h, strides, planes, output, four=None):
+    """11.6: the answer, three numbers, and the size; with settings where four numbers are given."""
+    if not (1 <= w <= 16384 and 1 <= h <= 16384) or four is not None and not are_settings(four):
         return (15, 0, 0), 0
+    s = Settings(sampling=CODES['sampling'][four[0] if four else 0])
     # a source that no condition holds of
-    found = buffers(Settings(), w, h, 1, [3 * w, *strides], [3 * w, *map(len, planes)], whole(w, h))
+    found = buffers(s, w, h, 1, [3 * w, *strides], [3 * w, *map(len, planes)], whole(w, h))
     if found:
         return found, 0
-    cw, ch = chroma_size(Settings(), w, h)
+    cw, ch = chroma_size(s, w, h)
     rows = [b''.join(bytes(plane[r * stride:r * stride + row]) for r in range(count))
             for plane, stride, row, count in zip(planes, strides, (w, cw, cw), (h, ch, ch))]
-    record = record_of(crossing, w, h, rows)
+    record = record_of(crossing, w, h, rows, bytes(four or ()))
     return (put(output, record), 0, 0), len(record)
+
+
+def forward(record):
+    return record[:8] + UNSAID + record[8:]
+
+
+def back(record):
+    return record[:8] + record[12:]
+
+
+def forward_call(data, output):
+    """11.8: the answer and the size."""
+    records = records_of(data, WITHOUT)
+    if records is None:
+        return 15, 0
+    moved = file_of([forward(record) for record in records], WITH)
+    return put(output, moved), len(moved)
+
+
+def back_call(data, output):
+    """11.8: the answer and the size."""
+    records = records_of(data, WITH)
+    if records is None:
+        return 15, 0
+    if any(settings_in(record, WITH) != UNSAID for record in records):
+        return 20, 0
+    moved = file_of([back(record) for record in records], WITHOUT)
+    return put(output, moved), len(moved)
 
 
 # ---- chapter 12
@@ -530,19 +602,19 @@ def crossing_in(entry):
 
 def summary_in(data):
     """12.3: the summary of a file. Entries stand by offset in it, and sorting leaves equal ones in their order."""
-    return b''.join(sorted((entry_of(entry, data) for entry in entries_of(data)), key=crossing_in))
+    return b''.join(sorted((entry_of(entry, data) for entry in any_entries(data)), key=crossing_in))
 
 
 def check_call(data, buffer):
     """12.5: the answer, and whether it is yes."""
-    if entries_of(data) is None:
+    if any_entries(data) is None:
         return 15, False
-    return 0, bytes(buffer[:13 * len(entries_of(data))]) == summary_in(data)
+    return 0, bytes(buffer[:13 * len(any_entries(data))]) == summary_in(data)
 
 
 def build_call(data, buffer):
     """12.4: the answer."""
-    if entries_of(data) is None:
+    if any_entries(data) is None:
         return 15
     return 17 if put(buffer, summary_in(data)) else 0
 
@@ -552,18 +624,21 @@ def find_call(data, buffer, crossing):
     number, yes = check_call(data, buffer)
     if number or not yes:
         return number or 17, None
-    found = [k for k, entry in enumerate(entries_of(data)) if entry.crossing == crossing]
+    found = [k for k, entry in enumerate(any_entries(data)) if entry.crossing == crossing]
     return 0, min(found, default=None)
 
 
 def update_call(data, record, buffer):
     """12.7: the answer."""
-    records, added = records_of(data), records_in(record)
-    if records is None or added is None or len(added) != 1 or len(records) == MOST_RECORDS:
+    form = form_of(data)
+    if form is None:
+        return 15
+    records, added = records_of(data, form), records_in(record, form)
+    if added is None or len(added) != 1 or len(records) == MOST_RECORDS:
         return 15
     if len(buffer) < 13 * (len(records) + 1) or not check_call(data, buffer)[1]:
         return 17
-    return build_call(file_of(records + added), buffer)
+    return build_call(file_of(records + added, form), buffer)
 
 
 # ---- chapter 13
@@ -577,37 +652,43 @@ def pairs_of(ours, theirs):
     return [pair for crossing in sorted(places[0]) for pair in zip(places[0][crossing], places[1].get(crossing, []))]
 
 
-def size_in(record):
-    return int.from_bytes(record[4:6], 'little'), int.from_bytes(record[6:8], 'little')
+def looks(form, records):
+    """What 13.2 looks at in each record: w, h and sampling, and the planes."""
+    found = []
+    for record in records:
+        size = int.from_bytes(record[4:6], 'little'), int.from_bytes(record[6:8], 'little'), settings_in(record, form)[0]
+        found.append((size, record[8 + 4 * form:]))
+    return found
 
 
 def difference_of(ours, theirs):
-    """13.2, 13.3: None of equal records; both sizes; or plane, row and column."""
-    if size_in(ours) != size_in(theirs):
-        return size_in(ours) + size_in(theirs)
-    w, h = size_in(ours)
-    at = 8
-    for plane, (size, width) in enumerate(zip(plane_sizes(w, h), (w, (w + 1) // 2, (w + 1) // 2))):
-        for k in range(size):
-            if ours[at + k] != theirs[at + k]:
+    """13.2, 13.3: None of equal records; both sizes with their samplings; or plane, row and column."""
+    (size, our_planes), (other, their_planes) = ours, theirs
+    if size != other:
+        return size, other
+    w, h, sampling = size
+    at = 0
+    for plane, (length, width) in enumerate(zip(plane_sizes(w, h, sampling), (w, (w + 1) // 2, (w + 1) // 2))):
+        for k in range(length):
+            if our_planes[at + k] != their_planes[at + k]:
                 return plane, k // width, k % width
-        at += size
+        at += length
     return None
 
 
-def report_of(ours, theirs):
+def report_of(ours, theirs, our_form=WITHOUT, their_form=WITHOUT):
     """13.2, 13.3: the four counts, and of the first difference the crossing, both places, and the difference."""
-    pairs = pairs_of(ours, theirs)
-    differ = [(crossing_in(ours[i]), i, j, difference_of(ours[i], theirs[j])) for i, j in pairs if difference_of(ours[i], theirs[j])]
+    pairs, our_looks, their_looks = pairs_of(ours, theirs), looks(our_form, ours), looks(their_form, theirs)
+    differ = [(crossing_in(ours[i]), i, j, difference_of(our_looks[i], their_looks[j])) for i, j in pairs if difference_of(our_looks[i], their_looks[j])]
     return (len(pairs) - len(differ), len(differ), len(ours) - len(pairs), len(theirs) - len(pairs)), next(iter(differ), None)
 
 
 def pair_call(ours, theirs):
     """13.4: the answer, the file that is none, and the report or None."""
-    ours, theirs = records_of(ours), records_of(theirs)
-    if ours is None or theirs is None:
-        return 15, 1 if ours is None else 2, None
-    return 0, 0, report_of(ours, theirs)
+    forms = form_of(ours), form_of(theirs)
+    if None in forms:
+        return 15, 1 if forms[0] is None else 2, None
+    return 0, 0, report_of(records_of(ours, forms[0]), records_of(theirs, forms[1]), *forms)
 
 
 def report_numbers(report):
@@ -616,8 +697,10 @@ def report_numbers(report):
     if first is None:
         return [*counts] + [0] * 14
     crossing, i, j, difference = first
-    sizes, place = (difference, (0, 0, 0)) if len(difference) == 4 else ((0, 0, 0, 0), difference)
-    return [*counts, 1 if len(difference) == 4 else 2, crossing, i, j, *sizes, *place, 0, 0, 0]
+    if len(difference) == 2:
+        (w, h, sampling), (other_w, other_h, other_sampling) = difference
+        return [*counts, 1, crossing, i, j, w, h, other_w, other_h, 0, 0, 0, sampling, other_sampling, 0]
+    return [*counts, 2, crossing, i, j, 0, 0, 0, 0, *difference, 0, 0, 0]
 
 
 # ---- the examples, by the number of their rule
@@ -1603,17 +1686,34 @@ def filled(count):
 
 @example('10.5')
 def _():
-    data = file_of(TWO)
+    data, new = file_of(TWO), file_of(SET, WITH)
     for first, room in ((0, 22), (0, 21), (1, 40), (2, 22), (18446744073709551615, 22)):
         number, count, entries = read_call(data, first, room // 11)
         yield f'shift_records, the file of 11.1, first {first}, {room} numbers: {told(number, count, len(entries))}; {11 * len(entries)} of the numbers are written'
-    number, count, entries = read_call(data[:-1], 0, 2)
-    yield f'shift_records, that file without its last byte, first 0, 22 numbers: {told(number, count, len(entries))}; none is written'
+    for said, given in (('that file without its last byte', data[:-1]), ('the file of 11.7', new)):
+        number, count, entries = read_call(given, 0, 2)
+        yield f'shift_records, {said}, first 0, 22 numbers: {told(number, count, len(entries))}; none is written'
+    for said, given, first, room in (('the file of 11.1', data, 0, 30), ('the file of 11.7', new, 0, 30), ('the file of 11.7', new, 0, 29), ('the file of 11.7', new, 1, 40),
+                                     ('the file of 11.7', new, 2, 30), ('that file without its last byte', new[:-1], 0, 30)):
+        number, count, entries, form = read_any_call(given, first, room // 15)
+        written = f'{15 * len(entries)} of the numbers are written' if number == 0 else 'none is written'
+        yield f'shift_records_any, {said}, first {first}, {room} numbers: {told(number, count, len(entries), form)}; {written}'
     for length in (57, 56):
         yield f'shift_write, the two records of 11.2, output of {length} bytes: {told(*write_call(b"".join(TWO), filled(length)))}'
+    for said, records, length in (('the two records of 11.7', SET, len(new)), ('the two records of 11.7', SET, len(new) - 1), ('the two records of 11.2', TWO, 100)):
+        yield f'shift_write_settings, {said}, output of {length} bytes: {told(*write_call(b"".join(records), filled(length), WITH))}'
     for strides, lengths, length in (((4, 3, 2), (8, 3, 2), 18), ((4, 3, 2), (8, 3, 2), 17), ((4, 3, 2), (7, 3, 2), 18), ((2, 3, 2), (8, 3, 2), 0)):
         answer, size = record_call(1400, 3, 2, strides, [bytes(count) for count in lengths], filled(length))
         yield f'shift_record, numbers {numbers((1400, 3, 2, *strides))}, planes of {", ".join(map(str, lengths))}, output of {length} bytes: {told(*answer, size)}'
+    for four, lengths, length in (((0, 255, 255, 255), (8, 3, 2), 22), ((1, 0, 6, 3), (8, 6, 4), 26), ((1, 0, 6, 3), (8, 6, 4), 25), ((1, 0, 6, 3), (8, 3, 2), 26),
+                                  ((0, 2, 0, 0), (8, 3, 2), 22), ((255, 0, 0, 0), (8, 3, 2), 22)):
+        answer, size = record_call(1400, 3, 2, (4, 3, 2), [bytes(count) for count in lengths], filled(length), four)
+        yield (f'shift_record_settings, numbers {numbers((1400, 3, 2, 4, 3, 2, *four))}, planes of {", ".join(map(str, lengths))}, '
+               f'output of {length} bytes: {told(*answer, size)}')
+    for call, said, given, length in ((forward_call, 'shift_forward, the file of 11.1', data, 69), (forward_call, 'shift_forward, the file of 11.1', data, 68),
+                                      (forward_call, 'shift_forward, the file of 11.7', new, 100), (back_call, 'shift_back, the file of 11.7', new, 0),
+                                      (back_call, 'shift_back, the file of 11.1', data, 57)):
+        yield f'{said}, output of {length} bytes: {told(*call(given, filled(length)))}'
 
 
 @example('10.6')
@@ -1632,6 +1732,12 @@ def _():
         yield f'summary_find, {said}, crossing {crossing}: {told(number, int(found is not None), found or 0)}'
     for said, buffer in (('its summary and 13 bytes behind', made + filled(13)), ('its summary and 12 bytes behind', made + filled(12)), ('52 bytes EE', filled(52))):
         yield f'summary_update, the file of 12.1, record 0 of 11.2, {said}: returns {update_call(data, record, bytearray(buffer))}'
+    new = file_of(SET, WITH)
+    yield f'summary_build, the file of 11.7, buffer of 26 bytes: returns {build_call(new, filled(26))}'
+    number, found = find_call(new, summary_in(new), 70000)
+    yield f'summary_find, the file of 11.7, its summary, crossing 70000: {told(number, int(found is not None), found or 0)}'
+    for said, record in (('record 0 of 11.7', SET[0]), ('record 0 of 11.2', TWO[0])):
+        yield f'summary_update, the file of 11.7, {said}, its summary and 13 bytes behind: returns {update_call(new, record, bytearray(summary_in(new) + filled(13)))}'
 
 
 @example('10.7')
@@ -1639,6 +1745,7 @@ def _():
     yield 'each of the eighteen numbers is 9 before a call'
     ours, theirs = file_of(OURS), file_of(THEIRS)
     for said, given in (('the files of 13.1', (ours, theirs)), ('the same, exchanged', (theirs, ours)), ('theirs with the sizes of 13.3', (ours, file_of(SIZES))),
+                        ('theirs moved forward', (ours, moved(theirs))), ('theirs with the sampling of 13.3', (ours, file_of(SAMPLINGS, WITH))),
                         ('ours as both', (ours, ours)), ('two files without records', (file_of([]), file_of([]))), ('ours without its last byte', (ours[:-1], theirs)),
                         ('theirs without its last byte', (ours, theirs[:-1])), ('both without their last bytes', (ours[:-1], theirs[:-1]))):
         number, broken, report = pair_call(*given)
@@ -1649,6 +1756,8 @@ def _():
 
 TWO = [record_of(1400, 3, 2, [bytes([0x10, 0x11, 0x12, 0x20, 0x21, 0x22]), bytes([0x30, 0x31]), bytes([0x40, 0x41])]),
        record_of(70000, 1, 1, [b'\x50', b'\x60', b'\x70'])]
+# 11.7: the planes of the first, with nothing recorded; and a record of 4:2:2, Full, Custom, Gamma2p8.
+SET = [forward(TWO[0]), record_of(70000, 2, 2, [b'\x50\x51\x52\x53', b'\x60\x61', b'\x70\x71'], bytes([1, 1, 6, 3]))]
 
 
 @example('11.1')
@@ -1695,15 +1804,24 @@ def _():
             ('w of record 0 is 16385', changed(32, 16385, 2)), ('w of record 0 is 4', changed(32, 4, 2)),
             ('w and h of record 0 exchanged, which leaves it as long', changed(32, 2 + (3 << 16), 4)),
             ('crossing of record 1 is that of record 0', changed(46, 1400, 4)), ('last byte FF', data[:-1] + b'\xff')):
-        yield f'{said}: ' + ('15' if records_of(given) is None else 'not 15')
+        yield f'{said}: ' + ('15' if form_of(given) is None else 'not 15')
     for said, given in (('no bytes', b''), ('00 00 00', bytes(3)), ('00 00 00 00', bytes(4)), ('00 00 00 00 00', bytes(5)),
                         ('4096 times the second record, by 11.1,', file_of([TWO[1]] * 4096)), ('4097 times the second record, by 11.1 but for n,', file_of([TWO[1]] * 4097))):
-        yield f'{said} as a file: ' + ('15' if records_of(given) is None else 'not 15')
+        yield f'{said} as a file: ' + ('15' if form_of(given) is None else 'not 15')
     small = TWO[1]
     for said, given in (('no bytes', b''), ('the two records of 11.2', b''.join(TWO)), ('the same without the last byte', b''.join(TWO)[:-1]),
                         ('the same and seven bytes of a third', b''.join(TWO) + small[:7]), ('the file of 11.1', data),
                         ('4096 times the second record', small * 4096), ('4097 times the second record', small * 4097)):
-        yield f'{said} as records: ' + ('15' if records_in(given) is None else 'not 15')
+        yield f'{said} as records without settings: ' + ('15' if records_in(given) is None else 'not 15')
+    for said, given in (('no bytes', b''), ('the two records of 11.7', b''.join(SET)), ('the same without the last byte', b''.join(SET)[:-1]),
+                        ('the same and eleven bytes of a third', b''.join(SET) + SET[0][:11]), ('the two records of 11.2', b''.join(TWO))):
+        yield f'{said} as records with settings: ' + ('15' if records_in(given, WITH) is None else 'not 15')
+    yield 'the two records of 11.7 as records without settings: ' + ('15' if records_in(b''.join(SET)) is None else 'not 15')
+    new = file_of(SET, WITH)
+    for said, given in (('the file of 11.1', data), ('the file of 11.7', new), ('that file without its last byte', new[:-1])):
+        for form, kind in ((WITHOUT, 'a file without settings'), (WITH, 'a file with settings')):
+            yield f'{said} as {kind}: ' + ('15' if records_of(given, form) is None else 'not 15')
+        yield f'{said} as a file: ' + ('15' if form_of(given) is None else 'not 15')
 
 
 def count_of(entries):
@@ -1719,11 +1837,20 @@ def _():
         yield '  ' + numbers(entry)
     for first, room in ((0, 1), (1, 5), (2, 5), (18446744073709551615, 5), (0, 0)):
         number, count, entries = read_call(data, first, room)
-        said = ', '.join(f'that of crossing {entry.crossing}' for entry in entries)
+        said = ', '.join(f'that of crossing {entry[0]}' for entry in entries)
         yield f'first {first}, room for {room}: {number}, {count} records, {count_of(entries)}' + (f', {said}' if entries else '')
     number, count, entries = read_call(data + b'\0', 0, 2)
     yield f'with a byte behind the file, first 0, room for 2: {number}, {count} records, {count_of(entries)}'
     yield f'a file of 4096 records of 16384 × 16384: the last starts at byte {4 + 12 * 4096 + 4095 * (8 + sum(plane_sizes(16384, 16384)))}'
+    yield 'the second call'
+    for said, given in (('the file of 11.1', data), ('the file of 11.7', file_of(SET, WITH)), ('the file of 11.7 without its last byte', file_of(SET, WITH)[:-1])):
+        number, count, entries, form = read_any_call(given, 0, 2)
+        told_form = '' if number else f', {("without", "with")[form]} settings'
+        yield f'{said}, first 0, room for 2: {number}, {count} records, {count_of(entries)}{told_form}'
+        for entry in entries:
+            yield '  ' + numbers(entry)
+    number, count, entries = read_call(file_of(SET, WITH), 0, 2)
+    yield f'the first call, the file of 11.7, first 0, room for 2: {number}, {count} records, {count_of(entries)}'
 
 
 @example('11.5')
@@ -1733,6 +1860,13 @@ def _():
                                 ('no record', b'', 5), ('no record', b'', 3), ('the second record without its last byte', TWO[1][:-1], 0)):
         output = filled(length)
         number, size = write_call(given, output)
+        yield f'{said}, output of {length} bytes: {number}, size {size}' + (f'; the output is {hexes(output)}' if number == 0 else '')
+    yield 'the second call'
+    one = record_of(9, 1, 1, [b'\x50', b'\x60', b'\x70'], bytes([1, 255, 1, 0]))
+    for said, given, length in (('a record of crossing 9, 1 × 1, with settings 01 FF 01 00', one, 37), ('the same', one, 34), ('no record', b'', 9), ('no record', b'', 7),
+                                ('the second record of 11.2', TWO[1], 40)):
+        output = filled(length)
+        number, size = write_call(given, output, WITH)
         yield f'{said}, output of {length} bytes: {number}, size {size}' + (f'; the output is {hexes(output)}' if number == 0 else '')
 
 
@@ -1752,13 +1886,97 @@ def _():
             ('h 4294967295', 3, 4294967295, (4, 3, 2), (8, 3, 2), 18)):
         answer, size = record_call(1400, w, h, strides, [bytes(count) for count in lengths], filled(length))
         yield answer_line(f'{said}, strides {numbers(strides)}, lengths {numbers(lengths)}', answer) + f', size {size}'
+    yield 'with settings, w 3, h 2: in 4:2:2 ch 2; sampling, range, matrix and transfer as said'
+    planes = [bytes([0x10, 0x11, 0x12, 0x20, 0x21, 0x22]), bytes([0x30, 0x31, 0x99, 0x32, 0x33, 0x99]), bytes([0x40, 0x41, 0x42, 0x43])]
+    output = filled(27)
+    answer, size = record_call(1400, 3, 2, (3, 3, 2), planes, output, (1, 0, 1, 255))
+    yield f'1 0 1 255, strides 3 3 2, {plane_text(planes)}, output of 27 bytes: {answer[0]}, size {size}; the output is {hexes(output)}'
+    for said, four, lengths, length in (
+            ('output of 25 bytes', (1, 0, 1, 255), (6, 6, 4), 25), ('planes of 4:2:0', (1, 0, 1, 255), (6, 3, 2), 26), ('planes of 4:2:2', (0, 0, 1, 255), (6, 6, 4), 26),
+            ('an unknown sampling, and planes of 0 bytes', (2, 0, 1, 255), (0, 0, 0), 0), ('a sampling that is not recorded', (255, 0, 1, 255), (6, 6, 4), 26),
+            ('an unknown range', (1, 254, 1, 255), (6, 6, 4), 26), ('an unknown matrix', (1, 0, 7, 255), (6, 6, 4), 26),
+            ('an unknown transfer', (1, 0, 1, 4), (6, 6, 4), 26), ('256 as range, which is 0 in a byte', (1, 256, 1, 255), (6, 6, 4), 26)):
+        answer, size = record_call(1400, 3, 2, (3, 3, 2), [bytes(count) for count in lengths], filled(length), four)
+        yield answer_line(f'{said}, {numbers(four)}, lengths {numbers(lengths)}', answer) + f', size {size}'
+
+
+def settings_text(four):
+    names = [CODES['sampling'], CODES['range'], CODES['matrix'] + ['Custom'], CODES['transfer']]
+    said = [values[code] if code != NOT_RECORDED else f'{name} not recorded'
+            for name, values, code in zip(('sampling', 'range', 'matrix', 'transfer'), names, four)]
+    return ', '.join(said)
 
 
 @example('11.7')
 def _():
-    mark = b'\xff' * 4
-    for said, given in (('FF FF FF FF', mark), ('FF FF FF FF 00 00 00 00', mark + bytes(4)), ('FF FF FF FF and behind it the file of 11.1', mark + file_of(TWO))):
-        yield f'{said}: ' + ('15' if records_of(given) is None else 'not 15')
+    data = file_of(SET, WITH)
+    yield f'no records: {hexes(file_of([], WITH))}'
+    yield f'a file of two records, {len(data)} bytes in hexadecimal:'
+    entries = entries_of(data, WITH)
+    lines = [(data[:4], '4294967295'), (data[4:8], f'{len(SET)} records')]
+    lines += [(data[8 + 12 * k:20 + 12 * k], f'pair {k}: offset {entry.offset}, length {entry.length}') for k, entry in enumerate(entries)]
+    for k, (record, entry) in enumerate(zip(SET, entries)):
+        lines += [(record[:4], f'record {k}: crossing {entry.crossing}'), (record[4:8], f'w {entry.w}, h {entry.h}'), (record[8:12], settings_text(record[8:12]))]
+        for name, at, size in (('Y', entry.y, entry.y_length), ('U', entry.u, entry.u_length), ('V', entry.v, entry.v_length)):
+            lines.append((data[at:at + size], name))
+    assert b''.join(part for part, _ in lines) == data
+    width = max(len(hexes(part)) for part, _ in lines)
+    for part, said in lines:
+        yield f'{hexes(part):<{width}}   {said}'
+    for w, h, sampling in ((1, 1, 0), (1, 1, 1), (3, 3, 0), (3, 3, 1), (1920, 1080, 1), (16384, 16384, 1)):
+        y, u, v = plane_sizes(w, h, sampling)
+        length = 12 + y + u + v
+        yield f'{w} × {h}, {CODES["sampling"][sampling]}: 12 + {y} + {u} + {v} = {length} bytes' + (f', of {length.bit_length()} bits' if w == 16384 else '')
+    longest = 12 + sum(plane_sizes(16384, 16384, 1))
+    most = 8 + (12 + longest) * MOST_RECORDS
+    yield f'4096 records of 16384 × 16384, 4:2:2: 8 + 12 × 4096 + 4096 × {longest} = {most} bytes, of {most.bit_length()} bits'
+    yield 'the file of two records with one thing changed'
+    start = entries[1].offset + 8
+    for said, at, values in (('sampling of record 1', 0, (0, 2, 255)), ('range of record 1', 1, (0, 2, 254, 255)), ('matrix of record 1', 2, (5, 7, 254, 255)),
+                             ('transfer of record 1', 3, (0, 4, 254, 255))):
+        for value in values:
+            given = data[:start + at] + bytes([value]) + data[start + at + 1:]
+            yield f'{said} is {value}: ' + ('15' if records_of(given, WITH) is None else 'not 15')
+    for said, given in (('4294967294 for the first number', low_first(4294967294, 4) + data[4:]), ('count 1', data[:4] + low_first(1, 4) + data[8:]),
+                        ('offset 0 is 28, which is that of 11.1', data[:8] + low_first(28, 8) + data[16:]), ('no last byte', data[:-1]), ('a byte 00 behind', data + bytes(1))):
+        yield f'{said}: ' + ('15' if records_of(given, WITH) is None else 'not 15')
+    yield 'other bytes as a file'
+    pixel = record_of(9, 1, 1, [b'\x50', b'\x60', b'\x70'], bytes([0, 255, 255, 255]))
+    for said, given in (('FF FF FF FF', MARK), ('FF FF FF FF 00 00 00', MARK + bytes(3)), ('FF FF FF FF 00 00 00 00', MARK + bytes(4)),
+                        ('FF FF FF FF 00 00 00 00 00', MARK + bytes(5)), ('FF FF FF FF and behind it the file of 11.1', MARK + file_of(TWO)),
+                        ('the records of 11.2 by 11.7', file_of(TWO, WITH)), ('the records of 11.7 by 11.1', file_of(SET, WITHOUT)),
+                        ('one record of 1 × 1 in 4:2:0', file_of([pixel], WITH)), ('the same with sampling 1, which leaves it as long', file_of([with_byte(pixel, 8, 1)], WITH)),
+                        ('4096 such records', file_of([pixel] * 4096, WITH)), ('4097 such records', file_of([pixel] * 4097, WITH))):
+        yield f'{said}: ' + ('15' if form_of(given) is None else 'not 15')
+
+
+@example('11.8')
+def _():
+    yield 'all bytes of the output EE before'
+    data = file_of(TWO)
+    output = filled(71)
+    number, size = forward_call(data, output)
+    yield f'forward, the file of 11.1, output of 71 bytes: {number}, size {size}; the output is'
+    moved_file = bytes(output[:size])
+    for at, end in ((0, 4), (4, 8), (8, 20), (20, 32), (32, 54), (54, 69), (69, 71)):
+        yield f'  {hexes(output[at:end])}'
+    kept = filled(57)
+    number, size = back_call(moved_file, kept)
+    assert bytes(kept) == data
+    yield f'back, that file, output of 57 bytes: {number}, size {size}; the output is the file of 11.1'
+    for said, call, given, length in (
+            ('forward, the file of 11.1, output of 68 bytes', forward_call, data, 68), ('forward, no records, output of 8 bytes', forward_call, file_of([]), 8),
+            ('back, no records, output of 4 bytes', back_call, file_of([], WITH), 4), ('forward, the file moved forward, output of 0 bytes', forward_call, moved_file, 0),
+            ('forward, the file of 11.1 without its last byte, output of 0 bytes', forward_call, data[:-1], 0),
+            ('back, the file of 11.1, output of 0 bytes', back_call, data, 0), ('back, the file moved forward, output of 56 bytes', back_call, moved_file, 56)):
+        output = filled(length)
+        number, size = call(given, output)
+        yield f'{said}: {number}, size {size}' + (f'; the output is {hexes(output)}' if number == 0 else '')
+    yield 'back, the file moved forward with one byte of record 1 changed, which has 1 × 1 pixels; output of 0 bytes'
+    for at, name, values in ((62, 'sampling', (1, 2)), (63, 'range', (0, 1, 2)), (64, 'matrix', (0, 6, 7)), (65, 'transfer', (0, 3, 4))):
+        for value in values:
+            number, size = back_call(with_byte(moved_file, at, value), filled(0))
+            yield f'{name} {value}: {number}, size {size}'
 
 
 # ---- chapter 12
@@ -1789,6 +2007,10 @@ def _():
     width = max(len(hexes(part)) for part, _ in lines)
     for part, said in lines:
         yield f'{hexes(part):<{width}}   {said}'
+    new = file_of(SET, WITH)
+    for k, entry in enumerate(any_entries(new)):
+        line = entry_of(entry, new)
+        yield f'{hexes(line):<{width}}   entry of record {k} of the file of 11.7: crossing {entry.crossing}, offset {entry.offset}, mean luma {line[12]}'
 
 
 @example('12.2')
@@ -1831,6 +2053,9 @@ def _():
     buffer = filled(39)
     yield f'the file of 12.1, buffer of 39 bytes: {build_call(file_of(THREE), buffer)}; the buffer is'
     yield from (f'  {line}' for line in entry_lines(buffer))
+    buffer = filled(39)
+    yield f'that file moved forward (11.8), buffer of 39 bytes: {build_call(moved(file_of(THREE)), buffer)}; the buffer is'
+    yield from (f'  {line}' for line in entry_lines(buffer))
 
 
 @example('12.5')
@@ -1841,7 +2066,9 @@ def _():
                                 ('the last byte of the summary another', data, made[:-1] + bytes([made[-1] ^ 1])),
                                 ('the summary of the first two records', data, summary_of(THREE[:2])),
                                 ('no last byte of the file', data[:-1], made), ('the last byte of the file another, which no rule here is about', data[:-1] + b'\xff', made),
-                                ('the last luma of record 2 three less', data[:-3] + b'\x80' + data[-2:], made), ('the file without records, no summary', file_of([]), b'')):
+                                ('the last luma of record 2 three less', data[:-3] + b'\x80' + data[-2:], made), ('the file without records, no summary', file_of([]), b''),
+                                ('the file moved forward', moved(data), made), ('the file moved forward, and its own summary', moved(data), summary_in(moved(data))),
+                                ('with settings and without records, no summary', file_of([], WITH), b'')):
         number, yes = check_call(given, buffer)
         yield f'{said}: {number}, ' + ('yes' if yes else 'no')
 
@@ -1856,6 +2083,11 @@ def _():
         number, found = find_call(given, buffer, crossing)
         said_found = '' if number else f', record {found} at byte {entries_of(given)[found].offset}' if found is not None else ', no record'
         yield f'{said}crossing {crossing}: {number}{said_found}'
+    new = file_of(SET, WITH)
+    yield 'the file of 11.7 and its summary'
+    for crossing in (1400, 70000, 9):
+        number, found = find_call(new, summary_in(new), crossing)
+        yield f'crossing {crossing}: {number}' + (f', record {found} at byte {any_entries(new)[found].offset}' if found is not None else ', no record')
 
 
 @example('12.7')
@@ -1877,6 +2109,13 @@ def _():
     yield f'record 2 of 12.1: {number}; the buffer is the summary of the file of 12.1, as in 12.4'
     many = [TWO[1][:4] + record[4:] for record in [TWO[1]] * 4096]
     yield f'a file of 4096 records, no buffer: {update_call(file_of(many), TWO[1], bytearray())}'
+    yield 'the record with settings of 11.7 of 4:2:2'
+    yield f'the file of the first two of 12.1: {update_call(data, SET[1], bytearray(made + filled(13)))}'
+    new = file_of(SET[:1], WITH)
+    buffer = bytearray(summary_in(new) + filled(13))
+    yield f'the file with settings of record 0 of 11.7, buffer of 26 bytes: {update_call(new, SET[1], buffer)}; the buffer is {hexes(buffer)}'
+    assert bytes(buffer) == summary_in(file_of(SET, WITH))
+    yield f'the same, record 0 of 11.2 in its place: {update_call(new, TWO[0], bytearray(summary_in(new) + filled(13)))}'
 
 
 # ---- chapter 13
@@ -1896,6 +2135,17 @@ THEIRS = [with_byte(TWO[0], 17, 0x42), of_one_pixel(8, 0x33), of_one_pixel(70000
 SIZES = [THEIRS[0][:4] + low_first(2, 2) + low_first(3, 2) + TWO[0][8:]] + THEIRS[1:]
 
 
+def moved(data):
+    """The file moved forward (11.8)."""
+    output = bytearray(len(data) + 4 + 4 * len(records_of(data)))
+    assert forward_call(data, output) == (0, len(output))
+    return bytes(output)
+
+
+# Theirs moved forward, but that the pair of crossing 30 is of 1 × 1 in 4:2:2, which has the same planes.
+SAMPLINGS = [forward(record) for record in THEIRS[:4]] + [with_byte(forward(THEIRS[4]), 8, 1)]
+
+
 def crossings(records):
     return numbers(crossing_in(record) for record in records)
 
@@ -1904,7 +2154,10 @@ def first_line(first):
     if first is None:
         return 'none'
     crossing, i, j, difference = first
-    said = '{} × {} in ours and {} × {} in theirs'.format(*difference) if len(difference) == 4 else '{}, row {}, column {}'.format('YUV'[difference[0]], *difference[1:])
+    if len(difference) == 2:
+        said = ' and '.join(f'{w} × {h}, {CODES["sampling"][sampling]}, in {file}' for (w, h, sampling), file in zip(difference, ('ours', 'theirs')))
+    else:
+        said = '{}, row {}, column {}'.format('YUV'[difference[0]], *difference[1:])
     return f'crossing {crossing}, record {i} of ours, record {j} of theirs: {said}'
 
 
@@ -1926,8 +2179,8 @@ def _():
 
 @example('13.2')
 def _():
-    def line(said, ours, theirs):
-        (equal, differing, only_ours, only_theirs), _ = report_of(ours, theirs)
+    def line(said, ours, theirs, *forms):
+        (equal, differing, only_ours, only_theirs), _ = report_of(ours, theirs, *forms)
         assert equal + differing + only_ours == len(ours) and equal + differing + only_theirs == len(theirs)
         return (f'{said}: {equal} equal, {differing} differ, {only_ours} only in ours, {only_theirs} only in theirs; '
                 f'{equal} + {differing} + {only_ours} = {len(ours)}, {equal} + {differing} + {only_theirs} = {len(theirs)}')
@@ -1936,12 +2189,16 @@ def _():
     yield line('ours, and its records in the opposite order as theirs', OURS, OURS[::-1])
     yield line('ours, and no records as theirs', OURS, [])
     yield line('no records in either', [], [])
+    new = [forward(record) for record in OURS]
+    yield line('ours, and ours moved forward as theirs', OURS, new, WITHOUT, WITH)
+    yield line('the same, each range, matrix and transfer of theirs recorded as 1', OURS, [record[:9] + b'\1\1\1' + record[12:] for record in new], WITHOUT, WITH)
+    yield line('the same, each sampling of theirs 4:2:2 where that has as many bytes', OURS, [with_byte(record, 8, 1) if record[6] == 1 else record for record in new], WITHOUT, WITH)
 
 
 @example('13.3')
 def _():
-    def line(said, ours, theirs):
-        return f'{said}: {first_line(report_of(ours, theirs)[1])}'
+    def line(said, ours, theirs, *forms):
+        return f'{said}: {first_line(report_of(ours, theirs, *forms)[1])}'
     yield line('the files of 13.1', OURS, THEIRS)
     yield line('the same, record 0 of theirs with w and h exchanged, so that it has as many bytes', OURS, SIZES)
     yield line('the same, record 4 of theirs with its last byte another', OURS, SIZES[:4] + [with_byte(SIZES[4], 10, 0)])
@@ -1953,6 +2210,14 @@ def _():
         yield line(('byte ' if len(changed) == 1 else 'bytes ') + ' and '.join(map(str, changed)), TWO[:1], [other])
     yield line('no byte', TWO[:1], TWO[:1])
     yield line('byte 0, which is of the crossing number', TWO[:1], [with_byte(TWO[0], 0, 0xff)])
+    yield line('ours of 13.1, and theirs moved forward', OURS, [forward(record) for record in THEIRS], WITHOUT, WITH)
+    yield line('the same, record 4 of theirs in 4:2:2, which has as many bytes', OURS, SAMPLINGS, WITHOUT, WITH)
+    yield 'record 1 of 11.7, of 2 × 2 in 4:2:2, as the one record of ours, and with one byte another as that of theirs'
+    for at in (9, 10, 11, 12, 15, 16, 17, 18, 19):
+        said = ', which is of the settings' if at < 12 else ''
+        yield line(f'byte {at}{said}', SET[1:], [with_byte(SET[1], at, 0xff)], WITH, WITH)
+    other = record_of(70000, 2, 2, [b'\x50\x51\x52\x53', b'\x60', b'\x70'], bytes([0, 1, 6, 3]))
+    yield line('in 4:2:0, with as many rows of Y', SET[1:], [other], WITH, WITH)
 
 
 @example('13.4')
@@ -1971,6 +2236,10 @@ def _():
     yield line('no bytes as ours, a file without records as theirs', b'', file_of([]))
     yield line('a file without records as ours, no bytes as theirs', file_of([]), b'')
     yield line('a file without records as both', file_of([]), file_of([]))
+    yield line('a file without records, without settings and with settings', file_of([]), file_of([], WITH))
+    yield line('the files of 13.1, ours moved forward', moved(ours), theirs)
+    yield line('the files of 13.1, both moved forward', moved(ours), moved(theirs))
+    yield line('ours moved forward, without its last byte', moved(ours)[:-1], theirs)
 
 
 # ---- appendix A
