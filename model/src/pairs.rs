@@ -1,7 +1,8 @@
 //! Two shift files paired: RULES 13.1 and on. Written after a reading of the definitions in `specs`; it shares
-//! no code with what is proved.
+//! no code with what is proved. The samplings came with the form with settings (`shift`).
 
 use crate::refusals::{Answer, refuse_if};
+use crate::settings::YuvChromaSubsampling;
 use crate::shift::{self, Entry, Part};
 use std::collections::BTreeSet;
 
@@ -12,11 +13,37 @@ pub enum Side {
     Theirs,
 }
 
+/// RULES 13.2, 13.3: what counts as the size of a record.
+#[derive(Clone, Copy, Debug, PartialEq)]
+pub struct Size {
+    pub w: u16,
+    pub h: u16,
+    pub sampling: YuvChromaSubsampling,
+}
+
+impl Size {
+    fn of(record: &Entry) -> Size {
+        Size {
+            w: record.w,
+            h: record.h,
+            sampling: record.sampling(),
+        }
+    }
+
+    /// RULES 1.2.
+    fn code(&self) -> u64 {
+        match self.sampling {
+            YuvChromaSubsampling::Yuv420 => 0,
+            YuvChromaSubsampling::Yuv422 => 1,
+        }
+    }
+}
+
 /// RULES 13.3: how the records of a pair differ.
 #[derive(Clone, Copy, Debug, PartialEq)]
 pub enum Difference {
-    /// w and h of ours, and of theirs.
-    Sizes([u16; 2], [u16; 2]),
+    /// Of ours, and of theirs.
+    Sizes(Size, Size),
     /// Plane (0 Y, 1 U, 2 V), row, column.
     Place(u64, u64, u64),
 }
@@ -53,9 +80,11 @@ impl Report {
         if let Some(first) = &self.first {
             numbers[5..8].copy_from_slice(&[u64::from(first.crossing), first.ours, first.theirs]);
             match first.difference {
-                Difference::Sizes([w, h], [other_w, other_h]) => {
+                Difference::Sizes(ours, theirs) => {
                     numbers[4] = 1;
-                    numbers[8..12].copy_from_slice(&[w, h, other_w, other_h].map(u64::from));
+                    let sides = [ours.w, ours.h, theirs.w, theirs.h];
+                    numbers[8..12].copy_from_slice(&sides.map(u64::from));
+                    numbers[15..17].copy_from_slice(&[ours.code(), theirs.code()]);
                 }
                 Difference::Place(plane, row, column) => {
                     numbers[4] = 2;
@@ -103,8 +132,8 @@ fn pairs(ours: &File, theirs: &File) -> Vec<(usize, usize)> {
 /// RULES 13.2, 13.3: none where the records are equal.
 fn difference(ours: (&File, &Entry), theirs: (&File, &Entry)) -> Option<Difference> {
     let ((our_file, a), (their_file, b)) = (ours, theirs);
-    if [a.w, a.h] != [b.w, b.h] {
-        return Some(Difference::Sizes([a.w, a.h], [b.w, b.h]));
+    if Size::of(a) != Size::of(b) {
+        return Some(Difference::Sizes(Size::of(a), Size::of(b)));
     }
     let w = u64::from(a.w);
     let planes = [
@@ -127,7 +156,7 @@ fn difference(ours: (&File, &Entry), theirs: (&File, &Entry)) -> Option<Differen
 
 /// RULES 13.4: the answer, the file that is none, and the report.
 pub fn pair_files(ours: &[u8], theirs: &[u8]) -> (Answer, Option<Side>, Option<Report>) {
-    let file = |bytes| shift::entries(bytes).map(|records| File { bytes, records });
+    let file = |bytes| shift::entries(bytes).map(|(_, records)| File { bytes, records });
     let broken = || refuse_if(true, 15);
     match (file(ours), file(theirs)) {
         (None, _) => (broken(), Some(Side::Ours), None),

@@ -41,7 +41,7 @@ fn mean_luma(y: &[u8]) -> u8 {
 
 /// The entries of a file's records, in the order of the file. None: these bytes are no file.
 fn entries_of(file: &[u8]) -> Option<Vec<SummaryEntry>> {
-    let records = shift::entries(file)?;
+    let (_, records) = shift::entries(file)?;
     let entry = |record: &shift::Entry| {
         let (from, length) = (record.y.offset as usize, record.y.length as usize);
         SummaryEntry {
@@ -123,11 +123,11 @@ pub fn update_summary(file: &[u8], record: &[u8], buffer: &mut [u8]) -> Answer {
     Ok(())
 }
 
-/// RULES 12.7: the file of a file's records and of one more. None: one of them is none, or there are
-/// too many.
+/// RULES 12.7: the file of a file's records and of one more, all of one form. None: one of them is none, or there
+/// are too many.
 fn grown_file(file: &[u8], record: &[u8]) -> Option<Vec<u8>> {
-    let records = shift::entries(file)?;
-    let one = shift::lengths(record)?.len() == 1;
+    let (form, records) = shift::entries(file)?;
+    let one = shift::lengths(form, record)?.len() == 1;
     if !one || records.len() as u64 == MOST_RECORDS {
         return None;
     }
@@ -137,6 +137,6 @@ fn grown_file(file: &[u8], record: &[u8]) -> Option<Vec<u8>> {
         .map_or(file.len(), |record| record.record.offset as usize);
     let all = [&file[first..], record].concat();
     let mut grown = vec![0; file.len() + 12 + record.len()];
-    let (answer, _) = shift::write_shift_file(&all, &mut grown);
+    let (answer, _) = shift::write_shift_file(form, &all, &mut grown);
     answer.ok().map(|()| grown)
 }
