@@ -10,19 +10,22 @@
  * window (the frame is a rectangle inside a larger source): segvartin_convert_frame_with, segvartin_open_frame_with and
  * segvartin_convert_band_with. How many colours share a luma, in a matrix and range: segvartin_luma_counts. A record of a shift file from planes:
  * segvartin_write_shift_record; a file from records: segvartin_write_shift_file; its records where they stand in it: segvartin_read_shift_file.
- * The summary of a file, by which the record of a crossing is found: segvartin_build_summary, segvartin_check_summary, segvartin_find_record,
+ * The same with records that say how their planes were made: segvartin_write_settings_record, segvartin_write_settings_file, and for files of either
+ * form segvartin_read_any_shift_file; from one form to the other: segvartin_move_forward, segvartin_move_back. The summary of a file, by which the
+ * record of a crossing is found: segvartin_build_summary, segvartin_check_summary, segvartin_find_record, segvartin_find_any_record,
  * segvartin_update_summary. Two files of one day held against each other: segvartin_pair_shift_files. All only pass numbers on to the library's
  * segvartin_call_ functions below.
  *
- * docs/RULES.md has the rules that fix each byte and each answer; RULES 7.1 below names one of them. The library's twelve functions are the
+ * docs/RULES.md has the rules that fix each byte and each answer; RULES 7.1 below names one of them. The library's seventeen functions are the
  * calls of its chapter 10.
  *
  * Every function answers finished work (0) or the number of one refusal, and a refusal writes no byte of a plane, of the carried row, of a record,
  * of a file or of a summary, no entry, no count of colours and no report. This holds for all values of all numbers: sizes, strides, lengths, codes,
  * kr, kb, and all bytes of a file and of a summary. What no function can check, and the caller must see to:
  *   - a pointer is not NULL, also where its length is 0, and points to as many bytes as the length beside it says; counts to 256 numbers;
- *   - of what a call is lent (source, y, u, v, carried, counts, done, expected, received; records, file, size, count, read; summary, record, yes,
- *     found; report, broken) nothing that it may write overlaps anything else. What is only read may overlap: one file may be ours and theirs.
+ *   - of what a call is lent (source, y, u, v, carried, counts, done, expected, received; records, file, output, size, count, read, form; summary,
+ *     record, yes, found; report, broken) nothing that it may write overlaps anything else. What is only read may overlap: one file may be ours and
+ *     theirs.
  *
  * The caller's floating-point mode (rounding, denormals, trapped exceptions) does not matter: each call is made in the default mode, and the
  * caller's mode and exception flags are put back as they were. Only SEGVARTIN_FCC and SEGVARTIN_CUSTOM use floats at all; the calls on shift
@@ -78,12 +81,13 @@ enum { SEGVARTIN_TRUNCATED = 0, SEGVARTIN_NEAREST = 1 };
 
 /*
  * What a call answers (RULES 7.1). Where several conditions hold, the first in the order below is answered: 15, 17, 1, 2, 3, 4, 14, 5, 6 and so on
- * to 13, 16. In parentheses: what *expected and *received get; where nothing stands there, and after finished work, both get 0.
+ * to 13, 20, 16. In parentheses: what *expected and *received get; where nothing stands there, and after finished work, both get 0.
  */
 enum {
     SEGVARTIN_FINISHED = 0,
-    /* shift files and summaries only: a file, or what is to be written, breaks their layout; w or h of a record to be made is not from 1 to 16384;
-     * a summary is to be updated with what is not one record, or for a file that has 4096 */
+    /* shift files and summaries only: a file, or what is to be written, breaks their layout, or has the form that the call does not take; w or h of
+     * a record to be made is not from 1 to 16384, or a setting of it is no code; a summary is to be updated with what is not one record of the
+     * file's form, or for a file that has 4096 */
     SEGVARTIN_MALFORMED_SHIFT_FILE = 15,
     /* summaries only: the summary lent is too short; in a lookup or an update also: it is not the file's */
     SEGVARTIN_SUMMARY_MISMATCH = 17,
@@ -115,6 +119,8 @@ enum {
     SEGVARTIN_WHOLE_ROWS_MISMATCH = 12,
     /* band calls only: the carried row is shorter than 3 * w (3 * w, its length) */
     SEGVARTIN_CARRIED_ROW_MISMATCH = 13,
+    /* moving a shift file back only: a record has 4:2:2, or a range, matrix or transfer that is recorded */
+    SEGVARTIN_SETTINGS_RECORDED = 20,
     /* shift files only: the memory lent for a file or a record is too short; the call tells its size beside */
     SEGVARTIN_OUTPUT_TOO_SHORT = 16
 };
@@ -138,16 +144,18 @@ enum {
  *                    SEGVARTIN_TRUNCATED, and where they are not, these four are 0, 0, width, height. luma_counts: range, matrix. Any other
  *                    count is refusal 1. A later version may take further numbers; a call that does not give them stays the call that it is
  *                    today
- *                    shift_record: crossing, width, height, y_stride, u_stride, v_stride
+ *                    shift_record: crossing, width, height, y_stride, u_stride, v_stride. shift_record_settings: these, and sampling, range, matrix,
+ *                    transfer, the last three 255 where they are not recorded
  *   custom           kr, kb
  *   first, entries   the record to begin with, and eleven numbers for each record from there on, as many as there are and as whole elevens fit:
- *                    the fields of segvartin_shift_record, in their order
+ *                    the fields of segvartin_shift_record, in their order. shift_records_any: fifteen, those of segvartin_settings_record
  *   told             gets expected, received, and in open and band the rows done: 0, and what they are after the band. shift_records: how many
- *                    records the file has, and how many entries were written. shift_write: the file's size. shift_record: expected, received,
- *                    the record's size. summary_check: 1 for yes, 0 for no. summary_find: 1 and the record's number, from 0; or 0 and 0.
- *                    shift_pairs: the file that is none, 1 for ours and 2 for theirs; or 0
+ *                    records the file has, and how many entries were written; shift_records_any: then its form too, 1 with settings, else 0.
+ *                    shift_write, shift_write_settings, shift_forward, shift_back: the size of the file that is written. shift_record,
+ *                    shift_record_settings: expected, received, the record's size. summary_check: 1 for yes, 0 for no. summary_find: 1 and the
+ *                    record's number, from 0; or 0 and 0. shift_pairs: the file that is none, 1 for ours and 2 for theirs; or 0
  *   report           the fields of segvartin_pair_report, in their order
- *   the others       as below; numbers, custom, entries, report and told overlap nothing either. The four shift_ calls and the four summary_ calls
+ *   the others       as below; numbers, custom, entries, report and told overlap nothing either. The nine shift_ calls and the four summary_ calls
  *                    need no mode
  */
 /* Made by tools/declarations.py from the library's source: change that, and run it. */
@@ -166,10 +174,22 @@ uint32_t segvartin_call_luma_counts(const uint32_t *numbers, size_t numbers_len,
 uint32_t segvartin_call_shift_records(const uint8_t *file, size_t file_len, size_t first, uint64_t *entries, size_t entries_len,
                                       size_t told[2]);
 
+uint32_t segvartin_call_shift_records_any(const uint8_t *file, size_t file_len, size_t first, uint64_t *entries, size_t entries_len,
+                                          size_t told[3]);
+
 uint32_t segvartin_call_shift_write(const uint8_t *records, size_t records_len, uint8_t *file, size_t file_len, size_t told[1]);
+
+uint32_t segvartin_call_shift_write_settings(const uint8_t *records, size_t records_len, uint8_t *file, size_t file_len, size_t told[1]);
 
 uint32_t segvartin_call_shift_record(const uint32_t numbers[6], const uint8_t *y, size_t y_len, const uint8_t *u, size_t u_len,
                                      const uint8_t *v, size_t v_len, uint8_t *record, size_t record_len, size_t told[3]);
+
+uint32_t segvartin_call_shift_record_settings(const uint32_t numbers[10], const uint8_t *y, size_t y_len, const uint8_t *u, size_t u_len,
+                                              const uint8_t *v, size_t v_len, uint8_t *record, size_t record_len, size_t told[3]);
+
+uint32_t segvartin_call_shift_forward(const uint8_t *file, size_t file_len, uint8_t *output, size_t output_len, size_t told[1]);
+
+uint32_t segvartin_call_shift_back(const uint8_t *file, size_t file_len, uint8_t *output, size_t output_len, size_t told[1]);
 
 uint32_t segvartin_call_summary_build(const uint8_t *file, size_t file_len, uint8_t *summary, size_t summary_len);
 
@@ -537,7 +557,7 @@ static inline uint32_t segvartin_luma_counts(uint32_t range, uint32_t matrix, fl
  * Shift files (RULES 11.1 to 11.6): the planes of up to 4096 frames of 4:2:0 in one file, a record for each. Every number in it stands low byte
  * first. A file is a count (4 bytes), for each record its offset (8) and length (4), and the records without a gap. A record is a crossing number
  * (4 bytes), w (2), h (2), then Y, U and V without padding: 8 + w * h + 2 * cw * ch bytes. So a file is 4 bytes, 12 more for each record, and the
- * records.
+ * records. This is the form without settings; that with settings stands further below.
  */
 
 /* The bytes of a buffer that may be written, to be read. */
@@ -558,8 +578,8 @@ typedef struct segvartin_shift_record {
 } segvartin_shift_record;
 
 /*
- * Reads a shift file (RULES 11.4). Answers 0, or a refusal: 15, exactly where the bytes are no shift file; then no record is written. Its time is that
- * of the pairs and of the first bytes of each record: planes are not looked at.
+ * Reads a shift file without settings (RULES 11.4). Answers 0, or a refusal: 15, exactly where the bytes are no such file, so for every file with
+ * settings too; then no record is written. Its time is that of the pairs and of the first bytes of each record: planes are not looked at.
  *
  *   file             the whole file, and nothing behind it
  *   first            the record to begin with; they count from 0. At or past the last there is none to tell of
@@ -608,7 +628,7 @@ static inline segvartin_bytes segvartin_shift_whole(segvartin_bytes file, const 
 }
 
 /*
- * Writes a shift file (RULES 11.5). Answers 0, or a refusal: 15, 16.
+ * Writes a shift file without settings (RULES 11.5). Answers 0, or a refusal: 15, 16.
  *
  *   records          up to 4096 records, one behind the other and nothing between; no bytes for a file without records. Where they stand so in a
  *                    file, from the first record's offset to the end, that is what is meant
@@ -625,7 +645,8 @@ static inline segvartin_answer segvartin_write_shift_file(segvartin_bytes record
 }
 
 /*
- * Makes a record of planes (RULES 11.6), as a frame call or the bands of a frame left them in 4:2:0. Answers 0, or a refusal: 15, 8 to 12, 16.
+ * Makes a record without settings of planes (RULES 11.6), as a frame call or the bands of a frame left them in 4:2:0. Answers 0, or a refusal: 15,
+ * 8 to 12, 16.
  *
  *   crossing         any number
  *   d                its width, height, y_stride, u_stride and v_stride are looked at, no setting. 15 where w or h is not from 1 to 16384
@@ -647,13 +668,133 @@ static inline segvartin_answer segvartin_write_shift_record(uint32_t crossing, c
 }
 
 /*
- * Summaries of shift files (RULES 12.1 to 12.7). A summary has an entry of SEGVARTIN_SUMMARY_ENTRY bytes for each record of its file: crossing
- * number (4 bytes), offset of the record in the file (8), the mean of its Y rounded down (1), each low byte first. They stand by ascending crossing
- * number, and those of one crossing by ascending offset. So a file of n records has one summary, of 13 * n bytes. Where a call is lent more, the
- * bytes behind these are not looked at.
+ * Shift files with settings (RULES 11.4 to 11.8): the second form of the file, whose records say how their planes were made. It starts with four
+ * bytes of 255; then come count, pairs and records as in the first form. A record has four bytes more, after h: sampling, range, matrix and
+ * transfer, by the codes above, and SEGVARTIN_NOT_RECORDED in any of the last three that is not known. Its planes have the size of its own sampling,
+ * so that it is 12 + w * h + 2 * cw * ch bytes; a file is 8 bytes, 12 more for each record, and the records.
  *
- * Each of the four calls goes through the Y planes of the file's records, for their means; a check only as far as the first entry that is not the
- * file's.
+ * Of a custom matrix a record says that it is one: kr and kb do not travel with it, and neither does the rounding of the curve tables. Who is to
+ * make the same planes again must have them from elsewhere.
+ *
+ * No bytes are a file of both forms. The functions above take the first form alone, and answer 15 to the second; those on summaries and pairs take
+ * both.
+ */
+
+/* In the place of a range, a matrix or a transfer that is not recorded (RULES 11.7). A sampling always is. */
+#define SEGVARTIN_NOT_RECORDED 255
+
+/* The form of a file (RULES 10.5). */
+#define SEGVARTIN_WITHOUT_SETTINGS 0
+#define SEGVARTIN_WITH_SETTINGS 1
+
+/* A record of a file of either form. One without settings is SEGVARTIN_YUV420, and nothing else of it is recorded. */
+typedef struct segvartin_settings_record {
+    segvartin_shift_record shift;     /* its numbers, and where it and its planes stand: for segvartin_shift_y and the others */
+    uint64_t sampling;                /* SEGVARTIN_YUV420 or SEGVARTIN_YUV422: by it U and V have their rows */
+    uint64_t range, matrix, transfer; /* the codes above, or SEGVARTIN_NOT_RECORDED */
+} segvartin_settings_record;
+
+/*
+ * Reads a shift file of either form (RULES 11.4). Answers 0, or a refusal: 15, exactly where the bytes are a file of neither. Its time is that of
+ * segvartin_read_shift_file.
+ *
+ *   records          as there, with the settings of each
+ *   form             gets the form of the file; SEGVARTIN_WITHOUT_SETTINGS after a refusal
+ *   the others       as there
+ */
+static inline segvartin_answer segvartin_read_any_shift_file(segvartin_bytes file, size_t first, segvartin_settings_record *records, size_t room,
+                                                             size_t *count, size_t *read, int *form) {
+    size_t told[3];
+    segvartin_answer a;
+    a.number = segvartin_call_shift_records_any(file.at, file.len, first, (uint64_t *)(void *)records, 15 * room, told); /* fifteen numbers each */
+    a.expected = a.received = 0;
+    *count = told[0];
+    *read = told[1];
+    *form = (int)told[2];
+    return a;
+}
+
+/*
+ * Writes a shift file with settings (RULES 11.5). Answers 0, or a refusal: 15, 16.
+ *
+ *   records          up to 4096 records with settings, as in segvartin_write_shift_file. 15 where a byte of settings is no code
+ *   file, size       as there
+ */
+static inline segvartin_answer segvartin_write_settings_file(segvartin_bytes records, segvartin_bytes_mut file, size_t *size) {
+    size_t told[1];
+    segvartin_answer a;
+    a.number = segvartin_call_shift_write_settings(records.at, records.len, file.at, file.len, told);
+    a.expected = a.received = 0;
+    *size = told[0];
+    return a;
+}
+
+/*
+ * Makes a record with settings of planes (RULES 11.6), as a frame call or the bands of a frame left them in either sampling. Answers 0, or a refusal:
+ * 15, 8 to 12, 16.
+ *
+ *   crossing         any number
+ *   d                that of the frame call: width, height, y_stride, u_stride and v_stride are looked at, and sampling, range, matrix and transfer
+ *                    are recorded, SEGVARTIN_CUSTOM as 6. kr, kb and channels are not recorded, and no options are. Where one of range, matrix and
+ *                    transfer is not known, set it to SEGVARTIN_NOT_RECORDED. 15 where w or h is not from 1 to 16384 or one of the four is no code
+ *   y, u, v          as in segvartin_frame with that sampling: of each row its first w or cw bytes are taken. They are only read
+ *   record, size     as in segvartin_write_shift_record
+ */
+static inline segvartin_answer segvartin_write_settings_record(uint32_t crossing, const segvartin_description *d, segvartin_bytes y,
+                                                               segvartin_bytes u, segvartin_bytes v, segvartin_bytes_mut record, size_t *size) {
+    const uint32_t numbers[10] = {crossing,    d->width,    d->height, d->y_stride, d->u_stride,
+                                  d->v_stride, d->sampling, d->range,  d->matrix,   d->transfer};
+    size_t told[3];
+    segvartin_answer a;
+    a.number = segvartin_call_shift_record_settings(numbers, y.at, y.len, u.at, u.len, v.at, v.len, record.at, record.len, told);
+    a.expected = told[0];
+    a.received = told[1];
+    *size = told[2];
+    return a;
+}
+
+/*
+ * Makes of a file without settings the file with settings of the same records (RULES 11.8), each with SEGVARTIN_YUV420 and nothing else recorded.
+ * Answers 0, or a refusal: 15, exactly where the bytes are no file without settings; 16.
+ *
+ *   file             the whole file, and nothing behind it
+ *   output           gets the moved file at its start, 4 bytes and 4 for each record longer than the file; what lies past it is left as it is. 16
+ *                    where it does not fit, and then no byte is written
+ *   size             gets the size of the moved file, also after 16; 0 after 15
+ */
+static inline segvartin_answer segvartin_move_forward(segvartin_bytes file, segvartin_bytes_mut output, size_t *size) {
+    size_t told[1];
+    segvartin_answer a;
+    a.number = segvartin_call_shift_forward(file.at, file.len, output.at, output.len, told);
+    a.expected = a.received = 0;
+    *size = told[0];
+    return a;
+}
+
+/*
+ * Makes of a file with settings the file without settings of the same records (RULES 11.8), where that loses nothing: of a file moved forward, the
+ * same bytes as before. Answers 0, or a refusal: 15, exactly where the bytes are no file with settings; 20, where a record has SEGVARTIN_YUV422 or a
+ * range, matrix or transfer that is recorded; 16.
+ *
+ *   file, output     as in segvartin_move_forward; here the moved file is so much shorter
+ *   size             gets the size of the moved file, also after 16; 0 after 15 and 20
+ */
+static inline segvartin_answer segvartin_move_back(segvartin_bytes file, segvartin_bytes_mut output, size_t *size) {
+    size_t told[1];
+    segvartin_answer a;
+    a.number = segvartin_call_shift_back(file.at, file.len, output.at, output.len, told);
+    a.expected = a.received = 0;
+    *size = told[0];
+    return a;
+}
+
+/*
+ * Summaries of shift files, of either form (RULES 12.1 to 12.7). A summary has an entry of SEGVARTIN_SUMMARY_ENTRY bytes for each record of its file:
+ * crossing number (4 bytes), offset of the record in the file (8), the mean of its Y rounded down (1), each low byte first. They stand by ascending
+ * crossing number, and those of one crossing by ascending offset. So a file of n records has one summary, of 13 * n bytes. Where a call is lent more,
+ * the bytes behind these are not looked at.
+ *
+ * Each of the calls goes through the Y planes of all records of the file, for their means.
  */
 
 /*
@@ -692,29 +833,40 @@ static inline segvartin_answer segvartin_check_summary(segvartin_bytes file, seg
  *   file             the whole file, and nothing behind it
  *   summary          its summary; 17 where the check above would not say yes
  *   crossing         any number
- *   record           gets the record, as segvartin_read_shift_file tells it: segvartin_shift_y and the others cut its planes out of the file. Where none
- *                    is found it is left as it is
+ *   record           gets the record, as segvartin_read_any_shift_file tells it: segvartin_shift_y and the others cut its planes out of the file.
+ *                    Where none is found it is left as it is
  *   found            gets 1 where a record has the number; else 0, and after a refusal
  */
-static inline segvartin_answer segvartin_find_record(segvartin_bytes file, segvartin_bytes summary, uint32_t crossing,
-                                                     segvartin_shift_record *record, int *found) {
+static inline segvartin_answer segvartin_find_any_record(segvartin_bytes file, segvartin_bytes summary, uint32_t crossing,
+                                                         segvartin_settings_record *record, int *found) {
     size_t told[2], count, read;
+    int form;
     segvartin_answer a;
     a.number = segvartin_call_summary_find(file.at, file.len, summary.at, summary.len, crossing, told);
     a.expected = a.received = 0;
     *found = told[0] != 0;
-    if (*found) segvartin_read_shift_file(file, told[1], record, 1, &count, &read);
+    if (*found) segvartin_read_any_shift_file(file, told[1], record, 1, &count, &read, &form);
+    return a;
+}
+
+/* The same without the settings: where the file may have them, U and V have as many bytes as the record says, in either sampling. */
+static inline segvartin_answer segvartin_find_record(segvartin_bytes file, segvartin_bytes summary, uint32_t crossing,
+                                                     segvartin_shift_record *record, int *found) {
+    segvartin_settings_record any;
+    segvartin_answer a = segvartin_find_any_record(file, summary, crossing, &any, found);
+    if (*found) *record = any.shift;
     return a;
 }
 
 /*
  * Makes of a file's summary that of the file with one record more at its end (RULES 12.7), which is then to be written by
- * segvartin_write_shift_file: byte for byte what segvartin_build_summary makes of that. Answers 0, or a refusal: 15, 17. The summary is checked first.
+ * segvartin_write_shift_file or segvartin_write_settings_file: byte for byte what segvartin_build_summary makes of that. Answers 0, or a refusal: 15,
+ * 17. The summary is checked first.
  *
  *   file             the file as it is, without the record; it is not changed
- *   record           one whole record. 15 where it is none, or more; and where the file has 4096 already
- *   summary          the file's summary, and room for 13 bytes more: for n records n + 1 entries are written at its start, the offsets of the old ones
- *                    being those of the file with the record. What lies past them is left as it is. 17 where they do not fit
+ *   record           one whole record of the file's form. 15 where it is none, or more, or of the other form; and where the file has 4096 already
+ *   summary          the file's summary, and room for 13 bytes more: for n records n + 1 entries are written at its start, the offsets of the old
+ *                    ones being those of the file with the record. What lies past them is left as it is. 17 where they do not fit
  */
 static inline segvartin_answer segvartin_update_summary(segvartin_bytes file, segvartin_bytes record, segvartin_bytes_mut summary) {
     segvartin_answer a;
@@ -735,26 +887,27 @@ static inline segvartin_answer segvartin_update_summary(segvartin_bytes file, se
 
 /*
  * The report of two files (RULES 13.2, 13.3). equal + differing + only_ours is the number of records of ours, equal + differing + only_theirs that
- * of theirs. The last three are 0; a later version may give them other values.
+ * of theirs. A later version may give the last number a meaning.
  */
 typedef struct segvartin_pair_report {
-    uint64_t equal;                                            /* pairs of the same size with the same bytes in all planes */
+    uint64_t equal;                                            /* pairs of the same size and sampling with the same bytes in all planes */
     uint64_t differing;                                        /* the other pairs */
     uint64_t only_ours, only_theirs;                           /* records without a pair */
     uint64_t difference;                                       /* that of the first differing pair, by crossing and then by offset. 0: none differs */
     uint64_t crossing, our_record, their_record;               /* its crossing; the numbers of its records in ours and in theirs, from 0 */
     uint64_t our_width, our_height, their_width, their_height; /* SEGVARTIN_SIZES_DIFFER: both sizes; else 0 */
     uint64_t plane, row, column;                               /* SEGVARTIN_BYTES_DIFFER: the first unequal byte; plane 0 Y, 1 U, 2 V; else 0 */
-    uint64_t our_sampling, their_sampling;                     /* 0, SEGVARTIN_YUV420: a record has no other sampling */
+    uint64_t our_sampling, their_sampling;                     /* SEGVARTIN_SIZES_DIFFER: both samplings, which may be all that differs; else 0 */
     uint64_t zero;
 } segvartin_pair_report;
 
 /*
- * Pairs two shift files (RULES 13.4), the k-th record of a crossing in ours with the k-th in theirs, by offset; and reports how many pairs are
- * equal, and how the first differs that is not. Answers 0, or a refusal: 15, exactly where one of them is no shift file. No summary is needed. Its
- * time is that of the planes of both files, each pair's up to the row of its first unequal byte, and of sorting the records.
+ * Pairs two shift files (RULES 13.4), the k-th record of a crossing in ours with the k-th in theirs, by offset; and reports how many pairs are equal,
+ * and how the first differs that is not. Unequal samplings count as unequal sizes; ranges, matrices and transfers are not looked at. Answers 0, or a
+ * refusal: 15, exactly where one of them is no shift file. No summary is needed. Its time is that of the planes of both files, each pair's up to the
+ * row of its first unequal byte, and of sorting the records.
  *
- *   ours, theirs     two whole files, and nothing behind them
+ *   ours, theirs     two whole files, and nothing behind them; each has its own form
  *   report           gets the report. After a refusal it is left as it is
  *   broken           gets which is no shift file: SEGVARTIN_OURS, where both are too; SEGVARTIN_THEIRS; SEGVARTIN_NEITHER where 0 is answered
  */
