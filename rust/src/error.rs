@@ -15,8 +15,8 @@ pub struct MismatchedSize {
 #[derive(Debug, Copy, Clone, Eq, PartialEq)]
 #[non_exhaustive]
 pub enum YuvError {
-    /// 15: a shift file, or what is to be written, breaks the layout; or a record's width or height is not from 1 to 16,384; or a summary is to be
-    /// updated with what is not one record, or for a file that has 4,096.
+    /// 15: a shift file, or what is to be written, breaks the layout, or has the form that the call does not take; or a record's width or height is not
+    /// from 1 to 16,384; or a summary is to be updated with what is not one record of the file's form, or for a file that has 4,096.
     MalformedShiftFile,
     /// 17: the memory lent for a summary is too short; or, in a lookup or an update, it is not the file's summary.
     SummaryMismatch,
@@ -48,6 +48,8 @@ pub enum YuvError {
     WholeRowsMismatch(MismatchedSize),
     /// 13: the carried row is shorter than 3 × width.
     CarriedRowSizeMismatch(MismatchedSize),
+    /// 20: a shift file to be moved back has a record in 4:2:2, or one with a range, matrix or transfer that is recorded.
+    SettingsRecorded,
     /// 16: the memory lent for a shift file or a record is too short.
     OutputTooShort,
 }
@@ -73,6 +75,7 @@ impl YuvError {
             YuvError::VPlaneMinimumSizeMismatch(_) => 11,
             YuvError::WholeRowsMismatch(_) => 12,
             YuvError::CarriedRowSizeMismatch(_) => 13,
+            YuvError::SettingsRecorded => 20,
             YuvError::OutputTooShort => 16,
         }
     }
@@ -89,6 +92,7 @@ impl YuvError {
             | YuvError::MatrixNotAccepted
             | YuvError::WindowOutsideSource
             | YuvError::BandRowsMismatch
+            | YuvError::SettingsRecorded
             | YuvError::OutputTooShort => None,
             YuvError::DestinationSizeMismatch(size)
             | YuvError::MinimumStrideSizeMismatch(size)
@@ -121,6 +125,7 @@ impl YuvError {
             11 => YuvError::VPlaneMinimumSizeMismatch(size),
             12 => YuvError::WholeRowsMismatch(size),
             13 => YuvError::CarriedRowSizeMismatch(size),
+            20 => YuvError::SettingsRecorded,
             16 => YuvError::OutputTooShort,
             _ => YuvError::MalformedRequest,
         })
@@ -148,6 +153,7 @@ impl Display for YuvError {
             YuvError::VPlaneMinimumSizeMismatch(_) => "V is too narrow or too short",
             YuvError::WholeRowsMismatch(_) => "a buffer is not exactly its rows long",
             YuvError::CarriedRowSizeMismatch(_) => "the carried row is too short",
+            YuvError::SettingsRecorded => "a record has settings that the other form would lose",
             YuvError::OutputTooShort => "the output is too short",
         };
         write!(f, "refused {}: {what}", self.number())?;

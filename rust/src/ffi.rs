@@ -58,7 +58,24 @@ unsafe extern "C" {
         told: &mut [usize; 2],
     ) -> u32;
 
+    pub(crate) fn segvartin_call_shift_records_any(
+        file: *const u8,
+        file_len: usize,
+        first: usize,
+        entries: *mut u64,
+        entries_len: usize,
+        told: &mut [usize; 3],
+    ) -> u32;
+
     pub(crate) fn segvartin_call_shift_write(
+        records: *const u8,
+        records_len: usize,
+        file: *mut u8,
+        file_len: usize,
+        told: &mut [usize; 1],
+    ) -> u32;
+
+    pub(crate) fn segvartin_call_shift_write_settings(
         records: *const u8,
         records_len: usize,
         file: *mut u8,
@@ -77,6 +94,35 @@ unsafe extern "C" {
         record: *mut u8,
         record_len: usize,
         told: &mut [usize; 3],
+    ) -> u32;
+
+    pub(crate) fn segvartin_call_shift_record_settings(
+        numbers: &[u32; 10],
+        y: *const u8,
+        y_len: usize,
+        u: *const u8,
+        u_len: usize,
+        v: *const u8,
+        v_len: usize,
+        record: *mut u8,
+        record_len: usize,
+        told: &mut [usize; 3],
+    ) -> u32;
+
+    pub(crate) fn segvartin_call_shift_forward(
+        file: *const u8,
+        file_len: usize,
+        output: *mut u8,
+        output_len: usize,
+        told: &mut [usize; 1],
+    ) -> u32;
+
+    pub(crate) fn segvartin_call_shift_back(
+        file: *const u8,
+        file_len: usize,
+        output: *mut u8,
+        output_len: usize,
+        told: &mut [usize; 1],
     ) -> u32;
 
     pub(crate) fn segvartin_call_summary_build(

@@ -1,6 +1,6 @@
 //! RGB frames to planar YUV 4:2:0 and 4:2:2 over the proved library, under the names and with the argument order of yuvutils-rs's sharp path; and
-//! [shift files](ShiftFile), which hold the planes of many frames, with [summaries](ShiftFile::build_summary) by which a frame is found in one,
-//! and [two of which](pair_shift_files) are held against each other.
+//! [shift files](ShiftFile), which hold the planes of many frames, with [settings](RecordSettings) or without, with
+//! [summaries](ShiftFile::build_summary) by which a frame is found in one, and [two of which](pair_shift_files) are held against each other.
 //!
 //! Every call answers finished work or one numbered refusal ([`YuvError`]), for all sizes, strides, lengths and settings; a refusal writes no
 //! byte. The rules that fix each byte and each answer are docs/RULES.md of the repository; RULES 7.1 in a comment is one of them.
@@ -28,6 +28,7 @@ mod frame;
 mod image;
 mod mode;
 mod pairs;
+mod recorded;
 mod settings;
 mod shift;
 mod summary;
@@ -40,12 +41,14 @@ pub use image::{BufferStoreMut, YuvPlanarImageMut};
 pub use pairs::{
     DifferingPair, PairDifference, PairError, PairReport, PairSide, YuvPlane, pair_shift_files,
 };
+pub use recorded::{RecordSettings, RecordedMatrix, ShiftForm};
 pub use settings::{
     FrameDescription, FrameOptions, SharpYuvGammaTransfer, TableRounding, Window,
     YuvChromaSubsampling, YuvRange, YuvSourceChannels, YuvStandardMatrix,
 };
 pub use shift::{
-    ShiftFile, ShiftRecord, ShiftRecords, shift_file_size, shift_record, shift_record_size,
-    write_shift_file,
+    ShiftFile, ShiftRecord, ShiftRecords, move_back, move_forward, moved_back_size,
+    moved_forward_size, settings_file_size, settings_record, settings_record_size, shift_file_size,
+    shift_record, shift_record_size, write_settings_file, write_shift_file,
 };
 pub use summary::SUMMARY_ENTRY;

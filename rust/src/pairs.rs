@@ -2,6 +2,8 @@
 
 use crate::error::YuvError;
 use crate::ffi;
+use crate::recorded::RecordSettings;
+use crate::settings::YuvChromaSubsampling;
 use std::error::Error;
 use std::fmt::{Display, Formatter};
 
@@ -24,11 +26,13 @@ pub enum YuvPlane {
 #[derive(Debug, Copy, Clone, Eq, PartialEq)]
 #[non_exhaustive]
 pub enum PairDifference {
-    /// Width and height of the record in ours, and of that in theirs.
+    /// Width and height of the record in ours, and of that in theirs; and their samplings, which may be all that differs.
     #[non_exhaustive]
     Sizes {
         ours: (u32, u32),
         theirs: (u32, u32),
+        our_sampling: YuvChromaSubsampling,
+        their_sampling: YuvChromaSubsampling,
     },
     /// The first byte that differs, in Y, U, V by rows; row and column count from 0, in those of the plane.
     #[non_exhaustive]
@@ -56,7 +60,7 @@ pub struct DifferingPair {
 #[derive(Debug, Copy, Clone, Eq, PartialEq)]
 #[non_exhaustive]
 pub struct PairReport {
-    /// Pairs of the same size with the same bytes in all planes.
+    /// Pairs of the same size and sampling with the same bytes in all planes.
     pub equal: usize,
     /// The other pairs.
     pub differing: usize,
@@ -98,8 +102,9 @@ impl From<PairError> for YuvError {
     }
 }
 
-/// Pairs two shift files, the k-th record of a crossing in ours with the k-th in theirs, by offset, and tells how many pairs are equal, and how the first
-/// differs that is not: RULES 13.4. Refuses (15) exactly the bytes that are no shift file, and says which of the two they are. The same bytes may be both.
+/// Pairs two shift files, each of either form, the k-th record of a crossing in ours with the k-th in theirs, by offset, and tells how many pairs are
+/// equal, and how the first differs that is not: RULES 13.4. Unequal samplings count as unequal sizes; ranges, matrices and transfers are not looked at.
+/// Refuses (15) exactly the bytes that are no shift file, and says which of the two they are. The same bytes may be both.
 ///
 /// ```
 /// use segvartin::*;
@@ -162,13 +167,18 @@ fn report_of(numbers: &[u64; 18]) -> PairReport {
         plane,
         row,
         column,
-        ..,
+        our_sampling,
+        their_sampling,
+        _,
     ] = rest;
     let size = |width: usize, height: usize| (width as u32, height as u32);
+    let sampling = |code: usize| RecordSettings::of_codes([code as u64, 255, 255, 255]).sampling;
     let difference = match kind {
         1 => Some(PairDifference::Sizes {
             ours: size(our_width, our_height),
             theirs: size(their_width, their_height),
+            our_sampling: sampling(our_sampling),
+            their_sampling: sampling(their_sampling),
         }),
         2 => Some(PairDifference::Place {
             plane: match plane {

@@ -16,6 +16,15 @@ pub enum YuvChromaSubsampling {
     Yuv422,
 }
 
+impl YuvChromaSubsampling {
+    pub(crate) fn code(self) -> u32 {
+        match self {
+            YuvChromaSubsampling::Yuv420 => 0,
+            YuvChromaSubsampling::Yuv422 => 1,
+        }
+    }
+}
+
 /// Declares YUV range TV (limited) or Full.
 #[derive(Debug, Copy, Clone, PartialEq, Eq)]
 pub enum YuvRange {
@@ -79,6 +88,17 @@ pub enum SharpYuvGammaTransfer {
     Gamma2p2,
     /// Pure gamma 2.8.
     Gamma2p8,
+}
+
+impl SharpYuvGammaTransfer {
+    pub(crate) fn code(self) -> u32 {
+        match self {
+            SharpYuvGammaTransfer::Srgb => 0,
+            SharpYuvGammaTransfer::Rec709 => 1,
+            SharpYuvGammaTransfer::Gamma2p2 => 2,
+            SharpYuvGammaTransfer::Gamma2p8 => 3,
+        }
+    }
 }
 
 /// How the entries of both curve tables are rounded (RULES 3.4, 3.5).
@@ -185,16 +205,6 @@ impl FrameDescription {
             YuvSourceChannels::Bgra => 2,
             YuvSourceChannels::Bgr => 3,
         };
-        let sampling = match self.sampling {
-            YuvChromaSubsampling::Yuv420 => 0,
-            YuvChromaSubsampling::Yuv422 => 1,
-        };
-        let transfer = match self.transfer {
-            SharpYuvGammaTransfer::Srgb => 0,
-            SharpYuvGammaTransfer::Rec709 => 1,
-            SharpYuvGammaTransfer::Gamma2p2 => 2,
-            SharpYuvGammaTransfer::Gamma2p8 => 3,
-        };
         [
             done,
             rows,
@@ -202,10 +212,10 @@ impl FrameDescription {
             self.width,
             self.height,
             channels,
-            sampling,
+            self.sampling.code(),
             self.range.code(),
             self.matrix.code(),
-            transfer,
+            self.transfer.code(),
             self.y_stride,
             self.u_stride,
             self.v_stride,

@@ -8,7 +8,7 @@ use crate::shift::{ShiftFile, ShiftRecord};
 /// down (1), each low byte first; by ascending crossing number, and by ascending offset where that is equal.
 pub const SUMMARY_ENTRY: usize = 13;
 
-/// Summaries. A summary is the first [`summary_size`](ShiftFile::summary_size) bytes of what is lent; the bytes behind them are not looked at.
+/// Summaries, of files of either form. A summary is the first [`summary_size`](ShiftFile::summary_size) bytes of what is lent; the bytes behind them are not looked at.
 /// Each call but that goes through the Y planes of all records, for their means.
 ///
 /// ```
@@ -107,9 +107,10 @@ impl<'a> ShiftFile<'a> {
     }
 
     /// Makes of the file's summary that of the file with `record` at its end, byte for byte what is built from that, and tells its size,
-    /// [`SUMMARY_ENTRY`] more than that of the file; what lies past it is left as it is: RULES 12.7. The file with the record is [`write_shift_file`](crate::write_shift_file)'s of
-    /// [`records_as_bytes`](ShiftFile::records_as_bytes) and the record. Refuses what is not one record, and every record where the file has 4,096
-    /// (15); a `summary` that is too short for one entry more, or not the file's (17); and then writes no byte.
+    /// [`SUMMARY_ENTRY`] more than that of the file; what lies past it is left as it is: RULES 12.7. The file with the record is
+    /// [`write_shift_file`](crate::write_shift_file)'s, or with settings [`write_settings_file`](crate::write_settings_file)'s, of
+    /// [`records_as_bytes`](ShiftFile::records_as_bytes) and the record. Refuses what is not one record of the file's form, and every record where the
+    /// file has 4,096 (15); a `summary` that is too short for one entry more, or not the file's (17); and then writes no byte.
     pub fn update_summary(&self, record: &[u8], summary: &mut [u8]) -> Result<usize, YuvError> {
         let file = self.as_bytes();
         // SAFETY: each pointer is that of a slice beside its own length; what is written overlaps nothing, as the borrows say.
