@@ -103,8 +103,8 @@ impl From<PairError> for YuvError {
 }
 
 /// Pairs two shift files, each of either form, the k-th record of a crossing in ours with the k-th in theirs, by offset, and tells how many pairs are
-/// equal, and how the first differs that is not: RULES 13.4. Unequal samplings count as unequal sizes; ranges, matrices and transfers are not looked at.
-/// Refuses (15) exactly the bytes that are no shift file, and says which of the two they are. The same bytes may be both.
+/// equal, and how the first differs that is not: RULES 13.4. Unequal samplings count as unequal sizes; ranges, matrices and transfers are not looked
+/// at. Refuses (15) exactly the bytes that are no shift file, and says which of the two they are. The same bytes may be both.
 ///
 /// ```
 /// use segvartin::*;

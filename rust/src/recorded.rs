@@ -49,8 +49,8 @@ const MATRICES: [YuvStandardMatrix; 7] = [
 ];
 
 /// What a record says of how its planes were made; `None` is a setting that is not recorded. kr and kb of a Custom matrix do not travel with it, and
-/// neither does the rounding of the curve tables. [`RecordSettings::of`] or [`RecordSettings::new`] makes it, and a field is then set by name; it may gain
-/// fields.
+/// neither does the rounding of the curve tables. [`RecordSettings::of`] or [`RecordSettings::new`] makes it, and a field is then set by name; it may
+/// gain fields.
 ///
 /// ```
 /// use segvartin::*;

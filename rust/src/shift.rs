@@ -203,8 +203,8 @@ impl<'a> IntoIterator for &ShiftFile<'a> {
     }
 }
 
-/// A record of a shift file, without padding: `y` has `height` rows of `width` bytes, `u` and `v` have rows of half as many bytes, rounded up; in 4:2:0,
-/// which is the sampling of every record without settings, also half as many rows, rounded up. It may gain fields.
+/// A record of a shift file, without padding: `y` has `height` rows of `width` bytes, `u` and `v` have rows of half as many bytes, rounded up; in
+/// 4:2:0, which is the sampling of every record without settings, also half as many rows, rounded up. It may gain fields.
 #[derive(Copy, Clone, Eq, PartialEq)]
 #[non_exhaustive]
 pub struct ShiftRecord<'a> {
@@ -311,8 +311,9 @@ fn count_without_settings(file: &[u8]) -> (u32, usize) {
     (number, count)
 }
 
-/// Writes the shift file without settings of these records, up to 4,096 that stand one behind the other, at the start of `file`, and tells its size; what lies past it
-/// is left as it is: RULES 11.5. Refuses what are no such records (15) and a `file` that is too short (16), and then writes no byte.
+/// Writes the shift file without settings of these records, up to 4,096 that stand one behind the other, at the start of `file`, and tells its size;
+/// what lies past it is left as it is: RULES 11.5. Refuses what are no such records (15) and a `file` that is too short (16), and then writes no
+/// byte.
 ///
 /// ```
 /// use segvartin::*;
@@ -337,8 +338,8 @@ pub fn shift_file_size(records: &[u8]) -> Result<usize, YuvError> {
     size_of(answer, size)
 }
 
-/// Writes the shift file with settings of these records, each of which has settings, as [`write_shift_file`] does: RULES 11.5. Refuses what are no such
-/// records (15) and a `file` that is too short (16), and then writes no byte.
+/// Writes the shift file with settings of these records, each of which has settings, as [`write_shift_file`] does: RULES 11.5. Refuses what are no
+/// such records (15) and a `file` that is too short (16), and then writes no byte.
 ///
 /// ```
 /// use segvartin::*;
@@ -390,9 +391,9 @@ fn made_of(make: Make, from: &[u8], to: &mut [u8]) -> (Result<(), YuvError>, usi
     (YuvError::answer(number, 0, 0), size)
 }
 
-/// Moves a file without settings forward: writes the file with settings of the same records, each in 4:2:0 and with nothing else recorded, at the start of
-/// `output`, and tells its size; what lies past it is left as it is: RULES 11.8. Refuses bytes that are no file without settings (15) and an `output` that
-/// is too short (16), and then writes no byte.
+/// Moves a file without settings forward: writes the file with settings of the same records, each in 4:2:0 and with nothing else recorded, at the
+/// start of `output`, and tells its size; what lies past it is left as it is: RULES 11.8. Refuses bytes that are no file without settings (15) and an
+/// `output` that is too short (16), and then writes no byte.
 ///
 /// ```
 /// use segvartin::*;
@@ -420,9 +421,10 @@ pub fn moved_forward_size(file: &[u8]) -> Result<usize, YuvError> {
     size_of(answer, size)
 }
 
-/// Moves a file with settings back: writes the file without settings of the same records at the start of `output`, and tells its size; what lies past it is
-/// left as it is: RULES 11.8. Of a file that was moved forward, these are the bytes from before. Refuses bytes that are no file with settings (15); a file
-/// with a record in 4:2:2 or with a range, matrix or transfer that is recorded (20); and an `output` that is too short (16); and then writes no byte.
+/// Moves a file with settings back: writes the file without settings of the same records at the start of `output`, and tells its size; what lies past
+/// it is left as it is: RULES 11.8. Of a file that was moved forward, these are the bytes from before. Refuses bytes that are no file with settings
+/// (15); a file with a record in 4:2:2 or with a range, matrix or transfer that is recorded (20); and an `output` that is too short (16); and then
+/// writes no byte.
 pub fn move_back(file: &[u8], output: &mut [u8]) -> Result<usize, YuvError> {
     let (answer, size) = made_of(ffi::segvartin_call_shift_back, file, output);
     answer?;
@@ -435,9 +437,9 @@ pub fn moved_back_size(file: &[u8]) -> Result<usize, YuvError> {
     size_of(answer, size)
 }
 
-/// Makes a record without settings of the planes of an image of 4:2:0, as a frame call or the bands of a frame left them, at the start of `record`, and tells its size;
-/// what lies past it is left as it is: RULES 11.6. Of each row its width is taken and its padding not. Refuses a size (15), strides and lengths (8 to
-/// 12) and a `record` that is too short (16), and then writes no byte.
+/// Makes a record without settings of the planes of an image of 4:2:0, as a frame call or the bands of a frame left them, at the start of `record`,
+/// and tells its size; what lies past it is left as it is: RULES 11.6. Of each row its width is taken and its padding not. Refuses a size (15),
+/// strides and lengths (8 to 12) and a `record` that is too short (16), and then writes no byte.
 pub fn shift_record(
     crossing: u32,
     image: &YuvPlanarImageMut<u8>,

@@ -8,8 +8,8 @@ use crate::shift::{ShiftFile, ShiftRecord};
 /// down (1), each low byte first; by ascending crossing number, and by ascending offset where that is equal.
 pub const SUMMARY_ENTRY: usize = 13;
 
-/// Summaries, of files of either form. A summary is the first [`summary_size`](ShiftFile::summary_size) bytes of what is lent; the bytes behind them are not looked at.
-/// Each call but that goes through the Y planes of all records, for their means.
+/// Summaries, of files of either form. A summary is the first [`summary_size`](ShiftFile::summary_size) bytes of what is lent; the bytes behind them
+/// are not looked at. Each call but that goes through the Y planes of all records, for their means.
 ///
 /// ```
 /// use segvartin::*;
