@@ -794,7 +794,7 @@ static inline segvartin_answer segvartin_move_back(segvartin_bytes file, segvart
  * crossing number, and those of one crossing by ascending offset. So a file of n records has one summary, of 13 * n bytes. Where a call is lent more,
  * the bytes behind these are not looked at.
  *
- * Each of the calls goes through the Y planes of all records of the file, for their means.
+ * Each of the calls goes through the Y planes of the file's records, for their means; a check only as far as the first entry that is not the file's.
  */
 
 /*
