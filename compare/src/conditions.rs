@@ -4,14 +4,16 @@
 
 use crate::request::{BandRequest, FrameRequest, Lent, Shape};
 use crate::summary::{Ask, ENTRY};
-use model::shift::RecordRequest;
+use model::shift::{RecordRequest, ShiftForm};
 use model::{Answer, FrameState, Refusal, Settings, Window, YuvStandardMatrix};
 
 /// Number, whether it holds, expected, received.
 type Condition = (u8, bool, u128, u128);
 
 /// The order in which they are asked.
-const ORDER: [u8; 17] = [15, 17, 1, 2, 3, 4, 14, 5, 6, 7, 8, 9, 10, 11, 12, 13, 16];
+const ORDER: [u8; 18] = [
+    15, 17, 1, 2, 3, 4, 14, 5, 6, 7, 8, 9, 10, 11, 12, 13, 20, 16,
+];
 
 /// A mistake in a condition that a window brings, so that a list of calls can be held to catch it.
 #[derive(Clone, Copy, PartialEq)]
@@ -136,34 +138,89 @@ pub fn of_counts(numbers: &[u32], custom: &[f32; 2]) -> Answer {
     first(Without, all)
 }
 
+/// RULES 11.7: what a file with settings starts with.
+const MARK: [u8; 4] = [255; 4];
+
+/// RULES 11.1, 11.7: the bytes before the first of so many records.
+pub fn start(form: ShiftForm, count: usize) -> usize {
+    let before = match form {
+        ShiftForm::WithoutSettings => 4,
+        ShiftForm::WithSettings => 8,
+    };
+    before + 12 * count
+}
+
+/// RULES 11.2, 11.7: the bytes of a record before its planes.
+pub fn header(form: ShiftForm) -> usize {
+    match form {
+        ShiftForm::WithoutSettings => 8,
+        ShiftForm::WithSettings => 12,
+    }
+}
+
+/// RULES 11.8: what is said of a record that says nothing.
+pub const UNSAID: [u8; 4] = [0, 255, 255, 255];
+
+/// RULES 11.7: sampling, range, matrix and transfer of a record.
+pub fn settings_of(form: ShiftForm, record: &[u8]) -> [u8; 4] {
+    match form {
+        ShiftForm::WithoutSettings => UNSAID,
+        ShiftForm::WithSettings => *record[8..].first_chunk().expect("four bytes of settings"),
+    }
+}
+
+/// RULES 11.7: up to the last code of each, and 255 but for a sampling.
+pub fn are_settings(four: [u32; 4]) -> bool {
+    const LAST: [u32; 4] = [1, 1, 6, 3];
+    (0..4).all(|k| four[k] <= LAST[k] || (k > 0 && four[k] == 255))
+}
+
+/// The form of which these bytes can be a file: that of their first four.
+pub fn form_of(file: &[u8]) -> ShiftForm {
+    match file.starts_with(&MARK) {
+        true => ShiftForm::WithSettings,
+        false => ShiftForm::WithoutSettings,
+    }
+}
+
+/// The records of a file of either form.
+pub fn records_of_any(file: &[u8]) -> Option<(ShiftForm, Vec<&[u8]>)> {
+    let form = form_of(file);
+    Some((form, records_of_file(form, file)?))
+}
+
 /// RULES 11.3: the records of the one list that these bytes can be the file of. It has as many records
-/// as the first number says, they stand behind as many pairs, and its own bytes must be these.
-pub fn records_of_file(file: &[u8]) -> Option<Vec<&[u8]>> {
-    let count = u32::from_le_bytes(*file.first_chunk()?) as usize;
-    let records = records_of(file.get(4 + 12 * count..)?)?;
-    let bytes = file_of(&records);
+/// as its count says, they stand behind as many pairs, and its own bytes must be these.
+pub fn records_of_file(form: ShiftForm, file: &[u8]) -> Option<Vec<&[u8]>> {
+    let count = file.get(start(form, 0) - 4..)?.first_chunk()?;
+    let count = u32::from_le_bytes(*count) as usize;
+    let records = records_of(form, file.get(start(form, count)..)?)?;
+    let bytes = file_of(form, &records);
     (records.len() == count && bytes == file).then_some(records)
 }
 
-/// RULES 11.3: records that stand back to back.
-pub fn records_of(mut bytes: &[u8]) -> Option<Vec<&[u8]>> {
+/// RULES 11.3: records of a form that stand back to back.
+pub fn records_of(form: ShiftForm, mut bytes: &[u8]) -> Option<Vec<&[u8]>> {
     let mut records = Vec::new();
     while !bytes.is_empty() {
-        let [_, _, _, _, w0, w1, h0, h1] = *bytes.first_chunk()?;
+        let [_, _, _, _, w0, w1, h0, h1] = *bytes.get(..header(form))?.first_chunk()?;
         let [w, h] = [[w0, w1], [h0, h1]].map(|side| u32::from(u16::from_le_bytes(side)));
-        if [w, h].iter().any(|side| *side < 1 || *side > 16_384) {
+        let settings = settings_of(form, bytes);
+        let sides = [w, h].iter().all(|side| *side >= 1 && *side <= 16_384);
+        if !sides || !are_settings(settings.map(u32::from)) {
             return None;
         }
-        let (record, others) = bytes.split_at_checked(record_length(w, h) as usize)?;
+        let length = record_length(form, settings[0], w, h) as usize;
+        let (record, others) = bytes.split_at_checked(length)?;
         records.push(record);
         bytes = others;
     }
     (records.len() <= 4_096).then_some(records)
 }
 
-/// RULES 11.1.
-pub fn file_of(records: &[&[u8]]) -> Vec<u8> {
-    let first = 4 + 12 * records.len();
+/// RULES 11.1, 11.7.
+pub fn file_of(form: ShiftForm, records: &[&[u8]]) -> Vec<u8> {
+    let first = start(form, records.len());
     let mut pairs = Vec::new();
     for (k, record) in records.iter().enumerate() {
         let before: usize = records[..k].iter().map(|record| record.len()).sum();
@@ -171,18 +228,27 @@ pub fn file_of(records: &[&[u8]]) -> Vec<u8> {
         pairs.extend((record.len() as u32).to_le_bytes());
     }
     let count = (records.len() as u32).to_le_bytes();
-    [&count[..], &pairs, &records.concat()].concat()
+    let mark = match form {
+        ShiftForm::WithoutSettings => &[][..],
+        ShiftForm::WithSettings => &MARK,
+    };
+    [mark, &count[..], &pairs, &records.concat()].concat()
 }
 
-/// RULES 11.2.
-pub fn record_length(w: u32, h: u32) -> u64 {
-    let [w, h] = [w, h].map(u64::from);
-    8 + w * h + 2 * ((w + 1) / 2 * ((h + 1) / 2))
+/// RULES 1.5: cw and ch by the code of the sampling.
+pub fn chroma_sides(sampling: u8, w: u32, h: u32) -> [u32; 2] {
+    [w.div_ceil(2), if sampling == 1 { h } else { h.div_ceil(2) }]
+}
+
+/// RULES 11.2, 11.7.
+pub fn record_length(form: ShiftForm, sampling: u8, w: u32, h: u32) -> u64 {
+    let [cw, ch] = chroma_sides(sampling, w, h).map(u64::from);
+    header(form) as u64 + u64::from(w) * u64::from(h) + 2 * (cw * ch)
 }
 
 /// RULES 11.5: the file's size too, where there is one.
-pub fn of_shift_write(records: Option<&[&[u8]]>, output: usize) -> (Answer, u64) {
-    let size = records.map_or(0, |records| file_of(records).len());
+pub fn of_shift_write(form: ShiftForm, records: Option<&[&[u8]]>, output: usize) -> (Answer, u64) {
+    let size = records.map_or(0, |records| file_of(form, records).len());
     let all = vec![(16, output < size, 0, 0), (15, records.is_none(), 0, 0)];
     (first(Without, all), size as u64)
 }
@@ -193,22 +259,70 @@ pub fn of_shift_record(
     planes: &[Vec<u8>; 3],
     output: usize,
 ) -> (Answer, u64) {
-    let &RecordRequest { w, h, .. } = request;
-    let outside = [w, h].iter().any(|side| *side < 1 || *side > 16_384);
+    let &RecordRequest { w, h, settings, .. } = request;
+    let unknown = settings.is_some_and(|four| !are_settings(four));
+    let outside = unknown || [w, h].iter().any(|side| *side < 1 || *side > 16_384);
+    let form = form_asked(request);
+    let sampling = settings.map_or(0, |[sampling, ..]| sampling as u8);
     let strides = [request.y_stride, request.u_stride, request.v_stride];
     let shape = |row: u32, rows: u32| Shape {
         row: u64::from(row),
         rows: u64::from(rows),
     };
-    let chroma = shape(w.div_ceil(2), h.div_ceil(2));
+    let [cw, ch] = chroma_sides(sampling, w, h);
+    let chroma = shape(cw, ch);
     let lengths = planes.each_ref().map(Vec::len);
     let mut all = planes_of(strides, [shape(w, h), chroma, chroma], lengths);
-    let size = if outside { 0 } else { record_length(w, h) };
+    let size = match outside {
+        true => 0,
+        false => record_length(form, sampling, w, h),
+    };
     all.push((16, (output as u64) < size, 0, 0));
     all.push((15, outside, 0, 0));
     let answer = first(Without, all);
-    let told = matches!(answer, Ok(()) | Err(Refusal { number: 16, .. }));
-    (answer, if told { size } else { 0 })
+    (answer, if is_told(&answer) { size } else { 0 })
+}
+
+/// The form of the record that is to be made.
+pub fn form_asked(request: &RecordRequest) -> ShiftForm {
+    match request.settings {
+        None => ShiftForm::WithoutSettings,
+        Some(_) => ShiftForm::WithSettings,
+    }
+}
+
+/// Whether a size is told with this answer.
+fn is_told(answer: &Answer) -> bool {
+    matches!(answer, Ok(()) | Err(Refusal { number: 16, .. }))
+}
+
+/// RULES 11.8: the records of the file that is moved to this form; whether one of them has what that form has no place for; and the size too,
+/// where there is one.
+pub fn of_move(to: ShiftForm, records: Option<&[&[u8]]>, output: usize) -> (Answer, u64) {
+    let lost = |record: &&[u8]| settings_of(from(to), record) != UNSAID;
+    let loses = records.is_some_and(|records| records.iter().any(lost));
+    let size = records.map_or(0, |records| {
+        let all: usize = records.iter().map(|record| record.len()).sum();
+        start(to, records.len()) + all + records.len() * header(to)
+            - records.len() * header(from(to))
+    });
+    let answer = first(
+        Without,
+        vec![
+            (16, output < size, 0, 0),
+            (20, loses, 0, 0),
+            (15, records.is_none(), 0, 0),
+        ],
+    );
+    (answer, if is_told(&answer) { size as u64 } else { 0 })
+}
+
+/// The form of a file that is moved to this one.
+pub fn from(to: ShiftForm) -> ShiftForm {
+    match to {
+        ShiftForm::WithoutSettings => ShiftForm::WithSettings,
+        ShiftForm::WithSettings => ShiftForm::WithoutSettings,
+    }
 }
 
 /// RULES 12.4 to 12.7, of a file that is one: how many records there are, those that an update adds

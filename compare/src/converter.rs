@@ -1,7 +1,7 @@
 //! What is compared: the model, the oracle, and the library that users link. The built program is in program.rs.
 
 use crate::request::BandRequest;
-use model::shift::RecordRequest;
+use model::shift::{RecordRequest, ShiftForm};
 use model::{Answer, Frame, FrameState, Refusal};
 
 /// A converter by the rules. To compare one more, implement this for it and add it to
@@ -47,7 +47,7 @@ pub trait Converter {
         None
     }
 
-    /// Whether it has the three calls on shift files, the four on summaries, and the pairing of two files.
+    /// Whether it has the calls on shift files of either form, the four on summaries, and the pairing of two files.
     fn has_shift_files(&self) -> bool {
         false
     }
@@ -58,12 +58,23 @@ pub trait Converter {
         unreachable!("has_shift_files() says so")
     }
 
-    /// Writes a shift file of records: the answer and the size.
-    fn shift_write(&self, _records: &[u8], _output: &mut [u8]) -> (Answer, u64) {
+    /// Reads a shift file of either form by the numbers of RULES 10.5: the answer, how many records it has, how many
+    /// entries were written, and its form.
+    fn shift_records_any(&self, _: &[u8], _first: u64, _entries: &mut [u64]) -> (Answer, [u64; 3]) {
         unreachable!("has_shift_files() says so")
     }
 
-    /// Makes a record of planes: the answer and the size.
+    /// Writes a shift file of records of its form: the answer and the size.
+    fn shift_write(&self, _: ShiftForm, _records: &[u8], _output: &mut [u8]) -> (Answer, u64) {
+        unreachable!("has_shift_files() says so")
+    }
+
+    /// Moves a shift file to this form, forward or back: the answer and the size.
+    fn shift_move(&self, _to: ShiftForm, _file: &[u8], _output: &mut [u8]) -> (Answer, u64) {
+        unreachable!("has_shift_files() says so")
+    }
+
+    /// Makes a record of planes, of the form that the request asks for: the answer and the size.
     fn shift_record(
         &self,
         _request: &RecordRequest,
@@ -167,8 +178,27 @@ impl Converter for Model {
         model::shift::read_shift_file(file, first, entries)
     }
 
-    fn shift_write(&self, records: &[u8], output: &mut [u8]) -> (Answer, u64) {
-        model::shift::write_shift_file(records, output)
+    fn shift_records_any(
+        &self,
+        file: &[u8],
+        first: u64,
+        entries: &mut [u64],
+    ) -> (Answer, [u64; 3]) {
+        let (answer, count, written, form) =
+            model::shift::read_any_shift_file(file, first, entries);
+        let form = u64::from(form == Some(ShiftForm::WithSettings));
+        (answer, [count, written, form])
+    }
+
+    fn shift_write(&self, form: ShiftForm, records: &[u8], output: &mut [u8]) -> (Answer, u64) {
+        model::shift::write_shift_file(form, records, output)
+    }
+
+    fn shift_move(&self, to: ShiftForm, file: &[u8], output: &mut [u8]) -> (Answer, u64) {
+        match to {
+            ShiftForm::WithSettings => model::shift::move_forward(file, output),
+            ShiftForm::WithoutSettings => model::shift::move_back(file, output),
+        }
     }
 
     fn shift_record(

@@ -1,12 +1,13 @@
 //! The library that users link, by way of its Rust crate: what runs here is what a C or Rust program calls.
 
+use crate::conditions;
 use crate::converter::Converter;
 use crate::request::BandRequest;
-use model::shift::RecordRequest;
+use model::shift::{RecordRequest, ShiftForm};
 use model::{Answer, Frame, FrameState, Refusal, Settings, TableRounding, Window};
 use segvartin::{
     BufferStoreMut, FrameDescription, FrameOptions, FrameStateWith, PairDifference, PairSide,
-    ShiftFile, YuvError, YuvPlanarImageMut, YuvPlane,
+    RecordSettings, RecordedMatrix, ShiftFile, YuvError, YuvPlanarImageMut, YuvPlane,
 };
 
 pub struct Library;
@@ -133,42 +134,71 @@ impl Converter for Library {
         let [count, written] = told;
         let answer = answered(number, [0, 0]);
         let opened = ShiftFile::open(file).map_err(refusal);
-        assert_eq!(opened.map(|_| ()), answer, "the crate opens it otherwise");
-        if let Ok(opened) = opened {
-            assert_eq!(opened.len(), count, "the crate has other records");
-            let records = opened.records().skip(first as usize);
-            for (record, numbers) in records.zip(entries.chunks_exact(11)) {
-                equal_records(file, &record, numbers);
-            }
-            let one = opened.record(first as usize);
-            assert_eq!(one, opened.records().nth(first as usize), "a record alone");
-        }
+        equal_files(file, opened, answer, count, first, entries.chunks_exact(11));
         (answer, count as u64, written as u64)
     }
 
-    /// By its numbers, and then by the crate on a copy, which must come out the same.
-    fn shift_write(&self, records: &[u8], output: &mut [u8]) -> (Answer, u64) {
-        let mut told = [7; 1];
-        let mut copy = output.to_vec();
+    /// By its numbers, and then by the crate, which must have the same form and the same records at the same places.
+    fn shift_records_any(
+        &self,
+        file: &[u8],
+        first: u64,
+        entries: &mut [u64],
+    ) -> (Answer, [u64; 3]) {
+        let mut told = [7; 3];
         // SAFETY: as above.
         let number = unsafe {
-            segvartin_call_shift_write(
-                records.as_ptr(),
-                records.len(),
-                output.as_mut_ptr(),
-                output.len(),
+            segvartin_call_shift_records_any(
+                file.as_ptr(),
+                file.len(),
+                first as usize,
+                entries.as_mut_ptr(),
+                entries.len(),
                 &mut told,
             )
         };
-        let [size] = told;
         let answer = answered(number, [0, 0]);
-        let written = segvartin::write_shift_file(records, &mut copy);
-        assert_eq!(written.map_err(refusal), answer.map(|()| size));
-        assert!(copy == output, "the crate leaves other bytes");
-        (answer, size as u64)
+        let opened = ShiftFile::open_any(file).map_err(refusal);
+        if let Ok(opened) = opened {
+            let with = opened.form() == segvartin::ShiftForm::WithSettings;
+            assert_eq!(usize::from(with), told[2], "the crate has the other form");
+        }
+        let entries = entries.chunks_exact(15);
+        equal_files(file, opened, answer, told[0], first, entries);
+        (answer, told.map(|number| number as u64))
     }
 
     /// By its numbers, and then by the crate on a copy, which must come out the same.
+    fn shift_write(&self, form: ShiftForm, records: &[u8], output: &mut [u8]) -> (Answer, u64) {
+        match form {
+            ShiftForm::WithoutSettings => {
+                let by_crate = segvartin::write_shift_file;
+                made_of(segvartin_call_shift_write, by_crate, records, output)
+            }
+            ShiftForm::WithSettings => {
+                let by_crate = segvartin::write_settings_file;
+                let call = segvartin_call_shift_write_settings;
+                made_of(call, by_crate, records, output)
+            }
+        }
+    }
+
+    /// By its numbers, and then by the crate on a copy, which must come out the same.
+    fn shift_move(&self, to: ShiftForm, file: &[u8], output: &mut [u8]) -> (Answer, u64) {
+        match to {
+            ShiftForm::WithSettings => {
+                let by_crate = segvartin::move_forward;
+                made_of(segvartin_call_shift_forward, by_crate, file, output)
+            }
+            ShiftForm::WithoutSettings => {
+                let by_crate = segvartin::move_back;
+                made_of(segvartin_call_shift_back, by_crate, file, output)
+            }
+        }
+    }
+
+    /// By its numbers, and then by the crate on a copy, which must come out the same; the crate has no settings without a
+    /// meaning.
     fn shift_record(
         &self,
         request: &RecordRequest,
@@ -176,26 +206,19 @@ impl Converter for Library {
         output: &mut [u8],
     ) -> (Answer, u64) {
         let r = request;
-        let numbers = [r.crossing, r.w, r.h, r.y_stride, r.u_stride, r.v_stride];
-        let mut told = [7; 3];
+        let six = [r.crossing, r.w, r.h, r.y_stride, r.u_stride, r.v_stride];
         let mut copy = output.to_vec();
-        let [y, u, v] = planes;
-        // SAFETY: as above.
-        let number = unsafe {
-            segvartin_call_shift_record(
-                &numbers,
-                y.as_ptr(),
-                y.len(),
-                u.as_ptr(),
-                u.len(),
-                v.as_ptr(),
-                v.len(),
-                output.as_mut_ptr(),
-                output.len(),
-                &mut told,
-            )
+        let told = match r.settings {
+            None => record_of(segvartin_call_shift_record, &six, planes, output),
+            Some(four) => {
+                let mut numbers = [0; 10];
+                numbers[..6].copy_from_slice(&six);
+                numbers[6..].copy_from_slice(&four);
+                let call = segvartin_call_shift_record_settings;
+                record_of(call, &numbers, planes, output)
+            }
         };
-        let [expected, received, size] = told;
+        let (number, [expected, received, size]) = told;
         let answer = answered(number, [expected, received]);
         let [y_plane, u_plane, v_plane] = planes.clone().map(BufferStoreMut::Owned);
         let image = YuvPlanarImageMut {
@@ -208,7 +231,13 @@ impl Converter for Library {
             width: r.w,
             height: r.h,
         };
-        let made = segvartin::shift_record(r.crossing, &image, &mut copy);
+        let made = match r.settings {
+            None => segvartin::shift_record(r.crossing, &image, &mut copy),
+            Some(four) if conditions::are_settings(four) => {
+                segvartin::settings_record(r.crossing, &settings_of(four), &image, &mut copy)
+            }
+            Some(_) => return (answer, size as u64),
+        };
         assert_eq!(made.map_err(refusal), answer.map(|()| size));
         assert!(copy == output, "the crate leaves other bytes");
         (answer, size as u64)
@@ -227,8 +256,8 @@ impl Converter for Library {
             )
         };
         let answer = answered(number, [0, 0]);
-        let built = ShiftFile::open(file).and_then(|file| file.build_summary(&mut copy));
-        let size = ShiftFile::open(file).map_or(0, |file| 13 * file.len());
+        let built = ShiftFile::open_any(file).and_then(|file| file.build_summary(&mut copy));
+        let size = ShiftFile::open_any(file).map_or(0, |file| 13 * file.len());
         assert_eq!(built.map_err(refusal), answer.map(|()| size));
         assert!(copy == buffer, "the crate leaves other bytes");
         answer
@@ -250,7 +279,7 @@ impl Converter for Library {
         let answer = answered(number, [0, 0]);
         assert!(told[0] < 2, "neither yes nor no");
         let yes = told[0] == 1;
-        let checked = ShiftFile::open(file).map(|file| file.check_summary(buffer));
+        let checked = ShiftFile::open_any(file).map(|file| file.check_summary(buffer));
         assert_eq!(checked.map_err(refusal), answer.map(|()| yes));
         (answer, yes)
     }
@@ -275,7 +304,7 @@ impl Converter for Library {
             [1, k] => Some(k),
             _ => panic!("told {told:?}"),
         };
-        let opened = ShiftFile::open(file);
+        let opened = ShiftFile::open_any(file);
         let record = (opened).and_then(|file| file.find_record(buffer, crossing));
         let should = (opened).map(|file| found.and_then(|k| file.record(k)));
         assert_eq!(
@@ -305,8 +334,9 @@ impl Converter for Library {
             )
         };
         let answer = answered(number, [0, 0]);
-        let updated = ShiftFile::open(file).and_then(|file| file.update_summary(record, &mut copy));
-        let size = ShiftFile::open(file).map_or(0, |file| 13 * (file.len() + 1));
+        let updated =
+            ShiftFile::open_any(file).and_then(|file| file.update_summary(record, &mut copy));
+        let size = ShiftFile::open_any(file).map_or(0, |file| 13 * (file.len() + 1));
         assert_eq!(updated.map_err(refusal), answer.map(|()| size));
         assert!(copy == buffer, "the crate leaves other bytes");
         answer
@@ -374,9 +404,16 @@ fn numbers_of(report: &segvartin::PairReport) -> [u64; 18] {
     numbers[5] = first.crossing.into();
     numbers[6..8].copy_from_slice(&[first.our_record, first.their_record].map(|k| k as u64));
     match first.difference {
-        PairDifference::Sizes { ours, theirs, .. } => {
+        PairDifference::Sizes {
+            ours,
+            theirs,
+            our_sampling,
+            their_sampling,
+            ..
+        } => {
             numbers[4] = 1;
             numbers[8..12].copy_from_slice(&[ours.0, ours.1, theirs.0, theirs.1].map(u64::from));
+            numbers[15..17].copy_from_slice(&[our_sampling, their_sampling].map(sampling_code));
         }
         PairDifference::Place {
             plane, row, column, ..
@@ -394,16 +431,149 @@ fn numbers_of(report: &segvartin::PairReport) -> [u64; 18] {
     numbers
 }
 
-/// A record of the crate has the parts of the file that the export told of.
+fn sampling_code(sampling: segvartin::YuvChromaSubsampling) -> u64 {
+    match sampling {
+        segvartin::YuvChromaSubsampling::Yuv420 => 0,
+        segvartin::YuvChromaSubsampling::Yuv422 => 1,
+    }
+}
+
+/// The crate's value of each code that a record may have, where one is recorded.
+fn settings_of([sampling, range, matrix, transfer]: [u32; 4]) -> RecordSettings {
+    use segvartin::SharpYuvGammaTransfer::*;
+    let mut settings = RecordSettings::new(match sampling {
+        0 => segvartin::YuvChromaSubsampling::Yuv420,
+        _ => segvartin::YuvChromaSubsampling::Yuv422,
+    });
+    let ranges = [segvartin::YuvRange::Limited, segvartin::YuvRange::Full];
+    let matrices = [
+        RecordedMatrix::Bt601,
+        RecordedMatrix::Bt709,
+        RecordedMatrix::Bt2020,
+        RecordedMatrix::Smpte240,
+        RecordedMatrix::Bt470_6,
+        RecordedMatrix::Fcc,
+        RecordedMatrix::Custom,
+    ];
+    settings.range = ranges.get(range as usize).copied();
+    settings.matrix = matrices.get(matrix as usize).copied();
+    settings.transfer = [Srgb, Rec709, Gamma2p2, Gamma2p8]
+        .get(transfer as usize)
+        .copied();
+    settings
+}
+
+/// The crate opens these bytes, or does not, as the export answered, and has the records that it told of.
+fn equal_files<'a>(
+    file: &[u8],
+    opened: Result<ShiftFile, Refusal>,
+    answer: Answer,
+    count: usize,
+    first: u64,
+    entries: impl Iterator<Item = &'a [u64]>,
+) {
+    assert_eq!(opened.map(|_| ()), answer, "the crate opens it otherwise");
+    if let Ok(opened) = opened {
+        assert_eq!(opened.len(), count, "the crate has other records");
+        let records = opened.records().skip(first as usize);
+        for (record, numbers) in records.zip(entries) {
+            equal_records(file, &record, numbers);
+        }
+        let one = opened.record(first as usize);
+        assert_eq!(one, opened.records().nth(first as usize), "a record alone");
+    }
+}
+
+/// A record of the crate has the parts of the file that the export told of, and its settings.
 fn equal_records(file: &[u8], record: &segvartin::ShiftRecord, numbers: &[u64]) {
     let has = [record.crossing, record.width, record.height].map(u64::from);
     assert_eq!(has, numbers[..3], "the crate has another record");
     let parts = [record.bytes, record.y, record.u, record.v];
-    for (part, place) in parts.into_iter().zip(numbers[3..].chunks_exact(2)) {
+    for (part, place) in parts.into_iter().zip(numbers[3..11].chunks_exact(2)) {
         let from = part.as_ptr() as u64 - file.as_ptr() as u64;
         let is = [from, part.len() as u64];
         assert_eq!(is, place, "the crate has another part of the file");
     }
+    let four = match numbers[11..] {
+        [a, b, c, d] => [a, b, c, d].map(|code| code as u32),
+        _ => conditions::UNSAID.map(u32::from),
+    };
+    assert_eq!(
+        record.settings,
+        settings_of(four),
+        "the crate has other settings"
+    );
+}
+
+/// An exported call that makes a file of other bytes.
+type Make = unsafe extern "C" fn(*const u8, usize, *mut u8, usize, &mut [usize; 1]) -> u32;
+
+/// By the export, and then by the crate on a copy, which must come out the same.
+fn made_of(
+    call: Make,
+    by_crate: fn(&[u8], &mut [u8]) -> Result<usize, YuvError>,
+    from: &[u8],
+    output: &mut [u8],
+) -> (Answer, u64) {
+    // What stands there before is not looked at.
+    let mut told = [7; 1];
+    let mut copy = output.to_vec();
+    // SAFETY: the pointers are those of slices beside their own lengths, and no two lent values overlap.
+    let number = unsafe {
+        call(
+            from.as_ptr(),
+            from.len(),
+            output.as_mut_ptr(),
+            output.len(),
+            &mut told,
+        )
+    };
+    let [size] = told;
+    let answer = answered(number, [0, 0]);
+    let written = by_crate(from, &mut copy);
+    assert_eq!(written.map_err(refusal), answer.map(|()| size));
+    assert!(copy == output, "the crate leaves other bytes");
+    (answer, size as u64)
+}
+
+/// An exported call that makes a record of planes.
+type MakeRecord<const N: usize> = unsafe extern "C" fn(
+    &[u32; N],
+    *const u8,
+    usize,
+    *const u8,
+    usize,
+    *const u8,
+    usize,
+    *mut u8,
+    usize,
+    &mut [usize; 3],
+) -> u32;
+
+/// The number, and what is told.
+fn record_of<const N: usize>(
+    call: MakeRecord<N>,
+    numbers: &[u32; N],
+    [y, u, v]: &[Vec<u8>; 3],
+    output: &mut [u8],
+) -> (u32, [usize; 3]) {
+    let mut told = [7; 3];
+    // SAFETY: as above.
+    let number = unsafe {
+        call(
+            numbers,
+            y.as_ptr(),
+            y.len(),
+            u.as_ptr(),
+            u.len(),
+            v.as_ptr(),
+            v.len(),
+            output.as_mut_ptr(),
+            output.len(),
+            &mut told,
+        )
+    };
+    (number, told)
 }
 
 // By its numbers, so that those without a meaning can be handed to it too. The mode of the
@@ -479,6 +649,52 @@ unsafe extern "C" {
         record: *mut u8,
         record_len: usize,
         told: &mut [usize; 3],
+    ) -> u32;
+
+    fn segvartin_call_shift_records_any(
+        file: *const u8,
+        file_len: usize,
+        first: usize,
+        entries: *mut u64,
+        entries_len: usize,
+        told: &mut [usize; 3],
+    ) -> u32;
+
+    fn segvartin_call_shift_write_settings(
+        records: *const u8,
+        records_len: usize,
+        file: *mut u8,
+        file_len: usize,
+        told: &mut [usize; 1],
+    ) -> u32;
+
+    fn segvartin_call_shift_record_settings(
+        numbers: &[u32; 10],
+        y: *const u8,
+        y_len: usize,
+        u: *const u8,
+        u_len: usize,
+        v: *const u8,
+        v_len: usize,
+        record: *mut u8,
+        record_len: usize,
+        told: &mut [usize; 3],
+    ) -> u32;
+
+    fn segvartin_call_shift_forward(
+        file: *const u8,
+        file_len: usize,
+        output: *mut u8,
+        output_len: usize,
+        told: &mut [usize; 1],
+    ) -> u32;
+
+    fn segvartin_call_shift_back(
+        file: *const u8,
+        file_len: usize,
+        output: *mut u8,
+        output_len: usize,
+        told: &mut [usize; 1],
     ) -> u32;
 
     fn segvartin_call_luma_counts(

@@ -32,7 +32,7 @@ use model::{YuvRange, YuvStandardMatrix};
 use pairs::Pairing;
 use random::Random;
 use request::{Lent, band_vector, frame_vector, program_vector};
-use shift::{Making, Reading, Shift, Writing};
+use shift::{Making, Moving, Reading, Shift, ShiftForm, Writing};
 use std::collections::{BTreeMap, BTreeSet};
 use std::path::Path;
 use std::process::exit;
@@ -56,12 +56,14 @@ compare --vectors ROOT | --check ROOT | --mistakes | --flat
   --counts N     Custom pairs whose counts of colours are compared (200), and 100 times as many refused calls
   --shifts N     shift files that are read, good and broken (100000); a half as many lists of records that are
                  written, a fifth as many records made from planes, a hundredth as many lists of frames that are
-                 converted, made records, written and read back
+                 converted, made records, written and read back; as many of each with settings, the files read
+                 being of either form, and as many files moved forward, and moved back
   --summaries N  summaries of shift files that are built, as many that are checked, looked up and updated (100000
                  each), good and damaged ones, of good files and broken ones; a thousandth as many of files that
-                 have 4,094 to 4,096 records, updated
+                 have 4,094 to 4,096 records, updated; as many calls in all on files of either form
   --paired N     shift files that are paired with one like them (100000), as many frames with bits flipped, half
-                 as many files good and broken, a thousandth as many of 4,096 records; and every bit of small frames
+                 as many files good and broken, a thousandth as many of 4,096 records; and every bit of small frames;
+                 as many of each with files of either form
   --side N       sizes to N by N (64); some are 1,920 by 1,080, some up to 16,384 long and thin;
                  four of five lie in a source that is larger by up to 18 each way, or all it may be
   --seed N       seed of all of these (1)
@@ -263,6 +265,29 @@ fn shifts(options: &Options, converters: &Converters) {
     compare(kind, files / 100, converters, |case| {
         Shift::random(&mut Random::new(seed, 17, case), side)
     });
+    compare("files of either form read", files, converters, |case| {
+        Reading::either(&mut Random::new(seed, 40, case))
+    });
+    compare(
+        "files with settings written",
+        files / 2,
+        converters,
+        |case| Writing::with_settings(&mut Random::new(seed, 41, case)),
+    );
+    let kind = "records with settings from planes";
+    compare(kind, files / 5, converters, |case| {
+        Making::with_settings(&mut Random::new(seed, 42, case), side)
+    });
+    let kind = "lists of frames in files with settings";
+    compare(kind, files / 100, converters, |case| {
+        Shift::with_settings(&mut Random::new(seed, 43, case), side)
+    });
+    compare("files moved forward", files, converters, |case| {
+        Moving::forward(&mut Random::new(seed, 44, case))
+    });
+    compare("files moved back", files, converters, |case| {
+        Moving::back(&mut Random::new(seed, 45, case))
+    });
 }
 
 /// Summaries of shift files: built, checked, looked up and updated.
@@ -275,6 +300,13 @@ fn summaries(options: &Options, converters: &Converters) {
         ("records found by crossing", 21, files, Summing::find),
         ("summaries updated", 22, files, Summing::update),
         ("summaries of full files", 23, files / 1_000, summary::full),
+        ("calls on files of either form", 46, files, Summing::either),
+        (
+            "summaries of full files with settings",
+            47,
+            files / 1_000,
+            summary::full_with_settings,
+        ),
     ] {
         compare(kind, files, converters, |case| {
             make(&mut Random::new(seed, stream, case))
@@ -291,12 +323,33 @@ fn paired(options: &Options, converters: &Converters) {
         ("frames with bits flipped", 26, files, Pairing::flipped),
         ("any two files", 27, files / 2, Pairing::any),
         ("full files paired", 28, files / 1_000, Pairing::full),
+        ("files of either form paired", 48, files, Pairing::mixed),
+        (
+            "frames with settings and bits flipped",
+            49,
+            files,
+            Pairing::flipped_with_settings,
+        ),
+        (
+            "any two files of either form",
+            50,
+            files / 2,
+            Pairing::any_mixed,
+        ),
+        (
+            "full files of either form paired",
+            51,
+            files / 1_000,
+            Pairing::full_mixed,
+        ),
     ] {
         compare(kind, files, converters, |case| {
             make(&mut Random::new(seed, stream, case))
         });
     }
-    timed(|| pairs::every_bit(converters));
+    for form in [ShiftForm::WithoutSettings, ShiftForm::WithSettings] {
+        timed(|| pairs::every_bit(form, converters));
+    }
 }
 
 /// The program that counts colours.

@@ -18,9 +18,10 @@ use crate::conditions;
 use crate::pairs::{Called, Pairing};
 use crate::random::Random;
 use crate::request::answer_text;
-use crate::shift::{SLIPS, file_of, with_slip};
+use crate::shift::{self, SETTINGS_SLIPS, SLIPS, ShiftForm, with_slip};
 use crate::stored::Stored;
 use crate::summary::crossing_of;
+use ShiftForm::*;
 use model::{Answer, Refusal};
 use std::cmp::Reverse;
 use std::collections::{BTreeMap, BTreeSet};
@@ -57,11 +58,16 @@ fn both(why: &str, ours: &[Vec<u8>], theirs: &[Vec<u8>]) -> [Call; 2] {
     ]
 }
 
+/// Without settings.
+fn file_of(records: &[Vec<u8>]) -> Vec<u8> {
+    shift::file_of(WithoutSettings, records)
+}
+
 fn record(crossing: u32, w: u16, h: u16, first: u8) -> Vec<u8> {
     let mut record = crossing.to_le_bytes().to_vec();
     record.extend(w.to_le_bytes());
     record.extend(h.to_le_bytes());
-    let length = conditions::record_length(w.into(), h.into()) as usize;
+    let length = conditions::record_length(WithoutSettings, 0, w.into(), h.into()) as usize;
     record.extend((0..length - 8).map(|i| first.wrapping_add((29 * i) as u8)));
     record
 }
@@ -83,11 +89,14 @@ fn sides_of(record: &[u8]) -> [u64; 2] {
 }
 
 /// Where each plane of a record starts: the width of its rows and how many there are.
-fn planes_of(record: &[u8]) -> [[usize; 3]; 3] {
+fn planes_of(form: ShiftForm, record: &[u8]) -> [[usize; 3]; 3] {
     let [w, h] = sides_of(record).map(|side| side as usize);
-    let (half, rows) = (w.div_ceil(2), h.div_ceil(2));
-    let u = 8 + w * h;
-    [[8, w, h], [u, half, rows], [u + half * rows, half, rows]]
+    let [sampling, ..] = conditions::settings_of(form, record);
+    let [half, rows] = conditions::chroma_sides(sampling, w as u32, h as u32);
+    let [half, rows] = [half, rows].map(|side| side as usize);
+    let y = conditions::header(form);
+    let u = y + w * h;
+    [[y, w, h], [u, half, rows], [u + half * rows, half, rows]]
 }
 
 /// RULES 11.2: record 0, of 3 × 2.
@@ -182,7 +191,7 @@ fn broken() -> Vec<Call> {
         calls.push(call("bytes behind both", long.clone(), long));
     }
     for (slip, what) in SLIPS {
-        let file = with_slip(&mut Random::new(30, slip as u64, 0), slip);
+        let file = with_slip(&mut Random::new(30, slip as u64, 0), WithoutSettings, slip);
         if file.len() <= 600 {
             calls.push(call(&format!("ours: {what}"), file.clone(), few.clone()));
             calls.push(call(&format!("theirs: {what}"), few.clone(), file));
@@ -358,7 +367,7 @@ fn of_every_byte() -> Vec<Call> {
 /// Two bytes another, at any two of the planes' corners.
 fn of_two_bytes() -> Vec<Call> {
     let one = record(3, 9, 4, 0);
-    let corners: Vec<usize> = planes_of(&one)
+    let corners: Vec<usize> = planes_of(WithoutSettings, &one)
         .into_iter()
         .flat_map(|[at, w, h]| [at, at + w - 1, at + w * (h - 1), at + w * h - 1])
         .collect();
@@ -379,7 +388,7 @@ fn of_wide_frames() -> Vec<Call> {
     let mut calls = Vec::new();
     for w in [24, 31, 32, 33, 63, 64, 65] {
         let one = record(3, w, 2, 5);
-        let [[y, row, _], [u, ..], [v, ..]] = planes_of(&one);
+        let [[y, row, _], [u, ..], [v, ..]] = planes_of(WithoutSettings, &one);
         for at in [y + row - 1, u - 1, v - 1, one.len() - 1] {
             let ours = file_of(std::slice::from_ref(&one));
             let theirs = file_of(&[flipped(&one, at)]);
@@ -388,7 +397,7 @@ fn of_wide_frames() -> Vec<Call> {
     }
     for (w, h) in [(16_384, 1), (1, 16_384)] {
         let one = record(3, w, h, 5);
-        let [_, [u, ..], _] = planes_of(&one);
+        let [_, [u, ..], _] = planes_of(WithoutSettings, &one);
         let at = if h == 1 { u - 1 } else { one.len() - 1 };
         let ours = file_of(std::slice::from_ref(&one));
         let theirs = file_of(&[flipped(&one, at)]);
@@ -428,6 +437,162 @@ fn any() -> Vec<Call> {
     calls
 }
 
+/// With settings: a record of these, and the file of such.
+fn set_record(crossing: u32, four: [u8; 4], w: u16, h: u16, first: u8) -> Vec<u8> {
+    let mut record = crossing.to_le_bytes().to_vec();
+    record.extend(w.to_le_bytes());
+    record.extend(h.to_le_bytes());
+    record.extend(four);
+    let length = conditions::record_length(WithSettings, four[0], w.into(), h.into()) as usize;
+    record.extend((0..length - 12).map(|i| first.wrapping_add((29 * i) as u8)));
+    record
+}
+
+fn set_file(records: &[Vec<u8>]) -> Vec<u8> {
+    shift::file_of(WithSettings, records)
+}
+
+/// RULES 11.8: the records in the form with settings.
+fn forward(records: &[Vec<u8>]) -> Vec<Vec<u8>> {
+    (records.iter())
+        .map(|record| [&record[..8], &conditions::UNSAID, &record[8..]].concat())
+        .collect()
+}
+
+/// Nothing recorded but the sampling.
+const OF_420: [u8; 4] = [0, 255, 255, 255];
+const OF_422: [u8; 4] = [1, 255, 255, 255];
+
+/// Files with settings, also against files without.
+fn with_settings() -> Vec<Call> {
+    let [ours, theirs] = worked();
+    let (new_ours, new_theirs) = (forward(&ours), forward(&theirs));
+    let mut calls = Vec::new();
+    let in_both = |why: &str, a: &[u8], b: &[u8]| {
+        [
+            call(why, a.to_vec(), b.to_vec()),
+            call(why, b.to_vec(), a.to_vec()),
+        ]
+    };
+    let (a, b) = (file_of(&ours), file_of(&theirs));
+    let (c, d) = (set_file(&new_ours), set_file(&new_theirs));
+    calls.extend(in_both("theirs moved forward", &a, &d));
+    calls.extend(in_both("ours moved forward", &c, &b));
+    calls.extend(in_both("both moved forward", &c, &d));
+    calls.extend(in_both("the same, moved forward", &a, &c));
+    let empty = set_file(&[]);
+    calls.extend(in_both(
+        "no records, one with settings",
+        &empty,
+        &file_of(&[]),
+    ));
+    calls.push(call("no records, with settings", empty.clone(), empty));
+    // Of one pixel the planes are as long in either sampling.
+    let pixels = [
+        file_of(&[small(7, 1)]),
+        set_file(&forward(&[small(7, 1)])),
+        set_file(&[[&small(7, 1)[..8], &OF_422, &[1, 0x60, 0x70]].concat()]),
+        set_file(&[[&small(7, 1)[..8], &[1, 0, 6, 3], &[1, 0x60, 0x70]].concat()]),
+        set_file(&[[&small(7, 1)[..8], &[0, 1, 1, 1], &[1, 0x60, 0x71]].concat()]),
+    ];
+    for a in &pixels {
+        for b in &pixels {
+            calls.push(call(
+                "one pixel, in either form and sampling",
+                a.clone(),
+                b.clone(),
+            ));
+        }
+    }
+    for (w, h) in [(2, 2), (1, 2), (2, 1), (3, 3), (5, 4)] {
+        let of = |four| set_file(&[set_record(6, four, w, h, 1)]);
+        let plain = file_of(&[record(6, w, h, 1)]);
+        let why = format!("{w} by {h}, unlike samplings");
+        calls.extend(in_both(&why, &of(OF_420), &of(OF_422)));
+        calls.extend(in_both(&why, &plain, &of(OF_422)));
+        calls.extend(in_both(
+            &format!("{w} by {h}, either form"),
+            &plain,
+            &of(OF_420),
+        ));
+        let taller = set_file(&[set_record(6, OF_422, w, h + 1, 1)]);
+        calls.extend(in_both("sizes and samplings", &of(OF_420), &taller));
+        calls.extend(in_both("sizes, both 4:2:2", &of(OF_422), &taller));
+    }
+    for k in 1..4 {
+        for value in [0, 1, 3] {
+            let mut four = OF_422;
+            four[k] = value;
+            let one = set_file(&[set_record(6, OF_422, 3, 2, 1)]);
+            let other = set_file(&[set_record(6, four, 3, 2, 1)]);
+            calls.extend(in_both("settings that are not compared", &one, &other));
+        }
+    }
+    // Two pairs that differ, one in its sampling.
+    for crossing in [5, 7] {
+        let ours = [small(crossing, 1), record(6, 2, 2, 1)];
+        let theirs = [
+            set_record(6, OF_422, 2, 2, 1),
+            forward(&[small(crossing, 2)])[0].clone(),
+        ];
+        let why = format!("a sampling of crossing 6, a byte of crossing {crossing}");
+        calls.extend(in_both(&why, &file_of(&ours), &set_file(&theirs)));
+    }
+    for w in 1..=9 {
+        let one = set_record(0x1234_5678, [1, 0, 255, 2], w, 3, w as u8);
+        for at in 12..one.len() {
+            let (a, b) = (one.clone(), flipped(&one, at));
+            let why = format!("{w} by 3 in 4:2:2, byte {at}");
+            calls.push(call(&why, set_file(&[a]), set_file(&[b])));
+        }
+    }
+    for w in 1..=6 {
+        let one = record(0x1234_5678, w, 3, w as u8);
+        let new = forward(std::slice::from_ref(&one));
+        for at in 8..one.len() {
+            let (a, b) = (file_of(&[flipped(&one, at)]), set_file(&new));
+            let why = format!("{w} by 3 in either form, byte {at}");
+            calls.push(match at % 2 {
+                0 => call(&why, a, b),
+                _ => call(&why, b, a),
+            });
+        }
+    }
+    let few = set_file(&forward(&[of_three_by_two(0x41)]));
+    for length in 0..few.len() {
+        let short = few[..length].to_vec();
+        calls.push(call("ours with settings, cut", short.clone(), b.clone()));
+        calls.push(call("theirs with settings, cut", b.clone(), short));
+    }
+    for (slip, what) in SETTINGS_SLIPS {
+        let file = with_slip(&mut Random::new(32, slip as u64, 0), WithSettings, slip);
+        calls.push(call(&format!("ours: {what}"), file.clone(), few.clone()));
+        calls.push(call(&format!("theirs: {what}"), few.clone(), file));
+    }
+    let many: Vec<Vec<u8>> = (0..1_000)
+        .map(|k: u32| small(k.wrapping_mul(2_654_435_761) % 100, k as u8))
+        .collect();
+    let why = "1,000 records in either form";
+    calls.extend(in_both(why, &file_of(&many), &set_file(&forward(&many))));
+    type Draw = fn(&mut Random) -> Pairing;
+    for (kind, draw) in [
+        Pairing::mixed as Draw,
+        Pairing::flipped_with_settings,
+        Pairing::any_mixed,
+    ]
+    .into_iter()
+    .enumerate()
+    {
+        let random = (0..).map(|case| draw(&mut Random::new(33, kind as u64, case)));
+        let short = |one: &Pairing| one.ours.len() + one.theirs.len() <= 800;
+        calls.extend(random.filter(short).take(60).map(|request| Call {
+            why: "any".to_string(),
+            request,
+        }));
+    }
+    calls
+}
+
 /// A pairing with its answer, and the line that is printed.
 struct Vector {
     call: Call,
@@ -459,10 +624,10 @@ impl Vector {
         if answer.is_err() || numbers[4] != 2 {
             return None;
         }
-        let records = conditions::records_of_file(&self.call.request.ours)?;
+        let (form, records) = conditions::records_of_any(&self.call.request.ours)?;
         let record = records[numbers[6] as usize];
         let [plane, row, column] = [12, 13, 14].map(|k| numbers[k]);
-        let [_, w, h] = planes_of(record)[plane as usize];
+        let [_, w, h] = planes_of(form, record)[plane as usize];
         let last = [row + 1, column + 1] == [h as u64, w as u64];
         Some(([sides_of(record)[0], plane, row, column], last))
     }
@@ -482,6 +647,7 @@ fn vectors(converters: &Converters) -> Result<Vec<Vector>, String> {
         of_wide_frames(),
         of_many_records(),
         any(),
+        with_settings(),
     ]
     .into_iter()
     .flatten();
@@ -498,6 +664,7 @@ fn kind((answer, broken, numbers): &Called) -> &'static str {
         (false, 1, ..) => "ours is none",
         (false, ..) => "theirs is none",
         (_, _, 0, _) => "no difference",
+        (_, _, 1, _) if numbers[15] != numbers[16] => "samplings",
         (_, _, 1, _) => "sizes",
         (_, _, _, 0) => "a place in Y",
         (_, _, _, 1) => "in U",
@@ -505,9 +672,10 @@ fn kind((answer, broken, numbers): &Called) -> &'static str {
     }
 }
 
-const KINDS: [&str; 7] = [
+const KINDS: [&str; 8] = [
     "no difference",
     "sizes",
+    "samplings",
     "a place in Y",
     "in U",
     "in V",
@@ -592,7 +760,7 @@ fn counts(vectors: &[Vector]) -> String {
         format!("{name}: {}", vectors.iter().filter(told).count())
     };
     let told = KINDS.map(of);
-    let (accepted, refused) = told.split_at(5);
+    let (accepted, refused) = told.split_at(6);
     let all = vectors.len();
     let refusals = (vectors.iter()).filter(|vector| vector.called.0.is_err());
     let refusals = refusals.count();
@@ -716,11 +884,21 @@ enum Mistake {
     LastWordForgotten,
     LowHalvesOfWords,
     StartOfTheWord,
+    SettingsRefused,
+    UnlikeFormsRefused,
+    FormsCompared,
+    SettingsCompared,
+    SamplingsNotCompared,
+    SamplingsNotTold,
+    SamplingsExchanged,
+    SamplingsWithAPlace,
+    RowsOf420,
+    SettingsAsPlaneBytes,
 }
 
 use Mistake::*;
 
-const MISTAKES: [(Mistake, &str); 55] = [
+const MISTAKES: [(Mistake, &str); 65] = [
     (
         PairsByPlace,
         "pairs by file order, whatever their crossings",
@@ -815,6 +993,22 @@ const MISTAKES: [(Mistake, &str); 55] = [
     ),
     (LowHalvesOfWords, "the low halves of words are compared"),
     (StartOfTheWord, "the first column of the word is told"),
+    (SettingsRefused, "a file with settings is none"),
+    (UnlikeFormsRefused, "files of unlike forms are refused"),
+    (FormsCompared, "records of unlike forms are unequal"),
+    (
+        SettingsCompared,
+        "ranges, matrices and transfers are compared",
+    ),
+    (SamplingsNotCompared, "samplings are not compared"),
+    (SamplingsNotTold, "samplings are not told"),
+    (SamplingsExchanged, "the sampling of theirs told first"),
+    (SamplingsWithAPlace, "samplings told beside a place"),
+    (RowsOf420, "half the chroma rows of 4:2:2"),
+    (
+        SettingsAsPlaneBytes,
+        "the four bytes of settings compared as Y",
+    ),
 ];
 
 /// A third count of the report, with one mistake. Without one it gives what is expected.
@@ -826,11 +1020,24 @@ const BROKEN: Answer = Err(Refusal {
     received: 0,
 });
 
+/// The bytes of a record, and its form.
+type Record<'a> = (ShiftForm, &'a [u8]);
+
+fn settings_of((form, record): Record) -> [u8; 4] {
+    conditions::settings_of(form, record)
+}
+
+/// Width, height and sampling.
+fn size_of(record: Record) -> [u64; 3] {
+    let [w, h] = sides_of(record.1);
+    [w, h, u64::from(settings_of(record)[0])]
+}
+
 /// A byte that differs: plane, row, column; and the width of the rows there.
 type Unequal = ([u64; 3], u64);
 
 impl Mistaken {
-    fn crossing(&self, record: &[u8]) -> u32 {
+    fn crossing(&self, (_, record): Record) -> u32 {
         match self.0 {
             PairsByPlace => 0,
             CrossingsOf16Bits => crossing_of(record) & 0xffff,
@@ -839,7 +1046,7 @@ impl Mistaken {
     }
 
     /// What crossings are ordered by.
-    fn key(&self, record: &[u8]) -> i64 {
+    fn key(&self, record: Record) -> i64 {
         let crossing = self.crossing(record);
         match self.0 {
             SignedCrossings => i64::from(crossing as i32),
@@ -849,16 +1056,19 @@ impl Mistaken {
     }
 
     /// The places of each crossing's records.
-    fn places(&self, records: &[&[u8]]) -> BTreeMap<u32, Vec<usize>> {
+    fn places(&self, records: &[Record]) -> BTreeMap<u32, Vec<usize>> {
         let mut places: BTreeMap<u32, Vec<usize>> = BTreeMap::new();
         for (place, record) in records.iter().enumerate() {
-            places.entry(self.crossing(record)).or_default().push(place);
+            places
+                .entry(self.crossing(*record))
+                .or_default()
+                .push(place);
         }
         places
     }
 
     /// By the places of their records, in their order.
-    fn pairs(&self, ours: &[&[u8]], theirs: &[&[u8]]) -> Vec<(usize, usize)> {
+    fn pairs(&self, ours: &[Record], theirs: &[Record]) -> Vec<(usize, usize)> {
         let partners = self.places(theirs);
         let mut pairs = Vec::new();
         for (crossing, a) in self.places(ours) {
@@ -875,7 +1085,7 @@ impl Mistaken {
             }
         }
         pairs.retain(|(i, j)| {
-            self.0 != UnequalSizesNoPair || sides_of(ours[*i]) == sides_of(theirs[*j])
+            self.0 != UnequalSizesNoPair || size_of(ours[*i]) == size_of(theirs[*j])
         });
         match self.0 {
             InTheOrderOfOurs => pairs.sort_by_key(|(i, _)| *i),
@@ -902,19 +1112,25 @@ impl Mistaken {
     }
 
     /// Every unequal byte that is seen, in order.
-    fn unequal(&self, a: &[u8], b: &[u8]) -> Vec<Unequal> {
-        let [w, h] = sides_of(a);
+    fn unequal(&self, (form, a): Record, (other, b): Record) -> Vec<Unequal> {
+        let [w, h, sampling] = size_of((form, a));
         let half = match self.0 {
             ChromaWidthDown => w / 2,
             _ => w.div_ceil(2),
         };
-        let rows = match self.0 {
-            ChromaHeightDown => h / 2,
-            _ => h.div_ceil(2),
+        let rows = match (self.0, sampling) {
+            (ChromaHeightDown, 0) => h / 2,
+            (RowsOf420, _) | (_, 0) => h.div_ceil(2),
+            _ => h,
         };
-        let u = 8 + w * h;
+        let header = |form| match self.0 {
+            SettingsAsPlaneBytes => 8,
+            _ => conditions::header(form),
+        };
+        let (a, b) = (&a[header(form)..], &b[header(other)..]);
+        let u = w * h;
         let mut planes = vec![
-            (0, 8, [w, h]),
+            (0, 0, [w, h]),
             (1, u, [half, rows]),
             (2, u + half * rows, [half, rows]),
         ];
@@ -952,22 +1168,28 @@ impl Mistaken {
         }
     }
 
-    /// Kind, the four sizes, the place.
-    fn difference(&self, a: &[u8], b: &[u8]) -> Option<[u64; 8]> {
-        let [ours, theirs] = [a, b].map(sides_of);
+    /// Kind, the four sizes, the place, the samplings.
+    fn difference(&self, a: Record, b: Record) -> Option<[u64; 10]> {
+        let [ours, theirs] = [a, b].map(size_of);
+        let planes = |(form, record): Record| record.len() - conditions::header(form);
         let unequal = match self.0 {
             LowBytesOfSizes => ours.map(|side| side & 255) != theirs.map(|side| side & 255),
-            LengthsForSizes => a.len() != b.len(),
-            HeightsNotCompared => ours[0] != theirs[0],
+            LengthsForSizes => planes(a) != planes(b),
+            HeightsNotCompared => (ours[0], ours[2]) != (theirs[0], theirs[2]),
+            SamplingsNotCompared => ours[..2] != theirs[..2],
+            SettingsCompared => ours != theirs || settings_of(a) != settings_of(b),
+            FormsCompared => ours != theirs || a.0 != b.0,
             _ => ours != theirs,
         };
-        let [[w, h], [other_w, other_h]] = [ours, theirs];
+        let [[w, h, s], [other_w, other_h, other_s]] = [ours, theirs];
         if unequal {
             return Some(match self.0 {
-                SizesAsAPlace => [2, 0, 0, 0, 0, 0, 0, 0],
-                SizesExchanged => [1, other_w, other_h, w, h, 0, 0, 0],
-                HeightBeforeWidth => [1, h, w, other_h, other_w, 0, 0, 0],
-                _ => [1, w, h, other_w, other_h, 0, 0, 0],
+                SizesAsAPlace => [2, 0, 0, 0, 0, 0, 0, 0, 0, 0],
+                SizesExchanged => [1, other_w, other_h, w, h, 0, 0, 0, s, other_s],
+                HeightBeforeWidth => [1, h, w, other_h, other_w, 0, 0, 0, s, other_s],
+                SamplingsExchanged => [1, w, h, other_w, other_h, 0, 0, 0, other_s, s],
+                SamplingsNotTold => [1, w, h, other_w, other_h, 0, 0, 0, 0, 0],
+                _ => [1, w, h, other_w, other_h, 0, 0, 0, s, other_s],
             });
         }
         let all = self.unequal(a, b);
@@ -980,13 +1202,14 @@ impl Mistaken {
         };
         let [plane, row, column] = self.place(*one?);
         Some(match self.0 {
-            SizesWithAPlace => [2, w, h, w, h, plane, row, column],
-            _ => [2, 0, 0, 0, 0, plane, row, column],
+            SizesWithAPlace => [2, w, h, w, h, plane, row, column, 0, 0],
+            SamplingsWithAPlace => [2, 0, 0, 0, 0, plane, row, column, s, other_s],
+            _ => [2, 0, 0, 0, 0, plane, row, column, 0, 0],
         })
     }
 
     /// The place of a record, as it is told.
-    fn told(&self, records: &[&[u8]], place: usize) -> u64 {
+    fn told(&self, records: &[Record], place: usize) -> u64 {
         match self.0 {
             PlacesFromOne => place as u64 + 1,
             PlacesInTheOrder => {
@@ -998,9 +1221,9 @@ impl Mistaken {
         }
     }
 
-    fn report(&self, ours: &[&[u8]], theirs: &[&[u8]]) -> [u64; 18] {
+    fn report(&self, ours: &[Record], theirs: &[Record]) -> [u64; 18] {
         let pairs = self.pairs(ours, theirs);
-        let differing: Vec<(usize, usize, [u64; 8])> = (pairs.iter())
+        let differing: Vec<(usize, usize, [u64; 10])> = (pairs.iter())
             .filter_map(|&(i, j)| Some((i, j, self.difference(ours[i], theirs[j])?)))
             .collect();
         let taken = |places: BTreeSet<usize>| match self.0 {
@@ -1015,8 +1238,8 @@ impl Mistaken {
             LeftoversExchanged => left.reverse(),
             OnlyOfOtherCrossings => {
                 let [a, b] = [self.places(ours), self.places(theirs)];
-                let without = |records: &[&[u8]], others: &BTreeMap<u32, Vec<usize>>| {
-                    let alone = |one: &&&[u8]| !others.contains_key(&self.crossing(one));
+                let without = |records: &[Record], others: &BTreeMap<u32, Vec<usize>>| {
+                    let alone = |one: &&Record| !others.contains_key(&self.crossing(**one));
                     records.iter().filter(alone).count()
                 };
                 left = [without(ours, &b), without(theirs, &a)];
@@ -1033,13 +1256,13 @@ impl Mistaken {
         };
         if let Some((i, j, difference)) = one {
             numbers[4] = difference[0];
-            numbers[5] = u64::from(crossing_of(ours[*i]));
+            numbers[5] = u64::from(crossing_of(ours[*i].1));
             numbers[6] = self.told(ours, *i);
             numbers[7] = self.told(theirs, *j);
             if self.0 == PlacesExchanged {
                 numbers.swap(6, 7);
             }
-            numbers[8..15].copy_from_slice(&difference[1..]);
+            numbers[8..17].copy_from_slice(&difference[1..]);
         } else if self.0 == NoneKeepsTheNumbers {
             numbers[5..15].fill(KEPT);
         }
@@ -1051,9 +1274,17 @@ impl Mistaken {
 
     fn answer(&self, pairing: &Pairing) -> Called {
         let [ours, theirs] = [&pairing.ours, &pairing.theirs].map(|file| {
-            let records = conditions::records_of_file(file);
-            records.filter(|records| self.0 != NoRecordsRefused || !records.is_empty())
+            let (form, records) = conditions::records_of_any(file)?;
+            let taken = match self.0 {
+                NoRecordsRefused => !records.is_empty(),
+                SettingsRefused => form == WithoutSettings,
+                _ => true,
+            };
+            let records = records.into_iter().map(|record| (form, record));
+            taken.then(|| records.collect::<Vec<Record>>())
         });
+        let [form, other] = [&pairing.ours, &pairing.theirs].map(|file| conditions::form_of(file));
+        let theirs = theirs.filter(|_| self.0 != UnlikeFormsRefused || form == other);
         let broken = |which: u64| {
             let told = match self.0 {
                 OtherFileTold => 3 - which,

@@ -1,5 +1,6 @@
 //! Random requests, the same for the same seed on every machine.
 
+use crate::conditions;
 use crate::request::{BandRequest, FrameRequest, Input, Run, Shape, shapes};
 use model::settings::{channels_of, matrix_of, range_of, rounding_of, sampling_of, transfer_of};
 use model::shift::RecordRequest;
@@ -242,8 +243,17 @@ fn any_frame(random: &mut Random, side: u32) -> FrameRequest {
 
 /// An accepted frame of 4:2:0 with either rounding, and four of five in a larger source.
 pub fn frame_420(random: &mut Random, side: u32) -> FrameRequest {
+    frame_in(random, side, Some(YuvChromaSubsampling::Yuv420))
+}
+
+/// One that is not refused, in this sampling or in any.
+pub fn frame_in(
+    random: &mut Random,
+    side: u32,
+    sampling: Option<YuvChromaSubsampling>,
+) -> FrameRequest {
     let mut settings = settings(random);
-    settings.sampling = YuvChromaSubsampling::Yuv420;
+    settings.sampling = sampling.unwrap_or(settings.sampling);
     settings.rounding = coded(random, 2, rounding_of);
     let size = size(random, side);
     let mut request = frame_of_size(random, settings, size);
@@ -254,9 +264,13 @@ pub fn frame_420(random: &mut Random, side: u32) -> FrameRequest {
 }
 
 /// Planes that a record can be made of, of any size, and their strides. The crossing is 0.
-pub fn planes(random: &mut Random, side: u32) -> (RecordRequest, [Vec<u8>; 3]) {
+pub fn planes(
+    random: &mut Random,
+    side: u32,
+    settings: Option<[u32; 4]>,
+) -> (RecordRequest, [Vec<u8>; 3]) {
     let (w, h) = size(random, side);
-    let shapes = plane_shapes(w, h);
+    let shapes = plane_shapes(settings, w, h);
     let strides = shapes.map(|shape| shape.row as u32 + padding(random));
     let planes = [0, 1, 2].map(|i| random.bytes(strides[i] as usize * shapes[i].rows as usize));
     let request = RecordRequest {
@@ -266,17 +280,20 @@ pub fn planes(random: &mut Random, side: u32) -> (RecordRequest, [Vec<u8>; 3]) {
         y_stride: strides[0],
         u_stride: strides[1],
         v_stride: strides[2],
+        settings,
     };
     (request, planes)
 }
 
-/// Of Y, U, V in 4:2:0.
-fn plane_shapes(w: u32, h: u32) -> [Shape; 3] {
+/// Of Y, U, V in the sampling of these settings, 4:2:0 where there are none.
+fn plane_shapes(settings: Option<[u32; 4]>, w: u32, h: u32) -> [Shape; 3] {
     let shape = |row: u32, rows: u32| Shape {
         row: u64::from(row),
         rows: u64::from(rows),
     };
-    let chroma = shape(w.div_ceil(2), h.div_ceil(2));
+    let sampling = settings.map_or(0, |[sampling, ..]| sampling as u8);
+    let [cw, ch] = conditions::chroma_sides(sampling, w, h);
+    let chroma = shape(cw, ch);
     [shape(w, h), chroma, chroma]
 }
 
@@ -291,7 +308,7 @@ pub fn plane_fault(random: &mut Random, request: &mut RecordRequest, planes: &mu
         *side = random.pick(&[0, 0, 16_385, 65_536, 65_537, 1 << 31, u32::MAX]);
         return;
     }
-    let shapes = plane_shapes(request.w, request.h);
+    let shapes = plane_shapes(request.settings, request.w, request.h);
     let i = random.below(3) as usize;
     let strides = [
         &mut request.y_stride,

@@ -11,6 +11,17 @@ pub struct Stored(pub Vec<u8>);
 /// The code of a Custom matrix, which the program's codes do not have.
 const CUSTOM: u32 = 6;
 
+/// RULES 11.7: the codes of a frame's sampling, range, matrix and transfer.
+pub fn settings_codes(settings: &Settings) -> [u32; 4] {
+    let has = "a code for every setting";
+    [
+        code(settings.sampling, sampling_of).expect(has),
+        code(settings.range, range_of).expect(has),
+        code(settings.matrix, matrix_of).unwrap_or(CUSTOM),
+        code(settings.transfer, transfer_of).expect(has),
+    ]
+}
+
 /// The program's code of a setting, where it has one.
 fn code<T: PartialEq>(setting: T, of: fn(u8) -> Option<T>) -> Option<u32> {
     (0..=u8::MAX)

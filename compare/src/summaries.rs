@@ -26,11 +26,13 @@ use crate::check::{Converters, checked, equal_bytes};
 use crate::conditions;
 use crate::random::Random;
 use crate::request::answer_text;
+use crate::shift::ShiftForm;
 use crate::stored::{Stored, digest};
 use crate::summary::{
     Ask, DAMAGES, ENTRY, Summing, ascending, crossing_of, damaged, entries_of, offset_of,
-    set_offset,
+    records_of, set_offset,
 };
+use ShiftForm::*;
 use model::{Answer, Refusal};
 use std::cmp::Ordering;
 use std::collections::{BTreeMap, BTreeSet};
@@ -90,11 +92,11 @@ fn lent(records: &[Vec<u8>]) -> Vec<&[u8]> {
 }
 
 fn file_of(records: &[Vec<u8>]) -> Vec<u8> {
-    conditions::file_of(&lent(records))
+    conditions::file_of(WithoutSettings, &lent(records))
 }
 
 fn summary_of(records: &[Vec<u8>]) -> Vec<u8> {
-    ascending(&entries_of(&lent(records))).concat()
+    ascending(&entries_of(WithoutSettings, &lent(records))).concat()
 }
 
 /// A call on the file of these records.
@@ -206,7 +208,7 @@ fn three(why: &str, records: &[Vec<u8>], buffer: Vec<u8>) -> Vec<Call> {
 fn checks() -> Vec<Call> {
     let mut calls = Vec::new();
     let (worked, unequal) = (worked(), unequal());
-    let entries = entries_of(&lent(&worked));
+    let entries = entries_of(WithoutSettings, &lent(&worked));
     // Every list of three of its entries.
     for list in 0..27 {
         let list = [list % 3, list / 3 % 3, list / 9];
@@ -246,8 +248,8 @@ fn checks() -> Vec<Call> {
     for (place, (damage, what)) in DAMAGES.into_iter().enumerate() {
         for turn in 0..2 {
             let random = &mut Random::new(24, place as u64, turn);
-            let entries = ascending(&entries_of(&lent(&unequal)));
-            let bytes = damaged(random, damage, &lent(&unequal), &entries);
+            let entries = ascending(&entries_of(WithoutSettings, &lent(&unequal)));
+            let bytes = damaged(random, damage, WithoutSettings, &lent(&unequal), &entries);
             let which = if turn == 0 { 3 } else { 1 };
             calls.extend(three(what, &unequal, bytes).into_iter().take(which));
         }
@@ -423,10 +425,13 @@ fn any() -> Vec<Call> {
 
 /// Whether records have the same crossing in a file whose summary is written.
 fn has_equal_crossings(one: &Summing) -> bool {
-    let mut records = conditions::records_of_file(&one.file).unwrap_or_default();
+    let form = conditions::form_of(&one.file);
+    let mut records = records_of(&one.file);
     match &one.ask {
         Ask::Check | Ask::Find(_) => return false,
-        Ask::Update(record) => records.extend(conditions::records_of(record).unwrap_or_default()),
+        Ask::Update(record) => {
+            records.extend(conditions::records_of(form, record).unwrap_or_default());
+        }
         Ask::Build => {}
     }
     let crossings: BTreeSet<u32> = records.iter().map(|record| crossing_of(record)).collect();
@@ -469,7 +474,7 @@ fn of_equal_crossings() -> Vec<Call> {
             calls.push(call("one of them twice", file_of(&worked), buffer, ask));
         }
     }
-    let entries = entries_of(&lent(&worked));
+    let entries = entries_of(WithoutSettings, &lent(&worked));
     let exchanged = [entries[1], entries[2], entries[0]].concat();
     calls.extend(three(
         "entries of one crossing exchanged",
@@ -480,6 +485,163 @@ fn of_equal_crossings() -> Vec<Call> {
     let small =
         |one: &Summing| one.file.len() + one.buffer.len() <= 500 && has_equal_crossings(one);
     calls.extend(random.filter(small).take(60).map(|request| Call {
+        why: "any".to_string(),
+        request,
+    }));
+    calls
+}
+
+/// A record with settings of this size.
+fn set_record(crossing: u32, four: [u8; 4], w: u16, h: u16, luma: &[u8]) -> Vec<u8> {
+    let mut record = crossing.to_le_bytes().to_vec();
+    record.extend(w.to_le_bytes());
+    record.extend(h.to_le_bytes());
+    record.extend(four);
+    record.extend(luma.iter().cycle().take(usize::from(w) * usize::from(h)));
+    let length = conditions::record_length(WithSettings, four[0], w.into(), h.into());
+    record.resize(length as usize, 0x60);
+    record
+}
+
+/// Three records of two crossings: one with nothing recorded, two in 4:2:2.
+fn set_worked() -> Vec<Vec<u8>> {
+    vec![
+        set_record(70_000, [0, 255, 255, 255], 1, 1, &[0x50]),
+        set_record(
+            1_400,
+            [1, 1, 6, 3],
+            3,
+            2,
+            &[0x10, 0x11, 0x12, 0x20, 0x21, 0x22],
+        ),
+        set_record(70_000, [1, 255, 0, 255], 2, 3, &[0x80, 0x83]),
+    ]
+}
+
+fn set_file(records: &[Vec<u8>]) -> Vec<u8> {
+    conditions::file_of(WithSettings, &lent(records))
+}
+
+fn set_entries(records: &[Vec<u8>]) -> Vec<[u8; ENTRY]> {
+    ascending(&entries_of(WithSettings, &lent(records)))
+}
+
+/// Files with settings, and records of the other form than the file's.
+fn with_settings() -> Vec<Call> {
+    let mut calls = Vec::new();
+    let worked = set_worked();
+    let (file, good) = (set_file(&worked), set_entries(&worked).concat());
+    let why = "with settings";
+    for length in [good.len(), good.len() + 3, good.len() - 1, 0] {
+        calls.push(call(why, file.clone(), vec![0xee; length], Ask::Build));
+    }
+    for length in (0..file.len()).step_by(7).chain([file.len() - 1]) {
+        for (room, ask) in [(0, Ask::Build), (60, Ask::Build), (60, Ask::Check)] {
+            let cut = file[..length].to_vec();
+            calls.push(call("with settings, cut", cut, vec![0xee; room], ask));
+        }
+    }
+    for at in 8..12 {
+        for value in [2, 4, 7, 254, 255] {
+            let mut records = worked[..1].to_vec();
+            records[0][at] = value;
+            let (file, room) = (set_file(&records), vec![0xee; ENTRY]);
+            calls.push(call("a byte of settings", file, room, Ask::Build));
+        }
+    }
+    calls.push(call(why, file.clone(), and(&good, 2), Ask::Check));
+    for (place, (damage, what)) in DAMAGES.into_iter().enumerate() {
+        let random = &mut Random::new(27, place as u64, 0);
+        let entries = set_entries(&worked);
+        let bytes = damaged(random, damage, WithSettings, &lent(&worked), &entries);
+        calls.push(call(what, file.clone(), bytes.clone(), Ask::Check));
+        calls.push(call(what, file.clone(), bytes, Ask::Find(1_400)));
+    }
+    for crossing in [70_000, 1_400, 0, u32::MAX, 1_401] {
+        calls.push(call(why, file.clone(), good.clone(), Ask::Find(crossing)));
+    }
+    // The summary of the file in the other form, whose offsets are others.
+    let old: Vec<Vec<u8>> = vec![record(7, 3, 2, &[5, 9]), record(6, 1, 1, &[8])];
+    let moved: Vec<Vec<u8>> = (old.iter())
+        .map(|record| [&record[..8], &[0, 255, 255, 255], &record[8..]].concat())
+        .collect();
+    let moved_good = set_entries(&moved).concat();
+    for (file, buffer) in [
+        (file_of(&old), moved_good.clone()),
+        (set_file(&moved), summary_of(&old)),
+        (set_file(&moved), moved_good.clone()),
+    ] {
+        calls.push(call(
+            "moved forward",
+            file.clone(),
+            buffer.clone(),
+            Ask::Check,
+        ));
+        calls.push(call("moved forward", file, buffer, Ask::Find(7)));
+    }
+    calls.push(call(
+        "moved forward",
+        set_file(&moved),
+        vec![0xee; 26],
+        Ask::Build,
+    ));
+    // Records of either form for files of either form.
+    let (new, plain) = (
+        set_record(1_400, [1, 0, 1, 2], 2, 2, &[9, 8, 7]),
+        record(1_400, 2, 2, &[9, 8, 7]),
+    );
+    let mut unknown = new.clone();
+    unknown[9] = 254;
+    for (what, bytes) in [
+        ("with settings", new.clone()),
+        ("without settings", plain.clone()),
+        ("with a range of 254", unknown),
+        ("of which two", [new.clone(), new.clone()].concat()),
+        ("cut", new[..new.len() - 1].to_vec()),
+        ("none", vec![]),
+    ] {
+        for more in [ENTRY - 1, ENTRY, ENTRY + 2] {
+            let why = format!("with settings, a record {what}");
+            let buffer = and(&good, more);
+            calls.push(call(&why, file.clone(), buffer, Ask::Update(bytes.clone())));
+        }
+        let why = format!("without settings, a record {what}");
+        let buffer = and(&summary_of(&old), ENTRY);
+        calls.push(call(&why, file_of(&old), buffer, Ask::Update(bytes)));
+    }
+    for crossing in [0, 1_399, 1_401, 69_999, 70_000, 70_001] {
+        let new = set_record(crossing, [0, 0, 255, 1], 1, 2, &[9, 200]);
+        let buffer = and(&good, ENTRY);
+        calls.push(call(why, file.clone(), buffer, Ask::Update(new)));
+    }
+    for (ask, room) in [
+        (Ask::Build, 0),
+        (Ask::Build, 5),
+        (Ask::Check, 0),
+        (Ask::Find(0), 0),
+        (Ask::Update(new.clone()), ENTRY),
+        (Ask::Update(new), ENTRY - 1),
+        (Ask::Update(plain), ENTRY),
+    ] {
+        let why = "with settings and without records";
+        calls.push(call(why, set_file(&[]), vec![0xee; room], ask));
+    }
+    let many: Vec<Vec<u8>> = (0..1_000)
+        .map(|k: u32| {
+            let four = [(k % 2) as u8, 255, (k % 7) as u8, (k % 4) as u8];
+            set_record(k.wrapping_mul(2_654_435_761) % 700, four, 1, 1, &[k as u8])
+        })
+        .collect();
+    let room = vec![0xee; ENTRY * many.len()];
+    calls.push(call(
+        "1,000 records with settings",
+        set_file(&many),
+        room,
+        Ask::Build,
+    ));
+    let random = (0..).map(|case| Summing::either(&mut Random::new(28, 0, case)));
+    let small = |one: &Summing| one.file.len() + one.buffer.len() <= 500;
+    calls.extend(random.filter(small).take(120).map(|request| Call {
         why: "any".to_string(),
         request,
     }));
@@ -525,6 +687,7 @@ fn vectors(converters: &Converters) -> Result<Vec<Vector>, String> {
         updates(),
         any(),
         of_equal_crossings(),
+        with_settings(),
     ]
     .into_iter()
     .flatten();
@@ -535,7 +698,8 @@ fn vectors(converters: &Converters) -> Result<Vec<Vector>, String> {
     Ok(vectors)
 }
 
-/// Every answer that each call can give, in buffers that can be lent, and several records of one crossing.
+/// Every answer that each call can give, in buffers that can be lent, several records of one crossing, and files
+/// with settings.
 fn complete(vectors: &[Vector]) -> Result<(), String> {
     let short = vectors.iter().all(|vector| {
         let Summing { file, buffer, ask } = &vector.call.request;
@@ -564,6 +728,15 @@ fn complete(vectors: &[Vector]) -> Result<(), String> {
         (
             vectors.iter().any(several),
             "several records of one crossing",
+        ),
+        (
+            KINDS.into_iter().all(|(_, is, _)| {
+                let with = |file: &[u8]| conditions::form_of(file) == WithSettings;
+                let taken = |v: &&Vector| v.answer.is_ok() && with(&v.call.request.file);
+                let mut taken = vectors.iter().filter(taken);
+                taken.any(|vector| is(&vector.call.request.ask))
+            }),
+            "a file with settings",
         ),
     ] {
         if !has {
@@ -763,11 +936,18 @@ enum Mistake {
     TwoRecordsTaken,
     BytesBehindTheRecord,
     NoRecordTaken,
+    SettingsRefused,
+    PlanesOf420,
+    MeanWithTheSettings,
+    OffsetsWithoutTheMark,
+    OffsetsMovedBy16,
+    RecordOfEitherForm,
+    RecordWithoutSettings,
 }
 
 use Mistake::*;
 
-const MISTAKES: [(Mistake, &str); 36] = [
+const MISTAKES: [(Mistake, &str); 43] = [
     (MeanRoundedUp, "means rounded up"),
     (MeanToNearest, "means rounded to the nearest"),
     (MeanOfAllPlanes, "means of all planes"),
@@ -819,6 +999,28 @@ const MISTAKES: [(Mistake, &str); 36] = [
         "an update takes bytes behind its record",
     ),
     (NoRecordTaken, "an update takes no record"),
+    (SettingsRefused, "a file with settings is none"),
+    (PlanesOf420, "a file with a record in 4:2:2 is none"),
+    (
+        MeanWithTheSettings,
+        "means of the bytes behind h, settings among them",
+    ),
+    (
+        OffsetsWithoutTheMark,
+        "offsets from behind the first number of a file with settings",
+    ),
+    (
+        OffsetsMovedBy16,
+        "old offsets of a file with settings moved by 16",
+    ),
+    (
+        RecordOfEitherForm,
+        "an update takes a record of the other form",
+    ),
+    (
+        RecordWithoutSettings,
+        "an update of a file with settings takes records without",
+    ),
 ];
 
 /// A second statement of the calls, with one mistake. Without one it gives what is expected.
@@ -836,12 +1038,16 @@ const MISMATCH: Answer = Err(Refusal {
 });
 
 impl Mistaken {
-    fn mean(&self, record: &[u8]) -> u8 {
+    fn mean(&self, form: ShiftForm, record: &[u8]) -> u8 {
         let [w, h] = [4, 6].map(|at| usize::from(u16::from_le_bytes([record[at], record[at + 1]])));
+        let planes = match self.0 {
+            MeanWithTheSettings => &record[8..],
+            _ => &record[conditions::header(form)..],
+        };
         let plane = match self.0 {
-            MeanOfAllPlanes => &record[8..],
-            MeanOfFirstRow => &record[8..8 + w],
-            _ => &record[8..8 + w * h],
+            MeanOfAllPlanes => planes,
+            MeanOfFirstRow => &planes[..w],
+            _ => &planes[..w * h],
         };
         let (sum, count) = (
             plane.iter().map(|b| u64::from(*b)).sum::<u64>(),
@@ -855,14 +1061,17 @@ impl Mistaken {
         }) as u8
     }
 
-    fn entries(&self, records: &[&[u8]]) -> Vec<[u8; ENTRY]> {
-        let mut entries = entries_of(records);
+    fn entries(&self, form: ShiftForm, records: &[&[u8]]) -> Vec<[u8; ENTRY]> {
+        let mut entries = entries_of(form, records);
         for (entry, record) in entries.iter_mut().zip(records) {
-            entry[12] = self.mean(record);
-            if self.0 == OffsetOfY {
-                let offset = offset_of(entry) + 8;
-                set_offset(entry, offset);
-            }
+            entry[12] = self.mean(form, record);
+            let more = match self.0 {
+                OffsetOfY => conditions::header(form) as u64,
+                OffsetsWithoutTheMark if form == WithSettings => !3,
+                _ => 0,
+            };
+            let offset = offset_of(entry).wrapping_add(more);
+            set_offset(entry, offset);
         }
         entries
     }
@@ -950,9 +1159,9 @@ impl Mistaken {
         ordered && have == should
     }
 
-    fn update(&self, records: &[&[u8]], added: &[u8], buffer: &mut [u8]) {
+    fn update(&self, form: ShiftForm, records: &[&[u8]], added: &[u8], buffer: &mut [u8]) {
         let grown = [records, &[added]].concat();
-        let mut entries = self.entries(&grown);
+        let mut entries = self.entries(form, &grown);
         let new = entries.pop().map(|mut new| {
             if self.0 == NewOffsetNotMoved {
                 let offset = offset_of(&new) - 12;
@@ -961,7 +1170,13 @@ impl Mistaken {
             new
         });
         if self.0 == OffsetsNotMoved {
-            entries = self.entries(records);
+            entries = self.entries(form, records);
+        }
+        if self.0 == OffsetsMovedBy16 && form == WithSettings {
+            for entry in &mut entries {
+                let offset = offset_of(entry) + 4;
+                set_offset(entry, offset);
+            }
         }
         entries = self.sorted(&entries);
         match self.0 {
@@ -988,11 +1203,20 @@ impl Mistaken {
     }
 
     fn answer(&self, file: &[u8], ask: &Ask, buffer: &mut [u8]) -> (Answer, [u64; 2]) {
-        let Some(records) = conditions::records_of_file(file) else {
+        let form = conditions::form_of(file);
+        let taken = |records: &Vec<&[u8]>| match self.0 {
+            SettingsRefused => form == WithoutSettings,
+            PlanesOf420 => {
+                let sampling = |record: &&[u8]| conditions::settings_of(form, record)[0];
+                records.iter().all(|record| sampling(record) == 0)
+            }
+            _ => true,
+        };
+        let Some(records) = conditions::records_of_file(form, file).filter(taken) else {
             let early = self.0 == SummaryBeforeFile && buffer.is_empty() && *ask != Ask::Check;
             return (if early { MISMATCH } else { BROKEN }, [0; 2]);
         };
-        let entries = self.entries(&records);
+        let entries = self.entries(form, &records);
         let short = buffer.len() < ENTRY * records.len();
         let yes = self.says_yes(&entries, buffer);
         match ask {
@@ -1015,9 +1239,21 @@ impl Mistaken {
                 (Ok(()), found.map_or([0; 2], |k| [1, k as u64 + from]))
             }
             Ask::Update(added) => {
+                let form = match self.0 {
+                    RecordOfEitherForm => {
+                        let of = |form: &ShiftForm| {
+                            let records = conditions::records_of(*form, added);
+                            records.is_some_and(|records| records.len() == 1)
+                        };
+                        let forms = [WithoutSettings, WithSettings];
+                        forms.into_iter().find(of).unwrap_or(form)
+                    }
+                    RecordWithoutSettings => WithoutSettings,
+                    _ => form,
+                };
                 let one =
                     match self.0 {
-                        TwoRecordsTaken | NoRecordTaken => conditions::records_of(added)
+                        TwoRecordsTaken | NoRecordTaken => conditions::records_of(form, added)
                             .filter(|records| {
                                 records.len() != if self.0 == NoRecordTaken { 2 } else { 0 }
                             })
@@ -1025,9 +1261,9 @@ impl Mistaken {
                         BytesBehindTheRecord => (0..=added.len())
                             .map(|length| &added[..length])
                             .find(|part| {
-                                conditions::records_of(part).is_some_and(|one| one.len() == 1)
+                                conditions::records_of(form, part).is_some_and(|one| one.len() == 1)
                             }),
-                        _ => conditions::records_of(added)
+                        _ => conditions::records_of(form, added)
                             .filter(|records| records.len() == 1)
                             .map(|_| &added[..]),
                     };
@@ -1040,7 +1276,17 @@ impl Mistaken {
                     Some(_) if mismatch => (MISMATCH, [0; 2]),
                     Some([]) => (Ok(()), [0; 2]),
                     Some(added) => {
-                        self.update(&records, added, buffer);
+                        // A record of the other form, as one of the file's.
+                        let four = match (form, conditions::form_of(file)) {
+                            (WithoutSettings, WithSettings) => &conditions::UNSAID[..],
+                            _ => &[],
+                        };
+                        let planes = match (form, conditions::form_of(file)) {
+                            (WithSettings, WithoutSettings) => &added[12..],
+                            _ => &added[8..],
+                        };
+                        let added = [&added[..8], four, planes].concat();
+                        self.update(conditions::form_of(file), &records, &added, buffer);
                         (Ok(()), [0; 2])
                     }
                 }

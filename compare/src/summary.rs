@@ -1,4 +1,4 @@
-//! Summaries of shift files, RULES 12.1 and on: built, checked, looked up and updated, with good summaries
+//! Summaries of shift files of both forms, RULES 12.1 and on: built, checked, looked up and updated, with good summaries
 //! and damaged ones, of good files and broken ones. Every converter that has the calls is held to the list
 //! of conditions, to the entries of the records, and to what it must leave alone.
 
@@ -7,7 +7,11 @@ use crate::conditions;
 use crate::converter::Converter;
 use crate::random::Random;
 use crate::request::hex;
-use crate::shift::{any_file, around, equal, fewer, file_of, good_record, good_records, having};
+use crate::shift::{
+    ShiftForm, any_file, around, equal, fewer, file_of, good_record, good_records, having,
+    some_form,
+};
+use ShiftForm::*;
 use model::{Answer, Refusal};
 
 pub const ENTRY: usize = 13;
@@ -49,17 +53,17 @@ pub fn crossing_of(bytes: &[u8]) -> u32 {
     u32::from_le_bytes(*bytes.first_chunk().expect("a crossing"))
 }
 
-fn luma_of(record: &[u8]) -> &[u8] {
+fn luma_of(form: ShiftForm, record: &[u8]) -> &[u8] {
     let side = |at: usize| usize::from(u16::from_le_bytes([record[at], record[at + 1]]));
-    &record[8..8 + side(4) * side(6)]
+    &record[conditions::header(form)..][..side(4) * side(6)]
 }
 
-/// RULES 12.1: the entries of records that stand in a file from this byte on, in their order.
-pub fn entries_of(records: &[&[u8]]) -> Vec<[u8; ENTRY]> {
-    let mut offset = (4 + 12 * records.len()) as u64;
+/// RULES 12.1: the entries of the records of a file, in their order.
+pub fn entries_of(form: ShiftForm, records: &[&[u8]]) -> Vec<[u8; ENTRY]> {
+    let mut offset = conditions::start(form, records.len()) as u64;
     let mut entries = Vec::new();
     for record in records {
-        let mean = mean(luma_of(record));
+        let mean = mean(luma_of(form, record));
         let entry = [&record[..4], &offset.to_le_bytes(), &[mean]].concat();
         entries.push(entry.try_into().expect("13 bytes"));
         offset += record.len() as u64;
@@ -108,20 +112,21 @@ impl Summing {
     }
 
     fn should(&self) -> Should {
-        let records = conditions::records_of_file(&self.file);
+        let records = conditions::records_of_any(&self.file);
         let refused = |answer: Answer| Should {
             answer,
             told: [0; 2],
             summary: None,
         };
+        let form = conditions::form_of(&self.file);
         let added = match &self.ask {
-            Update(record) => conditions::records_of(record),
+            Update(record) => conditions::records_of(form, record),
             _ => Some(vec![]),
         };
-        let (Some(records), Some(added)) = (records, added) else {
+        let (Some((_, records)), Some(added)) = (records, added) else {
             return refused(BROKEN);
         };
-        let entries = entries_of(&records);
+        let entries = entries_of(form, &records);
         let start = self.buffer.get(..ENTRY * records.len());
         let yes = start.is_some_and(|start| is_summary_of(&entries, start));
         let grown = [&records[..], &added[..]].concat();
@@ -140,7 +145,7 @@ impl Summing {
         };
         let summary = match self.ask {
             Build => Some(entries),
-            Update(_) => Some(entries_of(&grown)),
+            Update(_) => Some(entries_of(form, &grown)),
             Check | Find(_) => None,
         };
         Should {
@@ -164,13 +169,15 @@ impl Summing {
     /// What was built or updated is checked, and an update is held to the building from the grown file.
     fn again(&self, converter: &dyn Converter, after: &[u8]) -> Result<(), String> {
         let name = converter.name();
+        let form = conditions::form_of(&self.file);
+        let count_of = |file: &[u8]| crossing_of(&file[conditions::start(form, 0) - 4..]) as usize;
         let grown = match &self.ask {
             Build => self.file.clone(),
             Update(record) => {
-                let count = crossing_of(&self.file) as usize;
-                let records = [&self.file[4 + 12 * count..], record].concat();
+                let start = conditions::start(form, count_of(&self.file));
+                let records = [&self.file[start..], record].concat();
                 let mut grown = vec![0; self.file.len() + 12 + record.len()];
-                let (answer, _) = converter.shift_write(&records, &mut grown);
+                let (answer, _) = converter.shift_write(form, &records, &mut grown);
                 equal_answers(name, &answer, &Ok(()))?;
                 grown
             }
@@ -179,7 +186,7 @@ impl Summing {
         let (answer, yes) = converter.summary_check(&grown, after);
         equal_answers(name, &answer, &Ok(()))?;
         equal(name, "the check afterwards", yes, true)?;
-        let size = ENTRY * crossing_of(&grown) as usize;
+        let size = ENTRY * count_of(&grown);
         let mut built = vec![0; size];
         let answer = converter.summary_build(&grown, &mut built);
         equal_answers(name, &answer, &Ok(()))?;
@@ -209,15 +216,15 @@ impl Case for Summing {
             buffer,
             ..self.clone()
         }));
-        if let Some(records) = conditions::records_of_file(&self.file) {
+        if let Some((form, records)) = conditions::records_of_any(&self.file) {
             // Without a record, and with a summary of the others.
             for k in 0..records.len().min(64) {
                 let mut others = records.clone();
                 others.remove(k);
-                let mut buffer = ascending(&entries_of(&others)).concat();
+                let mut buffer = ascending(&entries_of(form, &others)).concat();
                 buffer.resize(buffer.len().max(self.buffer.len()), 0xee);
                 all.push(Summing {
-                    file: conditions::file_of(&others),
+                    file: conditions::file_of(form, &others),
                     buffer,
                     ask: self.ask.clone(),
                 });
@@ -249,7 +256,7 @@ impl Case for Summing {
     fn told(&self) -> Option<&'static str> {
         let should = self.should();
         let several = |crossing: u32| {
-            let records = conditions::records_of_file(&self.file).unwrap_or_default();
+            let records = records_of(&self.file);
             let is = |record: &&&[u8]| crossing_of(record) == crossing;
             records.iter().filter(is).count() > 1
         };
@@ -266,6 +273,11 @@ impl Case for Summing {
 }
 
 // Random ones.
+
+/// The records of a file of either form; none where there is no file.
+pub fn records_of(file: &[u8]) -> Vec<&[u8]> {
+    conditions::records_of_any(file).map_or(vec![], |(_, records)| records)
+}
 
 /// A summary's entries by crossing, and by offset where crossings are equal.
 pub fn ascending(entries: &[[u8; ENTRY]]) -> Vec<[u8; ENTRY]> {
@@ -358,11 +370,14 @@ pub const DAMAGES: [(Damage, &str); 28] = [
 pub fn damaged(
     random: &mut Random,
     damage: Damage,
+    form: ShiftForm,
     records: &[&[u8]],
     good: &[[u8; ENTRY]],
 ) -> Vec<u8> {
     let mut entries = good.to_vec();
     let count = entries.len();
+    let start = conditions::start(form, count) as u64;
+    let header = conditions::header(form);
     if count == 0 {
         return vec![];
     }
@@ -376,11 +391,11 @@ pub fn damaged(
     let means = |of: &dyn Fn(&[u8]) -> u8| {
         let mut all = good.to_vec();
         for entry in &mut all {
-            let at = offset_of(entry) - (4 + 12 * count) as u64;
-            let mut start = 0;
+            let at = offset_of(entry) - start;
+            let mut so_far = 0;
             let stands = |record: &&&[u8]| {
-                let here = start == at;
-                start += record.len() as u64;
+                let here = so_far == at;
+                so_far += record.len() as u64;
                 here
             };
             if let Some(record) = records.iter().find(stands) {
@@ -394,16 +409,16 @@ pub fn damaged(
         MeanOneLess => entries[k][12] = entries[k][12].wrapping_sub(1),
         MeanRoundedUp => {
             entries = means(&|record| {
-                let y = luma_of(record);
+                let y = luma_of(form, record);
                 let sum: u64 = y.iter().map(|byte| u64::from(*byte)).sum();
                 sum.div_ceil(y.len() as u64) as u8
             });
         }
-        MeanOfAllPlanes => entries = means(&|record| mean(&record[8..])),
+        MeanOfAllPlanes => entries = means(&|record| mean(&record[header..])),
         MeanOfFirstRow => {
             entries = means(&|record| {
                 let w = usize::from(u16::from_le_bytes([record[4], record[5]]));
-                mean(&record[8..8 + w])
+                mean(&record[header..header + w])
             });
         }
         OffsetTwelveMore | OffsetTwelveLess => {
@@ -414,8 +429,8 @@ pub fn damaged(
         AllTwelveMore | OffsetOfY | OffsetsFromRecords => {
             let by = match damage {
                 AllTwelveMore => 12,
-                OffsetOfY => 8,
-                _ => ((4 + 12 * count) as u64).wrapping_neg(),
+                OffsetOfY => header as u64,
+                _ => start.wrapping_neg(),
             };
             for entry in &mut entries {
                 let offset = offset_of(entry).wrapping_add(by);
@@ -505,38 +520,38 @@ fn with_few_crossings(random: &mut Random, records: &mut [Vec<u8>]) {
 }
 
 /// Flat luma now and then, whose mean is exact, of 0 and 255 too.
-fn with_flat_luma(random: &mut Random, records: &mut [Vec<u8>]) {
+fn with_flat_luma(random: &mut Random, form: ShiftForm, records: &mut [Vec<u8>]) {
     for record in records {
         if random.one_in(4) {
-            let luma = luma_of(record).len();
+            let luma = luma_of(form, record).len();
             let value = random.pick(&[0, 1, 127, 254, 255]);
-            record[8..8 + luma].fill(value);
+            record[conditions::header(form)..][..luma].fill(value);
         }
     }
 }
 
 /// A file, and a summary of it, good or damaged, with or without bytes behind it.
-fn file_and_buffer(random: &mut Random) -> (Vec<u8>, Vec<u8>) {
+fn file_and_buffer(random: &mut Random, form: ShiftForm) -> (Vec<u8>, Vec<u8>) {
     let file = if random.one_in(10) {
-        any_file(random)
+        any_file(random, form)
     } else {
-        let mut records = good_records(random);
+        let mut records = good_records(random, form);
         if random.one_in(2) {
             with_few_crossings(random, &mut records);
         }
-        with_flat_luma(random, &mut records);
-        file_of(&records)
+        with_flat_luma(random, form, &mut records);
+        file_of(form, &records)
     };
-    let Some(records) = conditions::records_of_file(&file) else {
+    let Some((form, records)) = conditions::records_of_any(&file) else {
         let length = random.below(80) as usize;
         let buffer = random.bytes(length);
         return (file, buffer);
     };
-    let good = in_any_order(random, &entries_of(&records));
+    let good = in_any_order(random, &entries_of(form, &records));
     let mut buffer = good.concat();
     if random.one_in(2) {
         let (damage, _) = random.pick(&DAMAGES);
-        buffer = damaged(random, damage, &records, &good);
+        buffer = damaged(random, damage, form, &records, &good);
     }
     (file, buffer)
 }
@@ -549,10 +564,38 @@ fn and_more(random: &mut Random, buffer: &mut Vec<u8>) {
     buffer.extend(more);
 }
 
+/// Each call on a file without settings, and one on a file of either form.
 impl Summing {
     pub fn build(random: &mut Random) -> Summing {
-        let (file, _) = file_and_buffer(random);
-        let size = ENTRY * conditions::records_of_file(&file).map_or(2, |records| records.len());
+        Summing::build_of(random, WithoutSettings)
+    }
+
+    pub fn check(random: &mut Random) -> Summing {
+        Summing::check_of(random, WithoutSettings)
+    }
+
+    pub fn find(random: &mut Random) -> Summing {
+        Summing::find_of(random, WithoutSettings)
+    }
+
+    pub fn update(random: &mut Random) -> Summing {
+        Summing::update_of(random, WithoutSettings)
+    }
+
+    pub fn either(random: &mut Random) -> Summing {
+        let form = some_form(random);
+        match random.below(4) {
+            0 => Summing::build_of(random, form),
+            1 => Summing::check_of(random, form),
+            2 => Summing::find_of(random, form),
+            _ => Summing::update_of(random, form),
+        }
+    }
+
+    fn build_of(random: &mut Random, form: ShiftForm) -> Summing {
+        let (file, _) = file_and_buffer(random, form);
+        let size =
+            ENTRY * conditions::records_of_any(&file).map_or(2, |(_, records)| records.len());
         let any = random.below(size as u64 + 30);
         let length = random.pick(&[size, size, size + 1, size.saturating_sub(1), any as usize]);
         Summing {
@@ -562,8 +605,8 @@ impl Summing {
         }
     }
 
-    pub fn check(random: &mut Random) -> Summing {
-        let (file, mut buffer) = file_and_buffer(random);
+    fn check_of(random: &mut Random, form: ShiftForm) -> Summing {
+        let (file, mut buffer) = file_and_buffer(random, form);
         and_more(random, &mut buffer);
         Summing {
             file,
@@ -573,9 +616,9 @@ impl Summing {
     }
 
     /// Of a crossing that is there, or near one that is, or of any.
-    pub fn find(random: &mut Random) -> Summing {
-        let Summing { file, buffer, .. } = Summing::check(random);
-        let records = conditions::records_of_file(&file).unwrap_or_default();
+    fn find_of(random: &mut Random, form: ShiftForm) -> Summing {
+        let Summing { file, buffer, .. } = Summing::check_of(random, form);
+        let records = records_of(&file);
         let any = random.next() as u32;
         let there = match records.len() as u64 {
             0 => any,
@@ -594,18 +637,22 @@ impl Summing {
         }
     }
 
-    pub fn update(random: &mut Random) -> Summing {
-        let (file, mut buffer) = file_and_buffer(random);
-        let count = conditions::records_of_file(&file).map_or(2, |records| records.len());
-        let mut record = good_record(random, 9);
+    /// With a record of the file's form; where that is the one with settings, now and then of the other.
+    fn update_of(random: &mut Random, form: ShiftForm) -> Summing {
+        let (file, mut buffer) = file_and_buffer(random, form);
+        let count = conditions::records_of_any(&file).map_or(2, |(_, records)| records.len());
+        let mut record = good_record(random, form, 9);
         if count > 0 && random.one_in(2) {
-            let at = 4 + 12 * count;
+            let at = conditions::start(form, count);
             if let Some(crossing) = file.get(at..at + 4) {
                 record[..4].copy_from_slice(crossing);
             }
         }
         if random.one_in(6) {
-            record = no_record(random, record);
+            record = no_record(random, form, record);
+        }
+        if form == WithSettings && random.one_in(12) {
+            record = good_record(random, WithoutSettings, 9);
         }
         // Room for one entry more: exactly, a byte less, more, or none.
         let any = random.below(60) as usize;
@@ -622,7 +669,7 @@ impl Summing {
 }
 
 /// Bytes that are not one record, but for a change of a plane.
-fn no_record(random: &mut Random, mut record: Vec<u8>) -> Vec<u8> {
+fn no_record(random: &mut Random, form: ShiftForm, mut record: Vec<u8>) -> Vec<u8> {
     match random.below(8) {
         0 => vec![],
         1 => {
@@ -633,7 +680,7 @@ fn no_record(random: &mut Random, mut record: Vec<u8>) -> Vec<u8> {
             record.push(random.next() as u8);
             record
         }
-        3 => [record, good_record(random, 3)].concat(),
+        3 => [record, good_record(random, form, 3)].concat(),
         4 => {
             let side = random.pick(&[4, 6]);
             let value: u16 = random.pick(&[0, 16_385, 65_535]);
@@ -641,7 +688,7 @@ fn no_record(random: &mut Random, mut record: Vec<u8>) -> Vec<u8> {
             record
         }
         5 => record[..random.below(9) as usize].to_vec(),
-        6 => file_of(&[record]),
+        6 => file_of(form, &[record]),
         _ => {
             let at = random.below(record.len() as u64) as usize;
             record[at] ^= 1 << random.below(8);
@@ -652,20 +699,28 @@ fn no_record(random: &mut Random, mut record: Vec<u8>) -> Vec<u8> {
 
 /// Files of as many records as there may be, which no update makes longer.
 pub fn full(random: &mut Random) -> Summing {
+    full_of(random, WithoutSettings)
+}
+
+pub fn full_with_settings(random: &mut Random) -> Summing {
+    full_of(random, WithSettings)
+}
+
+fn full_of(random: &mut Random, form: ShiftForm) -> Summing {
     let count = random.pick(&[MOST - 2, MOST - 1, MOST]);
-    let mut records: Vec<Vec<u8>> = (0..count).map(|_| good_record(random, 1)).collect();
+    let mut records: Vec<Vec<u8>> = (0..count).map(|_| good_record(random, form, 1)).collect();
     if random.one_in(2) {
         with_few_crossings(random, &mut records);
     }
-    let file = file_of(&records);
+    let file = file_of(form, &records);
     let lent: Vec<&[u8]> = records.iter().map(Vec::as_slice).collect();
-    let mut buffer = in_any_order(random, &entries_of(&lent)).concat();
+    let mut buffer = in_any_order(random, &entries_of(form, &lent)).concat();
     let more = random.pick(&[ENTRY, ENTRY, ENTRY - 1]);
     let bytes = random.bytes(more);
     buffer.extend(bytes);
     Summing {
         file,
         buffer,
-        ask: Update(good_record(random, 3)),
+        ask: Update(good_record(random, form, 3)),
     }
 }
