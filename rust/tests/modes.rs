@@ -336,7 +336,7 @@ fn the_export_takes_denormals_as_its_caller() {
     }
 }
 
-/// Shift files, summaries and pairs are made of whole numbers: no mode is set for them, and none matters.
+/// Shift files, with settings and moved too, summaries and pairs are made of whole numbers: no mode is set for them, and none matters.
 #[test]
 fn the_same_shift_file_in_every_mode() {
     let mut image = YuvPlanarImageMut::<u8>::alloc(5, 3, YuvChromaSubsampling::Yuv420);
@@ -362,8 +362,26 @@ fn the_same_shift_file_in_every_mode() {
         *other.last_mut().unwrap() ^= 1;
         let report = pair_shift_files(&bytes, &other)?;
         assert_eq!((report.equal, report.differing), (0, 1));
+        let mut forward = vec![0; moved_forward_size(&bytes)?];
+        move_forward(&bytes, &mut forward)?;
+        let mut back = vec![0; moved_back_size(&forward)?];
+        move_back(&forward, &mut back)?;
+        assert_eq!(back, bytes);
+        let mut settings = RecordSettings::new(YuvChromaSubsampling::Yuv420);
+        settings.range = Some(YuvRange::Full);
+        let mut other = vec![0; settings_record_size(&settings, &image)?];
+        settings_record(1400, &settings, &image, &mut other)?;
+        let mut bytes = vec![0; settings_file_size(&other)?];
+        write_settings_file(&other, &mut bytes)?;
+        let found = ShiftFile::open_any(&bytes)?.record(0);
+        assert_eq!(found.map(|record| record.settings), Some(settings));
+        record.extend(forward);
+        record.extend(&bytes);
         bytes.truncate(50);
-        assert_eq!(ShiftFile::open(&bytes), Err(YuvError::MalformedShiftFile));
+        assert_eq!(
+            ShiftFile::open_any(&bytes),
+            Err(YuvError::MalformedShiftFile)
+        );
         record.extend(summary);
         Ok::<_, YuvError>(record)
     };

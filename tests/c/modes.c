@@ -48,7 +48,7 @@ static float of_bits(uint32_t bits) {
     return x;
 }
 
-enum { W = 5, H = 3, CW = 3, STRIDE = 3 * W, RECORD = 8 + W * H + 2 * CW * 2 };
+enum { W = 5, H = 3, CW = 3, STRIDE = 3 * W, RECORD = 8 + W * H + 2 * CW * 2, SET_RECORD = 12 + W * H + 2 * CW * H };
 
 static uint8_t source[STRIDE * H];
 
@@ -64,6 +64,8 @@ typedef struct outcome {
     int yes, is_found;
     segvartin_pair_report report;
     int broken;
+    uint8_t set_record[SET_RECORD], set_file[20 + SET_RECORD], forward[24 + RECORD], back[16 + RECORD];
+    segvartin_settings_record any;
 } outcome;
 
 typedef void call(const segvartin_description *d, outcome *o);
@@ -220,6 +222,25 @@ static void pairs(const segvartin_description *d, outcome *o) {
     memcpy(bytes, o->file, sizeof bytes);
     bytes[sizeof bytes - 1] ^= 1;
     if (o->number == SEGVARTIN_FINISHED) told(o, segvartin_pair_shift_files(ours, theirs, &o->report, &o->broken));
+}
+
+/* A record with the settings of the description, in 4:2:2, a file of it, and what is read there; the file without settings moved forward and back. */
+static void settings(const segvartin_description *d, outcome *o) {
+    segvartin_description tall = *d;
+    segvartin_bytes y = {source, (size_t)d->y_stride * d->height}, u = {source + y.len, d->u_stride * (size_t)d->height}, v = {u.at + 1, u.len};
+    segvartin_bytes_mut record = {o->set_record, sizeof o->set_record}, file = {o->set_file, sizeof o->set_file};
+    segvartin_bytes_mut forward = {o->forward, sizeof o->forward}, back = {o->back, sizeof o->back};
+    segvartin_bytes old = {o->file, sizeof o->file};
+    size_t size, count, read;
+    int form;
+    tall.sampling = SEGVARTIN_YUV422;
+    shift_file(d, o);
+    if (o->number == SEGVARTIN_FINISHED) told(o, segvartin_write_settings_record(1400, &tall, y, u, v, record, &size));
+    if (o->number == SEGVARTIN_FINISHED) told(o, segvartin_write_settings_file(segvartin_read_only(record), file, &size));
+    if (o->number == SEGVARTIN_FINISHED) told(o, segvartin_read_any_shift_file(segvartin_read_only(file), 0, &o->any, 1, &count, &read, &form));
+    if (o->number == SEGVARTIN_FINISHED) told(o, segvartin_move_forward(old, forward, &size));
+    if (o->number == SEGVARTIN_FINISHED) told(o, segvartin_move_back(segvartin_read_only(forward), back, &size));
+    if (o->number == SEGVARTIN_FINISHED) told(o, segvartin_pair_shift_files(old, segvartin_read_only(file), &o->report, &o->broken));
 }
 
 /* As colours, by the exported function alone. */
@@ -384,7 +405,7 @@ static void counts_of_colours(void) {
     }
 }
 
-/* Shift files, summaries and pairs are made of whole numbers: no mode is set for them, and none matters. */
+/* Shift files, with settings and moved too, summaries and pairs are made of whole numbers: no mode is set for them, and none matters. */
 static void shift_files(void) {
     segvartin_description d = description(W, H, SEGVARTIN_YUV420, SEGVARTIN_LIMITED, SEGVARTIN_FCC);
     outcome usual;
@@ -399,6 +420,10 @@ static void shift_files(void) {
     in_mode(0, pairs, &d, &usual, mxcsr);
     EXPECT(usual.number == SEGVARTIN_FINISHED && usual.report.differing == 1 && usual.report.plane == 2 && usual.report.column == CW - 1);
     as_usual(pairs, &d, &usual);
+    in_mode(0, settings, &d, &usual, mxcsr);
+    EXPECT(usual.number == SEGVARTIN_FINISHED && usual.set_file[0] == 255 && usual.any.sampling == SEGVARTIN_YUV422 && usual.any.matrix == SEGVARTIN_FCC);
+    EXPECT(memcmp(usual.back, usual.file, sizeof usual.file) == 0 && usual.report.their_sampling == SEGVARTIN_YUV422 && usual.report.differing == 1);
+    as_usual(settings, &d, &usual);
     d.width = 0;
     in_mode(0, shift_file, &d, &usual, mxcsr);
     EXPECT(usual.number == SEGVARTIN_MALFORMED_SHIFT_FILE && usual.record[0] == 0);
@@ -445,7 +470,7 @@ static void another_end(void) {
     segvartin_description d = description(W, H, SEGVARTIN_YUV420, SEGVARTIN_FULL, SEGVARTIN_FCC);
     EXPECT(!ends(frame, &d) && !ends(bands, &d) && !ends(frame_with, &d) && !ends(bands_with, &d) && ends(bare, &d));
     EXPECT(!ends(frame_in_window, &d) && !ends(bands_in_window, &d));
-    EXPECT(!ends(colours, &d) && ends(bare_colours, &d) && !ends(summary, &d) && !ends(pairs, &d));
+    EXPECT(!ends(colours, &d) && ends(bare_colours, &d) && !ends(summary, &d) && !ends(pairs, &d) && !ends(settings, &d));
     d.matrix = SEGVARTIN_BT709;
     EXPECT(!ends(bare, &d) && !ends(bare_colours, &d));
 }

@@ -1,8 +1,8 @@
 /*
  * The stack that a call takes, for every setting, without options and with: nearest tables, and a window onto a larger source; that of a count of
- * colours, for every range and matrix; that of the calls on shift files; that of the calls on summaries, of a file with as many records as there may be;
- * and that of pairing two such files. Each call runs on a thread whose stack is filled with one byte first; from where the call is made down to the lowest byte that changed is
- * what it took. Bytes that a call reserves and never writes are not seen.
+ * colours, for every range and matrix; that of the calls on shift files, with settings and moved too; that of the calls on summaries, of a file with as
+ * many records as there may be; and that of pairing two such files. Each call runs on a thread whose stack is filled with one byte first; from where the
+ * call is made down to the lowest byte that changed is what it took. Bytes that a call reserves and never writes are not seen.
  */
 #include <pthread.h>
 #include <stdint.h>
@@ -99,6 +99,43 @@ static void *shift_files(void *unused) {
     return a.number == SEGVARTIN_FINISHED && read == SEVERAL ? unused : &description;
 }
 
+/* A record with settings of 4:2:2, a file of SEVERAL of them, and what is read of it; a file of them in 4:2:0 moved back and forward. */
+static void *settings(void *unused) {
+    enum { SEVERAL = 3, RECORD = 12 + W * H + 2 * CW * H };
+    static uint8_t record_bytes[SEVERAL * RECORD], file_bytes[8 + SEVERAL * (12 + RECORD)], moved_bytes[sizeof file_bytes];
+    static segvartin_settings_record records[SEVERAL];
+    static size_t size, count, read;
+    static int form;
+    segvartin_description d = description;
+    segvartin_bytes_mut file = {file_bytes, sizeof file_bytes}, moved = {moved_bytes, sizeof moved_bytes};
+    segvartin_bytes from = {record_bytes, 0}, y_plane = {y_bytes, sizeof y_bytes};
+    segvartin_answer a;
+    uint32_t k, unsaid;
+    called_from = __builtin_frame_address(0);
+    for (unsaid = 0; unsaid < 2; unsaid++) {
+        size_t chroma = CW * (unsaid ? (H + 1) / 2 : H);
+        segvartin_bytes u_plane = {u_bytes, chroma}, v_plane = {v_bytes, chroma};
+        d.sampling = unsaid ? SEGVARTIN_YUV420 : SEGVARTIN_YUV422;
+        if (unsaid) d.range = d.matrix = d.transfer = SEGVARTIN_NOT_RECORDED;
+        from.len = 0;
+        for (k = 0; k < SEVERAL; k++) {
+            segvartin_bytes_mut record = {record_bytes + from.len, sizeof record_bytes - from.len};
+            a = segvartin_write_settings_record(k, &d, y_plane, u_plane, v_plane, record, &size);
+            if (a.number != SEGVARTIN_FINISHED) return &description;
+            from.len += size;
+        }
+        file.len = sizeof file_bytes;
+        a = segvartin_write_settings_file(from, file, &size);
+        file.len = size;
+        if (a.number == SEGVARTIN_FINISHED) a = segvartin_read_any_shift_file(segvartin_read_only(file), 0, records, SEVERAL, &count, &read, &form);
+        if (a.number != SEGVARTIN_FINISHED || read != SEVERAL) return &description;
+    }
+    a = segvartin_move_back(segvartin_read_only(file), moved, &size);
+    moved.len = size;
+    if (a.number == SEGVARTIN_FINISHED) a = segvartin_move_forward(segvartin_read_only(moved), file, &size);
+    return a.number == SEGVARTIN_FINISHED && size == file.len ? unused : &description;
+}
+
 /* All four calls on the summary of a file of MANY records; the update is with one fewer. */
 static void *summaries(void *unused) {
     enum { MANY = SEGVARTIN_MAX_RECORDS, RECORD = 11 };
@@ -180,7 +217,7 @@ static size_t taken(void *(*call)(void *)) {
 }
 
 int main(void) {
-    size_t most[6] = {0, 0, 0, 0, 0, 0};
+    size_t most[7] = {0, 0, 0, 0, 0, 0, 0};
     uint32_t code;
     description.width = W, description.height = H, description.kr = 0.25f, description.kb = 0.125f;
     description.y_stride = W, description.u_stride = description.v_stride = CW;
@@ -205,11 +242,12 @@ int main(void) {
         if (c > most[2]) most[2] = c;
     }
     most[3] = taken(shift_files);
-    most[4] = taken(summaries);
-    most[5] = taken(pairs);
-    printf("stack, at most: a frame call %zu bytes, a band call %zu, a count of colours %zu, shift files %zu, summaries %zu, two files paired %zu\n", most[0],
-           most[1], most[2], most[3], most[4], most[5]);
-    for (code = 0; code < 5; code++)
+    most[4] = taken(settings);
+    most[5] = taken(summaries);
+    most[6] = taken(pairs);
+    printf("stack, at most: a frame call %zu bytes, a band call %zu, a count of colours %zu, shift files %zu, with settings and moved %zu, summaries %zu, two files paired %zu\n",
+           most[0], most[1], most[2], most[3], most[4], most[5], most[6]);
+    for (code = 0; code < 6; code++)
         if (most[code] >= PROMISED) return 1;
-    return most[5] < PROMISED_OF_PAIRS ? 0 : 1;
+    return most[6] < PROMISED_OF_PAIRS ? 0 : 1;
 }
