@@ -15,7 +15,7 @@ from pathlib import Path
 NOON, OUT = Path(sys.argv[1]).resolve(), Path(sys.argv[2])
 
 
-# ---- the pairing; a record is its crossing, its size, and its three planes as lists of rows
+# ---- the pairing; a record is its crossing, its size, its sampling, and its three planes as lists of rows
 
 def half(n):
     return n // 2 + n % 2
@@ -25,17 +25,25 @@ def rows(numbers, w, h):
     return [numbers.randbytes(w) for _ in range(h)]
 
 
-def record(numbers, crossing, w, h):
-    return crossing, (w, h), [rows(numbers, w, h), rows(numbers, half(w), half(h)), rows(numbers, half(w), half(h))]
+def record(numbers, crossing, w, h, sampling=0):
+    tall = h if sampling else half(h)
+    return crossing, (w, h, sampling), [rows(numbers, w, h), rows(numbers, half(w), tall), rows(numbers, half(w), tall)]
 
 
-def shift_file(records):
-    texts = [struct.pack('<IHH', crossing, *size) + b''.join(row for plane in planes for row in plane) for crossing, size, planes in records]
-    offset, pairs = 4 + 12 * len(texts), b''
+def shift_file(records, settings=None):
+    """Without settings; or, where numbers for them are given, with settings, of which range, matrix and transfer are any."""
+    texts = []
+    for crossing, (w, h, sampling), planes in records:
+        four = b''
+        if settings:
+            four = bytes([sampling, settings.choice((0, 1, 255)), settings.choice((0, 6, 255)), settings.choice((0, 3, 255))])
+        texts.append(struct.pack('<IHH', crossing, w, h) + four + b''.join(row for plane in planes for row in plane))
+    start = struct.pack('<II', 4294967295, len(texts)) if settings else struct.pack('<I', len(texts))
+    offset, pairs = len(start) + 12 * len(texts), b''
     for text in texts:
         pairs += struct.pack('<QI', offset, len(text))
         offset += len(text)
-    return struct.pack('<I', len(texts)) + pairs + b''.join(texts)
+    return start + pairs + b''.join(texts)
 
 
 def place(ours, theirs):
@@ -60,7 +68,12 @@ def report(ours, theirs):
             continue
         left.remove(found)
         j, (_, other_size, others) = found
-        said = place(planes, others) if size == other_size else '{} x {} in ours, {} x {} in theirs'.format(*size, *other_size)
+        if size == other_size:
+            said = place(planes, others)
+        elif size[2] == other_size[2]:
+            said = '{} x {} in ours, {} x {} in theirs'.format(*size[:2], *other_size[:2])
+        else:
+            said = ', '.join(f'{w} x {h} of 4:2:{2 * sampling} in {file}' for (w, h, sampling), file in ((size, 'ours'), (other_size, 'theirs')))
         if said is None:
             same += 1
         else:
@@ -108,17 +121,29 @@ def changed(numbers, planes):
 def main():
     OUT.mkdir(parents=True, exist_ok=True)
     numbers = random.Random(18)
-    for case in range(120):
+    for case in range(200):
         count, crossings = numbers.choice((0, 1, 2, 5, 12)), numbers.choice((1, 3, 1 << 32))
-        ours = [record(numbers, numbers.randrange(crossings), numbers.randint(1, 20), numbers.randint(1, 20)) for _ in range(count)]
-        theirs = [(crossing, size, changed(numbers, planes) if numbers.random() < 0.2 else planes)
-                  for crossing, size, planes in ours if numbers.random() < 0.9]
+        ours_set, theirs_set = numbers.choice((None, numbers)), numbers.choice((None, numbers))
+        # 4:2:2 has a place in a file with settings alone
+        sampling = (0, 1) if ours_set and theirs_set else (0,)
+        ours = [record(numbers, numbers.randrange(crossings), numbers.randint(1, 20), numbers.randint(1, 20), numbers.choice(sampling)) for _ in range(count)]
+        theirs = [(crossing, size, changed(numbers, planes) if numbers.random() < 0.2 else planes) for crossing, size, planes in ours if numbers.random() < 0.9]
         if case % 2:
             numbers.shuffle(theirs)
         if case % 3 == 0:
             theirs.append(record(numbers, numbers.randrange(crossings), 3, 2))
+        if case % 5 == 0 and theirs and theirs_set:
+            # one record in the other sampling
+            k = numbers.randrange(len(theirs))
+            crossing, (w, h, sampling), _ = theirs[k]
+            theirs[k] = record(numbers, crossing, w, h, 1 - sampling)
         text, status = report(ours, theirs)
-        expect(said(shift_file(ours), shift_file(theirs)) == (text, status, ''), f'case {case}: reported otherwise')
+        expect(said(shift_file(ours, ours_set), shift_file(theirs, theirs_set)) == (text, status, ''), f'case {case}: reported otherwise')
+    small = record(numbers, 7, 1, 1)
+    like = (7, (1, 1, 1), small[2])
+    for ours, theirs in ((small, like), (like, small)):
+        text, status = report([ours], [theirs])
+        expect('4:2:2' in text and said(shift_file([ours], numbers), shift_file([theirs], numbers)) == (text, status, ''), 'one pixel in unlike samplings')
     good = shift_file([record(numbers, 7, 3, 2)])
     for name, ours, theirs, which in (('ours', good[:-1], good, 'ours'), ('theirs', good, good + b'\0', 'theirs'), ('both', b'', b'', 'ours')):
         text = f'noon: {OUT / which}.shift is no shift file\n'

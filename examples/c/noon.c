@@ -7,7 +7,8 @@
  * differs, or that none does. Exit status 0: both files have the same frames. 1: they have not. 2: a file cannot be read, or is no shift file, or the
  * lines cannot be written.
  *
- * The files are read on memory maps, so they may be larger than memory. A pipe, which has no map, cannot be read.
+ * Each file may have settings or not; frames of unlike samplings differ in size. The files are read on memory maps, so they may be larger than
+ * memory. A pipe, which has no map, cannot be read.
  */
 #define _DEFAULT_SOURCE
 #include "segvartin.h"
@@ -38,14 +39,17 @@ static segvartin_bytes mapped(const char *name) {
 }
 
 static void print_first(const segvartin_pair_report *r) {
-    static const char planes[] = "YUV";
+    static const char planes[] = "YUV", *const samplings[] = {"4:2:0", "4:2:2"};
     if (r->difference == SEGVARTIN_NO_DIFFERENCE) {
         printf("first difference: none\n");
         return;
     }
     printf("first difference: crossing %" PRIu64 " (record %" PRIu64 " of ours, record %" PRIu64 " of theirs): ",
            r->crossing, r->our_record, r->their_record);
-    if (r->difference == SEGVARTIN_SIZES_DIFFER)
+    if (r->difference == SEGVARTIN_SIZES_DIFFER && r->our_sampling != r->their_sampling)
+        printf("%" PRIu64 " x %" PRIu64 " of %s in ours, %" PRIu64 " x %" PRIu64 " of %s in theirs\n", r->our_width, r->our_height,
+               samplings[r->our_sampling], r->their_width, r->their_height, samplings[r->their_sampling]);
+    else if (r->difference == SEGVARTIN_SIZES_DIFFER)
         printf("%" PRIu64 " x %" PRIu64 " in ours, %" PRIu64 " x %" PRIu64 " in theirs\n",
                r->our_width, r->our_height, r->their_width, r->their_height);
     else
