@@ -1,10 +1,11 @@
 -- The check by the tests of the code, in their order. Assumes nothing.
 use Prim.Native.Nat.{ℕ, _+_, _≤_, _<_}
-use mathlib.Core.Path.{_≡_, _∙_}
+use mathlib.Core.Path.{_≡_, refl, _∙_}
 use mathlib.Core.Bool.{true, false}
-use mathlib.Core.List.{List}
-use lib.ListN.{length, getD, take, drop}
-use lib.Seq.{getD-take, getD-drop}
+use mathlib.Core.List.{List, [], _∷_}
+use native.Mathlib.Omega.{arith}
+use lib.ListN.{length, getD, take, drop, length-drop}
+use lib.Seq.{getD-take, getD-drop, length-take-le}
 use borrow.Author.Tests.{le-leb, lt-leb}
 use Rattle.shift_file.specs.declared.ShiftForm.{ShiftForm}
 use Rattle.shift_file.specs.declared.ShiftForm.the-variants.{WithSettings}
@@ -15,6 +16,20 @@ use Rattle.shift_file.specs.Check.{walk, isMarked, recordsFollow, isFile
 -- byte i of the settings
 pub setting-at : (l : List ℕ) (i : ℕ) → i < 4 → getD (settingsAt WithSettings l) i 0 ≡ getD l (8 + i) 0
 setting-at l i h = getD-take 4 (drop 8 l) i 0 h ∙ getD-drop 8 l i 0
+
+-- four of them
+pub four : (s : List ℕ) → length s ≡ 4 → getD s 0 0 ∷ getD s 1 0 ∷ getD s 2 0 ∷ getD s 3 0 ∷ [] ≡ s
+four [] e = absurd (omega arith)
+four (a ∷ []) e = absurd (omega arith)
+four (a ∷ b ∷ []) e = absurd (omega arith)
+four (a ∷ b ∷ c ∷ []) e = absurd (omega arith)
+four (a ∷ b ∷ c ∷ d ∷ []) e = refl
+four (a ∷ b ∷ c ∷ d ∷ x ∷ s) e = absurd (omega arith)
+
+pub four-settings : (l : List ℕ) → 12 ≤ length l → getD l 8 0 ∷ getD l 9 0 ∷ getD l 10 0 ∷ getD l 11 0 ∷ [] ≡ settingsAt WithSettings l
+four-settings l h =
+    rw (← setting-at l 0 (omega arith), ← setting-at l 1 (omega arith), ← setting-at l 2 (omega arith), ← setting-at l 3 (omega arith))
+    (four (settingsAt WithSettings l) (length-take-le 4 (drop 8 l) (rw length-drop (omega arith))))
 
 module _ (form : ShiftForm) (b : List ℕ) where
   pub too-short : length b < pairsAt form → isFile form b ≡ false

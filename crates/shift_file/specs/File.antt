@@ -13,6 +13,7 @@ use Rattle.setting_codes.specs.Codes.{samplingCodes, rangeCodes, transferCodes,
 use Rattle.little_endian.specs.Number.{Bytes, lowBytes}
 use Rattle.shift_file.specs.declared.ShiftForm.{ShiftForm}
 use Rattle.shift_file.specs.declared.ShiftForm.the-variants.{WithoutSettings, WithSettings}
+use Rattle.shift_file.specs.declared.SettingCodes.{SettingCodes}
 
 -- RULES 11.2: a frame of a crossing, and its planes without padding. RULES 11.7: the settings are four bytes, or none in the form without
 pub record ShiftRecord : Type 0 where
@@ -51,6 +52,19 @@ codesAllowed WithoutSettings s = true
 codesAllowed WithSettings s =
     ltb (getD s 0 0) (length samplingCodes)
     && (isCode (length rangeCodes) (getD s 1 0) && (isCode (suc customCode) (getD s 2 0) && isCode (length transferCodes) (getD s 3 0)))
+
+-- RULES 11.7: 4:2:0, and range, matrix and transfer not recorded
+abbrev pub notRecorded : List ℕ
+notRecorded = 0 ∷ 255 ∷ 255 ∷ 255 ∷ []
+
+-- RULES 11.7: the settings that are told of a record: its own, or that nothing is recorded where the form has none
+abbrev pub settingsTold : ShiftForm → (settings : List ℕ) → List ℕ
+settingsTold WithoutSettings s = notRecorded
+settingsTold WithSettings s = s
+
+-- RULES 11.7: the four bytes of settings
+abbrev pub codeList : SettingCodes → List ℕ
+codeList c = c .sampling ∷ c .range ∷ c .matrix ∷ c .transfer ∷ []
 
 -- RULES 11.2: 4:2:0. RULES 11.7: the recorded sampling
 abbrev pub samplingOf : ShiftForm → (settings : List ℕ) → YuvChromaSubsampling

@@ -6,7 +6,7 @@ ghost use mathlib.Core.Path.{_≡_};
 ghost use Prim.Native.Nat.{_+_, _*_, _≤_, _<_};
 ghost use lib.ListN.{length, take, drop};
 ghost use Rattle.yuv_support.specs.Sampling.{chromaWidth, chromaHeight};
-ghost use Rattle.shift_file.specs.File.{markSize, settingsSize, headerSize, pairsAt, isCode, isSide, codesAllowed, samplingOf};
+ghost use Rattle.shift_file.specs.File.{markSize, settingsSize, headerSize, pairsAt, isCode, isSide, codesAllowed, samplingOf, settingsTold, codeList};
 ghost use Rattle.shift_file.specs.Read.{settingsAt, sizeAt, countAt};
 ghost use Rattle.shift_file.specs.Check.{shapeAllowed, recordStands, pairIs, nextSize, walk, isMarked, recordsFollow, isFile, formIn};
 
@@ -14,6 +14,14 @@ ghost use Rattle.shift_file.specs.Check.{shapeAllowed, recordStands, pai
 pub enum ShiftForm {
     WithoutSettings,
     WithSettings,
+}
+
+// The settings of a record by their codes, 255 in range, matrix or transfer for not recorded.
+pub struct SettingCodes {
+    pub sampling: u32,
+    pub range: u32,
+    pub matrix: u32,
+    pub transfer: u32,
 }
 
 // The most records of a file.
@@ -54,10 +62,19 @@ impl ShiftForm {
 // ---- a record, in a part that starts with it
 
 // A code below `codes`, or 255: not recorded.
-fn is_code(codes: u8, code: u8) -> bool
+fn is_code(codes: u32, code: u32) -> bool
     ensures { λ r. ⌜ r ≡ isCode codes code ⌝ }
 {
     (code < codes) | (code == 255)
+}
+
+impl SettingCodes {
+    pub fn are_allowed(self) -> bool
+        ensures { λ r. ⌜ r ≡ codesAllowed ShiftForm.WithSettings (codeList self) ⌝ }
+    {
+        (self.sampling < 2)
+            & (is_code(2, self.range) & (is_code(7, self.matrix) & is_code(4, self.transfer)))
+    }
 }
 
 fn is_side(side: u16) -> bool
@@ -66,12 +83,17 @@ fn is_side(side: u16) -> bool
     (1 <= side) & (side <= 16384)
 }
 
-// Sampling, range, matrix and transfer.
-fn are_codes(part: &[u8]) -> bool
+// Sampling, range, matrix and transfer, after crossing, width and height.
+pub fn codes_at(part: &[u8]) -> SettingCodes
     requires { ⌜ 12 ≤ length (now part) ⌝ }
-    ensures { λ r. ⌜ r ≡ codesAllowed ShiftForm.WithSettings (settingsAt ShiftForm.WithSettings (now (part .entry))) ⌝ }
+    ensures { λ r. ⌜ codeList r ≡ settingsAt ShiftForm.WithSettings (now (part .entry)) ⌝ }
 {
-    (part[8] < 2) & (is_code(2, part[9]) & (is_code(7, part[10]) & is_code(4, part[11])))
+    SettingCodes {
+        sampling: part[8] as u32,
+        range: part[9] as u32,
+        matrix: part[10] as u32,
+        transfer: part[11] as u32,
+    }
 }
 
 fn are_settings(form: ShiftForm, part: &[u8]) -> bool
@@ -80,7 +102,23 @@ fn are_settings(form: ShiftForm, part: &[u8]) -> bool
 {
     match form {
         ShiftForm::WithoutSettings => true,
-        ShiftForm::WithSettings => are_codes(part),
+        ShiftForm::WithSettings => codes_at(part).are_allowed(),
+    }
+}
+
+// The settings of a record; 4:2:0, and nothing recorded, where it has none.
+pub fn settings_told(form: ShiftForm, part: &[u8]) -> SettingCodes
+    requires { ⌜ headerSize form ≤ length (now part) ⌝ }
+    ensures { λ r. ⌜ codeList r ≡ settingsTold form (settingsAt form (now (part .entry))) ⌝ }
+{
+    match form {
+        ShiftForm::WithoutSettings => SettingCodes {
+            sampling: 0,
+            range: 255,
+            matrix: 255,
+            transfer: 255,
+        },
+        ShiftForm::WithSettings => codes_at(part),
     }
 }
 

@@ -47,12 +47,17 @@ pub sets-four : (a b c e d : List ℕ) (p q r : ℕ) → length a ≡ p → p + 
 sets-four a b c e d p q r hp hq hr =
     rw (sets-append a (b ++ (c ++ e)) d 0, zero-add (length a), hp, sets-append b (c ++ e) (sets d 0 a) p, hq, sets-append c e (sets (sets d 0 a) p b) q, hr)
 
+-- mark, count, pairs and records
+pub parts-put : (form : ShiftForm) (rs : List ShiftRecord) (d : List ℕ) → let n = length rs in
+    sets (sets (sets (sets d 0 (mark form)) (markSize form) (lowBytes 4 n)) (pairsAt form) (pairsOf (recordsAt form n) rs)) (recordsAt form n) (recordBytes rs)
+    ≡ sets d 0 (fileOf form rs)
+unfolding fileOf
+parts-put form rs d =
+    let n = length rs in
+    sets-four (mark form) (lowBytes 4 n) (pairsOf (recordsAt form n) rs) (recordBytes rs) d (markSize form) (pairsAt form) (recordsAt form n)
+    (length-mark form) (rw length-low) (rw length-pairs)
+
 pub file-put : (form : ShiftForm) (b d : List ℕ) (n : ℕ) → Counted form b 0 n → let rs = recordsFrom form b 0 n in
     sets (sets (sets (sets d 0 (mark form)) (markSize form) (lowBytes 4 n)) (pairsAt form) (pairsOf (recordsAt form n) rs)) (recordsAt form n) b
     ≡ sets d 0 (fileOf form rs)
-unfolding fileOf
-file-put form b d n c =
-    let rs = recordsFrom form b 0 n in
-    rw (length-from form b 0 n, ← c .bytes)
-    (sets-four (mark form) (lowBytes 4 n) (pairsOf (recordsAt form n) rs) b d (markSize form) (pairsAt form) (recordsAt form n)
-    (length-mark form) (rw length-low) (rw (length-pairs, length-from)))
+file-put form b d n c = rw (length-from form b 0 n, ← c .bytes) at (parts-put form (recordsFrom form b 0 n) d)

@@ -68,7 +68,7 @@ fn count_records(form: ShiftForm, records: &[u8]) -> usize
     count
 }
 
-fn write_pair(output: &mut [u8], pair: usize, offset: usize, size: usize)
+pub fn write_pair(output: &mut [u8], pair: usize, offset: usize, size: usize)
     requires { ⌜ pair + 12 ≤ length (now output) ⌝ }
     ensures { λ _. ⌜ now (output .exit) ≡ sets (now (output .entry)) pair (lowBytes 8 offset ++ lowBytes 4 size) ⌝ }
 {
@@ -101,7 +101,8 @@ fn write_pairs(
     }
 }
 
-fn write_mark(form: ShiftForm, output: &mut [u8])
+// What stands before the count.
+pub fn write_mark(form: ShiftForm, output: &mut [u8])
     requires { ⌜ 4 ≤ length (now output) ⌝ }
     ensures { λ _. ⌜ now (output .exit) ≡ sets (now (output .entry)) 0 (mark form) ⌝ }
 {

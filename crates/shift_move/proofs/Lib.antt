@@ -1,0 +1,4 @@
+-- The laws.
+pub mod Moved
+pub mod Files
+pub mod Steps
