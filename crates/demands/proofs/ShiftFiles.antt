@@ -12,7 +12,6 @@ use lib.ListN.{length, getD, take, drop}
 use lib.Seq.{take-at, drop-at}
 use borrow.Author.Tests.{le-leb, le-ltb}
 use Rattle.yuv_support.specs.declared.YuvChromaSubsampling.{YuvChromaSubsampling}
-use Rattle.yuv_support.specs.declared.YuvChromaSubsampling.the-variants.{Yuv420}
 use Rattle.yuv_support.specs.Sampling.{chromaHeight}
 use Rattle.yuv_error.specs.declared.YuvAnswer.{YuvAnswer}
 use Rattle.yuv_error.specs.declared.YuvAnswer.the-variants.{Finished}
@@ -26,8 +25,8 @@ use Rattle.definitions.specs.declared.FrameDescription.{FrameDescription}
 use Rattle.sharp_rgba_to_yuv.specs.FrameCall.{FrameCall, imageOf, FramePost}
 use Rattle.little_endian.specs.Number.{Bytes}
 use Rattle.shift_file.specs.declared.ShiftForm.{ShiftForm}
-use Rattle.shift_file.specs.declared.ShiftForm.the-variants.{WithoutSettings}
-use Rattle.shift_file.specs.File.{ShiftRecord, Allowed, isSide, recordsAt, recordBytes, bytesOf, fileOf, IsFileOf}
+use Rattle.shift_file.specs.declared.SettingCodes.{SettingCodes}
+use Rattle.shift_file.specs.File.{ShiftRecord, Allowed, codesAllowed, isSide, recordsAt, recordBytes, bytesOf, fileOf, IsFileOf}
 use Rattle.shift_file.specs.Read.{recordsIn}
 use Rattle.shift_file.specs.Check.{isFile}
 use Rattle.shift_file.proofs.Record.{both, also}
@@ -41,10 +40,11 @@ use Rattle.shift_writer.specs.Output.{overwritten, sizeTold, outputRules}
 use Rattle.shift_writer.specs.Writing.{WritePost}
 use Rattle.shift_writer.proofs.Count.{some-records, these-records}
 use Rattle.shift_record.specs.declared.RecordFrame.{RecordFrame}
-use Rattle.shift_record.specs.Record.{unpadded, recordMade, recordSize, yLent, uLent, vLent, lentRules, recordRules, RecordPost}
+use Rattle.shift_record.specs.Record.{unpadded, settingsOf, frameSampling, recordMade, recordSize, yLent, uLent, vLent, lentRules, frameAllowed, recordRules}
+use Rattle.shift_record.specs.Record.{chromaRows as rowsOfRecord, RecordPost}
 use Rattle.shift_record.specs.Known.{PlanesFit}
 use Rattle.shift_record.proofs.Rows.{length-unpadded, unpadded-at}
-use Rattle.shift_record.proofs.Made.{length-made, planes-fit, is-frame, made-allowed}
+use Rattle.shift_record.proofs.Made.{length-made, planes-fit, is-frame, made-allowed, rows-bounds}
 use Rattle.demands.specs.Demands.{NoFile, NoRecords, OfFrame, RecordBytes, WholeFrame, FrameBytes, ShiftFiles}
 use Rattle.demands.proofs.Demands.{whole, bytes}
 
@@ -99,17 +99,18 @@ module _ (f : RecordFrame) (y u v before : List ℕ) (r : ShiftWritten) (after :
   passed true x e = (refl, e)
   passed false x e = absurd (omega arith)
 
-  asked : ((isSide (f .width) && isSide (f .height)) ≡ true) × (firstOf (lentRules f y u v ++ last) .number ≡ 0)
-  asked = passed (isSide (f .width) && isSide (f .height)) (firstOf (lentRules f y u v ++ last)) (sym (ap (λ (x : Numbers). x .number) (sym (ap numbersOf is) ∙ p .answered)))
+  asked : (frameAllowed f ≡ true) × (firstOf (lentRules f y u v ++ last) .number ≡ 0)
+  asked = passed (frameAllowed f) (firstOf (lentRules f y u v ++ last)) (sym (ap (λ (x : Numbers). x .number) (sym (ap numbersOf is) ∙ p .answered)))
 
   record-made : Bytes y → Bytes u → Bytes v → f .crossing < 4294967296
-      → Allowed WithoutSettings (recordMade f y u v) × (take (r .size) after ≡ bytesOf (recordMade f y u v))
+      → Allowed (f .form) (recordMade f y u v) × (take (r .size) after ≡ bytesOf (recordMade f y u v))
   record-made by bu bv c =
-      let sides = both (isSide (f .width)) (isSide (f .height)) (asked .0) in
+      let width = both (isSide (f .width)) _ (asked .0) in
+      let height = both (isSide (f .height)) _ (width .1) in
       let fit = planes-fit f y u v (is-frame f (asked .0)) (append-finished (lentRules f y u v) last refl (asked .1) .0) in
       let size : r .size ≡ length (bytesOf (recordMade f y u v)) = rw is at (p .size) in
       let made : after ≡ bytesOf (recordMade f y u v) ++ drop (length (bytesOf (recordMade f y u v))) before = rw is at (p .written) in
-      (made-allowed f y u v fit c (sides .0) (sides .1) by bu bv, rw (made, size) (take-at (bytesOf (recordMade f y u v)) _ _ refl))
+      (made-allowed f y u v fit c (width .0) (height .0) by bu bv, rw (made, size) (take-at (bytesOf (recordMade f y u v)) _ _ refl))
 
 -- ---- the planes of a frame
 
@@ -124,53 +125,66 @@ plane-record n stride rows plane byte wide size is =
 side : (x : ℕ) → 1 ≤ x → x ≤ 16384 → isSide x ≡ true
 side x l m = also (leb 1 x) (leb x 16384) (le-leb 1 x l) (le-leb x 16384 m)
 
--- the frame of a call, as that of a record
-abbrev frameOf : FrameCall → (crossing : ℕ) → RecordFrame
-frameOf k crossing = record {
+-- the frame of a call, as that of a record in this form with these settings
+abbrev frameOf : FrameCall → (form : ShiftForm) → (crossing : ℕ) → SettingCodes → RecordFrame
+frameOf k form crossing settings = record {
+  form = form;
   crossing = crossing;
   width = k .frame .width;
   height = k .frame .height;
+  settings = settings;
   «y_stride» = k .frame .«y_stride»;
   «u_stride» = k .frame .«u_stride»;
   «v_stride» = k .frame .«v_stride»;
 }
 
-module _ (k : FrameCall) (p : FramePost k) (is : k .answer ≡ Finished) where
+module _ (k : FrameCall) (p : FramePost k) (is : k .answer ≡ Finished) (form : ShiftForm) (crossing : ℕ) (settings : SettingCodes)
+    (e : k .frame .settings .sampling ≡ frameSampling (frameOf k form crossing settings)) where
   abbrev d : FrameDescription
   d = k .frame
+
+  abbrev f : RecordFrame
+  f = frameOf k form crossing settings
 
   lengths : (length (k .y′) ≡ length (k .y)) × (length (k .u′) ≡ length (k .u)) × (length (k .v′) ≡ length (k .v))
   lengths = (p .planes .luma .size, p .planes .cb .size, p .planes .cr .size)
 
-  of-frame : (crossing : ℕ) → d .settings .sampling ≡ Yuv420 → RecordBytes k (recordMade (frameOf k crossing) (k .y′) (k .u′) (k .v′))
-  of-frame crossing e =
+  -- chroma rows of the frame are those of the record
+  rows : chromaRows d ≡ rowsOfRecord f
+  rows = ap (λ (s : YuvChromaSubsampling). chromaHeight s (d .height)) e
+
+  of-frame : RecordBytes k (recordMade f (k .y′) (k .u′) (k .v′))
+  of-frame =
       let w = whole k p is in
       let b = bytes k p w in
-      let rows : chromaHeight Yuv420 (d .height) ≡ chromaRows d = ap (λ (s : YuvChromaSubsampling). chromaHeight s (d .height)) (sym e) in
       let l = lengths in
       let y = plane-record (d .width) (d .«y_stride») (d .height) (k .y′) (lumaAt d (imageOf k)) (w .y-rows .row) (l .0 ∙ w .y-rows .size) (b .luma) in
       let u = plane-record (chromaSize d) (d .«u_stride») (chromaRows d) (k .u′) (cbAt d (imageOf k)) (w .u-rows .row) (l .1 ∙ w .u-rows .size) (b .cb) in
       let v = plane-record (chromaSize d) (d .«v_stride») (chromaRows d) (k .v′) (crAt d (imageOf k)) (w .v-rows .row) (l .2 ∙ w .v-rows .size) (b .cr) in
       record {
         y-size = y .0;
-        u-size = rw rows (u .0);
-        v-size = rw rows (v .0);
+        u-size = rw (← rows) (u .0);
+        v-size = rw (← rows) (v .0);
         luma = y .1;
-        cb = rw rows (u .1);
-        cr = rw rows (v .1);
+        cb = rw (← rows) (u .1);
+        cr = rw (← rows) (v .1);
       }
 
   -- no condition of a record holds of them
-  record-of-frame : (crossing : ℕ) (before : List ℕ) (r : ShiftWritten) (after : List ℕ) → d .settings .sampling ≡ Yuv420
-      → RecordPost (frameOf k crossing) (k .y′) (k .u′) (k .v′) before r after → recordSize (d .width) (d .height) ≤ length before → r .answer ≡ Finished
-  record-of-frame crossing before r after e q room =
-      let f = frameOf k crossing in
+  record-of-frame : (before : List ℕ) (r : ShiftWritten) (after : List ℕ) → codesAllowed form (settingsOf f) ≡ true
+      → RecordPost f (k .y′) (k .u′) (k .v′) before r after → recordSize f ≤ length before → r .answer ≡ Finished
+  record-of-frame before r after codes q room =
       let w = whole k p is in
       let l = lengths in
-      let rows : chromaRows d ≡ chromaHeight Yuv420 (d .height) = ap (λ (s : YuvChromaSubsampling). chromaHeight s (d .height)) e in
-      let some : 1 ≤ chromaHeight Yuv420 (d .height) = omega (arith, w .height-least) in
+      let some : 1 ≤ rowsOfRecord f = rows-bounds (frameSampling f) (d .height) (w .height-least) (w .height-most) .0 in
       let fit : PlanesFit f (length (k .y′)) (length (k .u′)) (length (k .v′)) = record {
-        frame = record { width-least = w .width-least; width-most = w .width-most; height-least = w .height-least; height-most = w .height-most };
+        frame = record {
+          width-least = w .width-least;
+          width-most = w .width-most;
+          height-least = w .height-least;
+          height-most = w .height-most;
+          codes = codes;
+        };
         y-row = w .y-rows .row;
         y-size = l .0 ∙ w .y-rows .size;
         u-row = w .u-rows .row;
@@ -183,16 +197,20 @@ module _ (k : FrameCall) (p : FramePost k) (is : k .answer ≡ Finished) where
       let size = length-made f (k .y′) (k .u′) (k .v′) fit in
       let bytes = length (bytesOf (recordMade f (k .y′) (k .u′) (k .v′))) in
       let fits : firstOf (outputRules bytes (length before)) ≡ numbers 0 0 0 = rw (le-ltb (length before) bytes (omega arith)) in
+      let allowed : frameAllowed f ≡ true =
+      also (isSide (d .width)) _ (side (d .width) (w .width-least) (w .width-most))
+      (also (isSide (d .height)) _ (side (d .height) (w .height-least) (w .height-most)) codes) in
       let all : firstOf (recordRules f (k .y′) (k .u′) (k .v′) (length before)) ≡ numbers 0 0 0 =
-      rw (side (d .width) (w .width-least) (w .width-most), side (d .height) (w .height-least) (w .height-most))
-      (both-pass (lentRules f (k .y′) (k .u′) (k .v′)) (outputRules bytes (length before)) refl passes fits) in
+      rw allowed (both-pass (lentRules f (k .y′) (k .u′) (k .v′)) (outputRules bytes (length before)) refl passes fits) in
       is-finished (r .answer) (ap (λ (x : Numbers). x .number) (q .answered ∙ all))
 
-frame-is : (k : FrameCall) (f : RecordFrame) → OfFrame k f → frameOf k (f .crossing) ≡ f
+frame-is : (k : FrameCall) (f : RecordFrame) → OfFrame k f → frameOf k (f .form) (f .crossing) (f .settings) ≡ f
 frame-is k f o = λ i. record {
+  form = f .form;
   crossing = f .crossing;
   width = sym (o .width) i;
   height = sym (o .height) i;
+  settings = f .settings;
   «y_stride» = sym (o .y-stride) i;
   «u_stride» = sym (o .u-stride) i;
   «v_stride» = sym (o .v-stride) i;
@@ -220,7 +238,9 @@ shift-files = record {
       sym (its-file form _ before r after p rs tail is .same) ∙ f .same;
   made = λ f y u v before r after by bu bv c p is. record-made f y u v before r after p is by bu bv c;
   frame-accepted = λ k f before r after p is o.
-      subst (λ (g : RecordFrame). RecordPost g (k .y′) (k .u′) (k .v′) before r after → recordSize (g .width) (g .height) ≤ length before → r .answer ≡ Finished)
-      (frame-is k f o) (record-of-frame k p is (f .crossing) before r after (o .sampling));
-  frame = λ k f p is o. subst (λ (g : RecordFrame). RecordBytes k (recordMade g (k .y′) (k .u′) (k .v′))) (frame-is k f o) (of-frame k p is (f .crossing) (o .sampling));
+      subst (λ (g : RecordFrame). RecordPost g (k .y′) (k .u′) (k .v′) before r after → recordSize g ≤ length before → r .answer ≡ Finished)
+      (frame-is k f o) (record-of-frame k p is (f .form) (f .crossing) (f .settings) (o .sampling) before r after (o .codes));
+  frame = λ k f p is o.
+      subst (λ (g : RecordFrame). RecordBytes k (recordMade g (k .y′) (k .u′) (k .v′))) (frame-is k f o)
+      (of-frame k p is (f .form) (f .crossing) (f .settings) (o .sampling));
 }

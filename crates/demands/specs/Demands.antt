@@ -12,7 +12,6 @@ use mathlib.Core.List.{List, [], _∷_, _++_}
 use mathlib.Core.Logic.{_↔_, _⊎_}
 use lib.Dec.{T}
 use lib.ListN.{length, getD, take, drop}
-use Rattle.yuv_support.specs.declared.YuvChromaSubsampling.the-variants.{Yuv420}
 use Rattle.yuv_support.specs.declared.YuvRange.{YuvRange}
 use Rattle.yuv_support.specs.declared.YuvRange.the-variants.{Limited}
 use Rattle.yuv_support.specs.declared.YuvStandardMatrix.{YuvStandardMatrix}
@@ -50,8 +49,7 @@ use Rattle.exact_weights.specs.Near.{MatrixNear}
 use Rattle.grey.specs.Grey.{greyOf, GreyRows, LumaOfGrey, GreyPlanes}
 use Rattle.little_endian.specs.Number.{Bytes}
 use Rattle.shift_file.specs.declared.ShiftForm.{ShiftForm}
-use Rattle.shift_file.specs.declared.ShiftForm.the-variants.{WithoutSettings}
-use Rattle.shift_file.specs.File.{ShiftRecord, Allowed, recordsAt, bytesOf, fileOf, HasFile, IsFileOf}
+use Rattle.shift_file.specs.File.{ShiftRecord, Allowed, codesAllowed, recordsAt, bytesOf, fileOf, HasFile, IsFileOf}
 use Rattle.shift_file.specs.Check.{formIn}
 use Rattle.shift_file.specs.Means.{SomeList, OneList, ReadBack, Rewritten, OneForm, FormOfFile, SomeForm}
 use Rattle.shift_reader.specs.declared.ShiftReading.{ShiftReading}
@@ -61,7 +59,7 @@ use Rattle.shift_writer.specs.declared.ShiftWritten.{ShiftWritten}
 use Rattle.shift_writer.specs.Records.{BackToBack}
 use Rattle.shift_writer.specs.Writing.{writeRules, WritePost}
 use Rattle.shift_record.specs.declared.RecordFrame.{RecordFrame}
-use Rattle.shift_record.specs.Record.{recordMade, recordSize, recordRules, RecordPost}
+use Rattle.shift_record.specs.Record.{settingsOf, frameSampling, recordMade, recordSize, recordRules, RecordPost}
 use Rattle.segvartin.specs.Shift.{ExportedReading, rulesOfReading, ReadingKept}
 use Rattle.segvartin.specs.Shift.{ExportedWriting, rulesOfWriting, WritingKept}
 use Rattle.segvartin.specs.Shift.{ExportedRecord, rulesOfRecord, RecordKept}
@@ -278,7 +276,7 @@ pub record Counts : Type 0 where
   pub by-range-and-matrix : ByRangeAndMatrix
 
 -- ---- The shift file: a file has one list of records, 15 is answered exactly where there is none, records written read back the same, a file read and
--- rewritten is the same bytes, and a record made of the planes of a frame call is these planes without padding. In both forms, but for the last.
+-- rewritten is the same bytes, and a record made of the planes of a frame call is these planes without padding. In both forms.
 
 -- RULES 11.3: no list of records has these bytes
 abbrev pub NoFile : ShiftForm → (file : List ℕ) → Type 0
@@ -288,9 +286,10 @@ NoFile form file = (rs : List ShiftRecord) → IsFileOf form file rs → ⊥
 abbrev pub NoRecords : ShiftForm → (records : List ℕ) → Type 0
 NoRecords form records = (rs : List ShiftRecord) → BackToBack form records rs → ⊥
 
--- RULES 11.6: the frame of a call of 4:2:0, with the strides of its planes, as that of a record
+-- RULES 11.6: the frame of a call, with the strides of its planes, as that of a record: of 4:2:0, or RULES 11.7: with its sampling recorded
 pub record OfFrame (k : FrameCall) (f : RecordFrame) : Type 0 where
-  pub sampling : k .frame .settings .sampling ≡ Yuv420
+  pub sampling : k .frame .settings .sampling ≡ frameSampling f
+  pub codes : codesAllowed (f .form) (settingsOf f) ≡ true
   pub width : f .width ≡ k .frame .width
   pub height : f .height ≡ k .frame .height
   pub y-stride : f .«y_stride» ≡ k .frame .«y_stride»
@@ -335,10 +334,10 @@ pub record ShiftFiles : Type 0 where
   -- a record from planes, which has its place in a file
   pub made : (f : RecordFrame) (y u v before : List ℕ) (r : ShiftWritten) (after : List ℕ) → Bytes y → Bytes u → Bytes v → f .crossing < 4294967296
       → RecordPost f y u v before r after → r .answer ≡ Finished
-      → Allowed WithoutSettings (recordMade f y u v) × (take (r .size) after ≡ bytesOf (recordMade f y u v))
+      → Allowed (f .form) (recordMade f y u v) × (take (r .size) after ≡ bytesOf (recordMade f y u v))
   -- of the planes of a frame: it is made wherever it has room, and its planes are the frame's without padding
   pub frame-accepted : (k : FrameCall) (f : RecordFrame) (before : List ℕ) (r : ShiftWritten) (after : List ℕ) → FramePost k → k .answer ≡ Finished
-      → OfFrame k f → RecordPost f (k .y′) (k .u′) (k .v′) before r after → recordSize (f .width) (f .height) ≤ length before → r .answer ≡ Finished
+      → OfFrame k f → RecordPost f (k .y′) (k .u′) (k .v′) before r after → recordSize f ≤ length before → r .answer ≡ Finished
   pub frame : (k : FrameCall) (f : RecordFrame) → FramePost k → k .answer ≡ Finished → OfFrame k f → RecordBytes k (recordMade f (k .y′) (k .u′) (k .v′))
 
 -- ---- The summary of a shift file: a file has one, byte for byte; what is built is the summary, the check says yes exactly where it is there, a lookup finds

@@ -1,4 +1,5 @@
 // Makes the calls on shift files of a stored list, its standard input, and prints a line of what came of each. vectors/README.md has both forms.
+use shift_file::SettingCodes;
 use shift_file::ShiftForm;
 use shift_record::RecordFrame;
 use shift_writer::ShiftWritten;
@@ -86,9 +87,16 @@ fn replay_writing() {
 
 fn make_on(y: &mut [u8], u: &mut [u8], v: &mut [u8], output: &mut [u8]) {
     let frame = RecordFrame {
+        form: ShiftForm::WithoutSettings,
         crossing: replay::read_number(),
         width: replay::read_number(),
         height: replay::read_number(),
+        settings: SettingCodes {
+            sampling: 0,
+            range: 0,
+            matrix: 0,
+            transfer: 0,
+        },
         y_stride: replay::read_number(),
         u_stride: replay::read_number(),
         v_stride: replay::read_number(),

@@ -89,9 +89,11 @@ exportedRecord numbers y u v output number told output′ =
 -- RULES 10.5: crossing, width, height, and the strides of Y, U and V
 abbrev pub frameOfRecord : (numbers : List ℕ) → RecordFrame
 frameOfRecord numbers = record {
+  form = WithoutSettings;
   crossing = at numbers 0;
   width = at numbers 1;
   height = at numbers 2;
+  settings = record { sampling = 0; range = 0; matrix = 0; transfer = 0 };
   «y_stride» = at numbers 3;
   «u_stride» = at numbers 4;
   «v_stride» = at numbers 5;

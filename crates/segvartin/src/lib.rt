@@ -3,6 +3,7 @@
 // calls with structs over them.
 use band_calls::FrameState;
 use call_numbers::Told;
+use shift_file::SettingCodes;
 use shift_file::ShiftForm;
 use shift_pairs::Pairing;
 use shift_reader::ShiftReading;
@@ -263,10 +264,18 @@ pub extern "C" fn segvartin_call_shift_record(
     ensures { λ n. ⌜ RecordKept (exportedRecord (now (numbers .entry)) (now (y .entry)) (now (u .entry)) (now (v .entry))
         (now («record» .entry)) n (now (told .exit)) (now («record» .exit))) ⌝ }
 {
+    let settings = SettingCodes {
+        sampling: 0,
+        range: 0,
+        matrix: 0,
+        transfer: 0,
+    };
     let frame = RecordFrame {
+        form: ShiftForm::WithoutSettings,
         crossing: numbers[0],
         width: numbers[1],
         height: numbers[2],
+        settings,
         y_stride: numbers[3],
         u_stride: numbers[4],
         v_stride: numbers[5],

@@ -1,20 +1,20 @@
--- `write_record` meets its contract: 15 by the sides, 8 to 12 by the planes, 16 by the size, which is the record's; then the record is put.
+-- `write_record` meets its contract: 15 by the sides and the settings, 8 to 12 by the planes, 16 by the size, which is the record's; then the record is put.
 -- Assumes nothing.
 use native.Mathlib.Omega.{arith}
 use Prim.Native.Nat.{ℕ}
 use mathlib.Core.List.{List}
 use mathlib.Core.Path.{_≡_, refl, sym, ap, _∙_}
-use mathlib.Core.Bool.{true, false, _&&_}
+use mathlib.Core.Bool.{true, false}
 use lib.ListN.{length}
 use borrow.Author.Tests.{lt-ltb, le-ltb, not-true, not-false}
 use denote.Ref.{now}
 use Rattle.yuv_error.specs.Numbers.{numbersOf}
 use Rattle.yuv_error.specs.Rules.{Rule}
 use Rattle.yuv_error.proofs.First.{after-refused, after-finished, finished-number}
-use Rattle.shift_file.specs.File.{isSide, bytesOf}
+use Rattle.shift_file.specs.File.{bytesOf}
 use Rattle.shift_writer.specs.Output.{outputRules}
 use Rattle.shift_writer.proofs.Answers.{from-start}
-use Rattle.shift_record.specs.Record.{recordMade, recordSize, lentRules}
+use Rattle.shift_record.specs.Record.{recordMade, recordSize, lentRules, frameAllowed}
 use Rattle.shift_record.specs.Known.{IsFrame, PlanesFit}
 use Rattle.shift_record.proofs.Made.{length-made, planes-fit, no-size, is-frame}
 use borrow.Author.Needs.{needs}
@@ -30,7 +30,7 @@ bytes s = let a = s .args in bytesOf (recordMade (a .frame) (now (a .y)) (now (a
 abbrev last : tie.Start → List Rule
 last s = outputRules (length (bytes s)) (length (now (s .args .output)))
 
-sides : (c : tie.Else1) → let f = Start (c .before) .args .frame in (isSide (f .width) && isSide (f .height)) ≡ true
+sides : (c : tie.Else1) → frameAllowed (Start (c .before) .args .frame) ≡ true
 sides c = sym (c .before .is-frame .ensures) ∙ not-false _ (c .if1 .left)
 
 frame : (c : tie.Else1) → IsFrame (Start (c .before) .args .frame)
@@ -53,7 +53,7 @@ size-is c =
 returns : tie.Need-returns
 returns c =
     let a = Start (c .before) .args in
-    let no : (isSide (a .frame .width) && isSide (a .frame .height)) ≡ false = sym (c .before .is-frame .ensures) ∙ not-true _ (c .if1 .taken) in
+    let no : frameAllowed (a .frame) ≡ false = sym (c .before .is-frame .ensures) ∙ not-true _ (c .if1 .taken) in
     record { answered = rw no; size = refl; written = refl }
 
 check-planes-requires : tie.Need-check-planes-requires
@@ -72,7 +72,7 @@ returns-2 c =
     }
 
 record-size-requires : tie.Need-record-size-requires
-record-size-requires c κs = let f = fit c .frame in (f .width-most, f .height-most)
+record-size-requires c κs = fit c .frame
 
 returns-3 : tie.Need-returns-3
 returns-3 c =
