@@ -1,5 +1,4 @@
 // Makes the pairings of a stored list, its standard input, and prints a line of what came of each. vectors/README.md has both forms.
-use shift_file::ShiftForm;
 
 // What stands in each number of the report before a call.
 const BEFORE: u64 = 9;
@@ -12,13 +11,11 @@ fn print_report(numbers: &[u64]) {
     }
 }
 
-fn pair_on(ours: &mut [u8], theirs: &mut [u8]) {
-    replay::fill(ours);
-    replay::fill(theirs);
+fn pair_files(ours: &[u8], theirs: &[u8]) {
     let pairing = shift_pairs::pair_files(
-        ShiftForm::WithoutSettings,
+        shift_file::form_of(ours),
         ours,
-        ShiftForm::WithoutSettings,
+        shift_file::form_of(theirs),
         theirs,
     );
     let mut numbers = [BEFORE; 18];
@@ -28,6 +25,12 @@ fn pair_on(ours: &mut [u8], theirs: &mut [u8]) {
     replay::print(b" broken=");
     replay::print_number(pairing.broken as usize);
     print_report(&numbers);
+}
+
+fn pair_on(ours: &mut [u8], theirs: &mut [u8]) {
+    replay::fill(ours);
+    replay::fill(theirs);
+    pair_files(ours, theirs);
 }
 
 fn replay_pairing(place: u32) {

@@ -1,8 +1,10 @@
 // Makes the calls on shift files of a stored list, its standard input, and prints a line of what came of each. vectors/README.md has both forms.
 use shift_file::SettingCodes;
 use shift_file::ShiftForm;
+use shift_reader::EntryKind;
 use shift_record::RecordFrame;
 use shift_writer::ShiftWritten;
+use yuv_error::YuvAnswer;
 ghost use mathlib.Core.Path.{_≡_};
 ghost use Prim.Native.Nat.{_≤_};
 ghost use lib.ListN.{length};
@@ -34,15 +36,40 @@ fn print_entries(entries: &[u64]) {
     }
 }
 
-fn read_on(file: &mut [u8], first: usize, entries: &mut [u64]) {
+fn form_number(form: ShiftForm) -> usize {
+    match form {
+        ShiftForm::WithoutSettings => 0,
+        ShiftForm::WithSettings => 1,
+    }
+}
+
+// 0 after a refusal.
+fn print_form(answer: YuvAnswer, form: ShiftForm) {
+    replay::print(b" form=");
+    match answer {
+        YuvAnswer::Finished => replay::print_number(form_number(form)),
+        YuvAnswer::Refused(_) => replay::print_number(0),
+    }
+}
+
+fn read_on(either: bool, file: &mut [u8], first: usize, entries: &mut [u64]) {
     replay::fill(file);
-    let reading = shift_reader::read_records(ShiftForm::WithoutSettings, file, first, entries);
+    let mut form = ShiftForm::WithoutSettings;
+    let mut kind = EntryKind::Places;
+    if either {
+        form = shift_file::form_of(file);
+        kind = EntryKind::PlacesAndSettings;
+    }
+    let reading = shift_reader::read_records(kind, form, file, first, entries);
     let answer = reading.answer;
     replay::print_answer(answer);
     replay::print(b" count=");
     replay::print_number(reading.count);
     replay::print(b" told=");
     replay::print_number(reading.told);
+    if either {
+        print_form(answer, form);
+    }
     print_entries(entries);
 }
 
@@ -53,13 +80,13 @@ fn file_buffer() -> [u8; 131072]
     [0; 131072]
 }
 
-fn replay_reading() {
+fn replay_reading(either: bool) {
     let mut file = file_buffer();
     let mut entries = [BEFORE; 44];
     let length = replay::read_length(&file);
     let first = read_wide();
     let room = read_room();
-    read_on(&mut file[..length], first, &mut entries[0..room]);
+    read_on(either, &mut file[..length], first, &mut entries[0..room]);
 }
 
 fn print_written(written: ShiftWritten, output: &[u8]) {
@@ -70,36 +97,58 @@ fn print_written(written: ShiftWritten, output: &[u8]) {
     replay::print_buffer(b" output=", output);
 }
 
-fn write_on(records: &mut [u8], output: &mut [u8]) {
+fn write_on(form: ShiftForm, records: &mut [u8], output: &mut [u8]) {
     replay::fill(records);
     replay::fill(output);
-    let written = shift_writer::write_file(ShiftForm::WithoutSettings, records, output);
+    let written = shift_writer::write_file(form, records, output);
     print_written(written, output);
 }
 
-fn replay_writing() {
+fn replay_writing(form: ShiftForm) {
     let mut records = io::large_buffer();
     let mut output = io::large_buffer();
     let records_length = replay::read_length(&records);
     let output_length = replay::read_length(&output);
-    write_on(&mut records[..records_length], &mut output[..output_length]);
+    write_on(
+        form,
+        &mut records[..records_length],
+        &mut output[..output_length],
+    );
 }
 
-fn make_on(y: &mut [u8], u: &mut [u8], v: &mut [u8], output: &mut [u8]) {
-    let frame = RecordFrame {
-        form: ShiftForm::WithoutSettings,
-        crossing: replay::read_number(),
-        width: replay::read_number(),
-        height: replay::read_number(),
-        settings: SettingCodes {
+fn read_codes(form: ShiftForm) -> SettingCodes {
+    match form {
+        ShiftForm::WithoutSettings => SettingCodes {
             sampling: 0,
             range: 0,
             matrix: 0,
             transfer: 0,
         },
-        y_stride: replay::read_number(),
-        u_stride: replay::read_number(),
-        v_stride: replay::read_number(),
+        ShiftForm::WithSettings => SettingCodes {
+            sampling: replay::read_number(),
+            range: replay::read_number(),
+            matrix: replay::read_number(),
+            transfer: replay::read_number(),
+        },
+    }
+}
+
+fn make_on(form: ShiftForm, y: &mut [u8], u: &mut [u8], v: &mut [u8], output: &mut [u8]) {
+    let crossing = replay::read_number();
+    let width = replay::read_number();
+    let height = replay::read_number();
+    let y_stride = replay::read_number();
+    let u_stride = replay::read_number();
+    let v_stride = replay::read_number();
+    let frame = RecordFrame {
+        form,
+        crossing,
+        width,
+        height,
+        settings: read_codes(form),
+        y_stride,
+        u_stride,
+        v_stride,
     };
     replay::fill_planes(y, u, v);
     replay::fill(output);
@@ -107,7 +156,7 @@ fn make_on(y: &mut [u8], u: &mut [u8], v: &mut [u8], output: &mut [u8]) {
     print_written(written, output);
 }
 
-fn replay_record() {
+fn replay_record(form: ShiftForm) {
     let mut y = io::large_buffer();
     let mut u = io::large_buffer();
     let mut v = io::large_buffer();
@@ -117,6 +166,7 @@ fn replay_record() {
     let v_length = replay::read_length(&v);
     let output_length = replay::read_length(&output);
     make_on(
+        form,
         &mut y[..y_length],
         &mut u[..u_length],
         &mut v[..v_length],
@@ -124,16 +174,52 @@ fn replay_record() {
     );
 }
 
+fn move_on(forward: bool, file: &mut [u8], output: &mut [u8]) {
+    replay::fill(file);
+    replay::fill(output);
+    if forward {
+        let written = shift_move::move_forward(file, output);
+        print_written(written, output);
+    } else {
+        let written = shift_move::move_back(file, output);
+        print_written(written, output);
+    }
+}
+
+fn replay_moving(forward: bool) {
+    let mut file = io::large_buffer();
+    let mut output = io::large_buffer();
+    let file_length = replay::read_length(&file);
+    let output_length = replay::read_length(&output);
+    move_on(
+        forward,
+        &mut file[..file_length],
+        &mut output[..output_length],
+    );
+}
+
+fn replay_kind(kind: u32) {
+    if kind == 0 {
+        replay_reading(false);
+    } else if kind == 1 {
+        replay_writing(ShiftForm::WithoutSettings);
+    } else if kind == 2 {
+        replay_record(ShiftForm::WithoutSettings);
+    } else if kind == 3 {
+        replay_reading(true);
+    } else if kind == 4 {
+        replay_writing(ShiftForm::WithSettings);
+    } else if kind == 5 {
+        replay_record(ShiftForm::WithSettings);
+    } else {
+        replay_moving(kind == 6);
+    }
+}
+
 fn replay_call(call: u32) {
     let kind = replay::read_number();
     replay::print_number(call as usize);
-    if kind == 0 {
-        replay_reading();
-    } else if kind == 1 {
-        replay_writing();
-    } else {
-        replay_record();
-    }
+    replay_kind(kind);
     replay::print(b"\n");
 }
 

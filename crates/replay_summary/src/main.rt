@@ -1,5 +1,4 @@
 // Makes the calls on summaries of a stored list, its standard input, and prints a line of what came of each. vectors/README.md has both forms.
-use shift_file::ShiftForm;
 use summary_calls::FoundRecord;
 use yuv_error::YuvAnswer;
 
@@ -11,7 +10,7 @@ fn print_summary(answer: YuvAnswer, summary: &[u8]) {
 fn build_on(file: &mut [u8], summary: &mut [u8]) {
     replay::fill(file);
     replay::fill(summary);
-    let answer = summary_calls::build_summary(ShiftForm::WithoutSettings, file, summary);
+    let answer = summary_calls::build_summary(shift_file::form_of(file), file, summary);
     print_summary(answer, summary);
 }
 
@@ -26,7 +25,7 @@ fn print_yes(yes: bool) {
 fn check_on(file: &mut [u8], summary: &mut [u8]) {
     replay::fill(file);
     replay::fill(summary);
-    let verdict = summary_calls::check_summary(ShiftForm::WithoutSettings, file, summary);
+    let verdict = summary_calls::check_summary(shift_file::form_of(file), file, summary);
     let answer = verdict.answer;
     replay::print_answer(answer);
     print_yes(verdict.is_summary);
@@ -48,7 +47,7 @@ fn find_on(file: &mut [u8], summary: &mut [u8]) {
     let crossing = replay::read_number();
     replay::fill(file);
     replay::fill(summary);
-    let finding = summary_calls::find_record(ShiftForm::WithoutSettings, file, summary, crossing);
+    let finding = summary_calls::find_record(shift_file::form_of(file), file, summary, crossing);
     let answer = finding.answer;
     let found = finding.found;
     replay::print_answer(answer);
@@ -59,7 +58,7 @@ fn update_on(file: &mut [u8], added: &mut [u8], summary: &mut [u8]) {
     replay::fill(file);
     replay::fill(added);
     replay::fill(summary);
-    let answer = summary_update::update_summary(ShiftForm::WithoutSettings, file, added, summary);
+    let answer = summary_update::update_summary(shift_file::form_of(file), file, added, summary);
     print_summary(answer, summary);
 }
 
