@@ -1,6 +1,9 @@
-//! Shift files: writing one beside the copying of its bytes, checking one, and making a record from planes.
+//! Shift files: writing one and moving one from form to form beside the copying of its bytes, checking one, and making a record from planes.
 use crate::Bars;
-use segvartin::{BufferStoreMut, ShiftFile, YuvChromaSubsampling, YuvPlanarImageMut, shift_file_size, shift_record, shift_record_size, write_shift_file};
+use segvartin::{
+    BufferStoreMut, ShiftFile, YuvChromaSubsampling, YuvPlanarImageMut, move_back, move_forward, moved_forward_size, shift_file_size, shift_record,
+    shift_record_size, write_shift_file,
+};
 use std::hint::black_box;
 use std::time::Instant;
 
@@ -108,6 +111,57 @@ impl File {
     }
 }
 
+/// A file without settings, the same with settings, and room for either.
+struct Moved {
+    old: Vec<u8>,
+    new: Vec<u8>,
+    room: Vec<u8>,
+}
+
+impl Moved {
+    fn new(old: Vec<u8>) -> Moved {
+        let mut new = vec![0; moved_forward_size(&old).unwrap()];
+        move_forward(&old, &mut new).unwrap();
+        let room = new.clone();
+        Moved { old, new, room }
+    }
+
+    fn forward(&mut self) {
+        move_forward(&self.old, &mut self.room).unwrap();
+    }
+
+    fn back(&mut self) {
+        move_back(&self.new, &mut self.room).unwrap();
+    }
+
+    /// The bytes of the file without settings.
+    fn copied(&mut self) {
+        self.room[..self.old.len()].copy_from_slice(&self.old);
+    }
+}
+
+fn moves(bars: &mut Bars) {
+    println!("\na shift file moved forward and back, ms, beside memcpy of its bytes; least of {TURNS} turns; bar: {MOST_OVER_COPY} times memcpy");
+    println!("{:<18}{:>9}{:>13}{:>9}{:>9}{:>8}{:>9}{:>8}", "records of", "records", "bytes", "memcpy", "forward", "times", "back", "times");
+    for (width, height, count) in [(1920, 1080, RECORDS), (640, 480, 1400), (64, 48, 4096)] {
+        let mut one = Record::new(width, height, 0);
+        one.ours();
+        let File { records, file } = File::new(&one.record, count);
+        drop(records);
+        let mut moved = Moved::new(file);
+        moved.back();
+        assert!(moved.room[..moved.old.len()] == moved.old, "moved back it is another file");
+        let bytes = moved.old.len();
+        let large = bytes > 100_000_000;
+        let turns = if large { TURNS } else { 30 * TURNS };
+        let [copied, forward, back] = least(&mut moved, turns, [&Moved::copied, &Moved::forward, &Moved::back]);
+        // What the caches hold is shown only: a day is larger.
+        let said = if large { bars.hold(forward.max(back) <= MOST_OVER_COPY * copied) } else { "" };
+        let size = format!("{width} x {height}");
+        println!("{size:<18}{count:>9}{bytes:>13}{copied:>9.2}{forward:>9.2}{:>8.2}{back:>9.2}{:>8.2}{said}", forward / copied, back / copied);
+    }
+}
+
 pub fn report(bars: &mut Bars) {
     let mut one = Record::new(1920, 1080, 0);
     one.ours();
@@ -119,9 +173,11 @@ pub fn report(bars: &mut Bars) {
     let said = bars.hold(written <= MOST_OVER_COPY * copied);
     println!("{:<12}{copied:>9.1}{written:>9.1}{:>8.2}{:>13.2}{said}", "", written / copied, size as f64 / written / 1e6);
 
+    drop(file);
+    moves(bars);
+
     println!("\na shift file checked, ns a record; least of {TURNS_OF_CHECKS} turns; bar: {MOST_OF_CHECK} ns, whatever the size of the planes");
     println!("{:<18}{:>9}{:>15}{:>12}", "records of", "records", "bytes each", "ns a record");
-    drop(file);
     for (width, height, count) in [(1, 1, 4096), (64, 48, 4096), (320, 240, 4096), (640, 480, 2000), (1920, 1080, RECORDS), (16384, 16384, 2)] {
         let mut one = Record::new(width, height, 0);
         one.ours();
