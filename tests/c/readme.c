@@ -2,8 +2,8 @@
  * The lines of C that README.md shows, one block after another, on a frame of flat green 10 with the rear of a truck in it, flat white. tests/run
  * takes them out of it. The last call but one is that with nearest tables: V of green is 124, and 125 by truncated ones (RULES 5.2, Bt601 Limited: of
  * green 10 and of green 9). The last is the window onto the rear, which is white alone; behind its planes there is still what the call before left.
- * Behind the frames come the counts of colours, the shift file of the rear, its summary, which at the end is
- * that of the file with its record twice, and the file held against itself.
+ * Behind the frames come the counts of colours, the shift file of the rear, its summary, which at the end is that of the file with its record twice, the
+ * file held against itself, the same with settings, and the first moved forward.
  */
 #include "expect.h"
 
@@ -34,6 +34,9 @@ int main(void) {
     EXPECT(found == 1 && truck.crossing == 1400 && truck.offset == 16 && truck.length == sizeof record_bytes);
     EXPECT(summary_bytes[12] == 235 && summary_bytes[25] == 235 && memcmp(summary_bytes, summary_bytes + 13, 4) == 0);
     EXPECT(report.equal == 1 && report.differing == 0 && report.only_ours == 0 && report.only_theirs == 0 && report.difference == 0 && broken == 0);
+    EXPECT(form == SEGVARTIN_WITH_SETTINGS && any.sampling == 0 && any.range == 0 && any.matrix == 0 && any.transfer == 0 && any.shift.y_offset == 32);
+    EXPECT(set_size == sizeof moved_bytes && memcmp(moved_bytes + 28, "\0\377\377\377", 4) == 0 && memcmp(set_file_bytes + 28, "\0\0\0\0", 4) == 0);
+    EXPECT(memcmp(moved_bytes, set_file_bytes, 28) == 0 && memcmp(moved_bytes + 32, set_file_bytes + 32, sizeof moved_bytes - 32) == 0);
     EXPECT(a.number == SEGVARTIN_FINISHED);
     EXPECT(all_are(luma, 0, y.len, 235) && all_are(cb, 0, u.len, 128) && all_are(cr, 0, v.len, 128));
     EXPECT(y.len == 640 * 480 && u.len == 320 * 240 && v.len == u.len);
