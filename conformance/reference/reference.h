@@ -75,7 +75,8 @@ enum {
     REFERENCE_BAD_V = 11,         /* RULES 7.6 */
     REFERENCE_NOT_WHOLE = 12,     /* RULES 7.7 */
     REFERENCE_SHORT_CARRIED = 13, /* RULES 8.4 */
-    REFERENCE_SHORT_OUTPUT = 16   /* RULES 11.5, 11.6 */
+    REFERENCE_RECORDED = 20,      /* RULES 11.8 */
+    REFERENCE_SHORT_OUTPUT = 16   /* RULES 11.5, 11.6, 11.8 */
 };
 
 /* RULES 7.3: largest width and height, of a frame and of its source. */
@@ -85,9 +86,20 @@ enum {
 #define REFERENCE_COLOURS 16777216u
 #define REFERENCE_LUMAS 256u
 
-/* RULES 11.1: most records of a shift file. RULES 11.4: numbers of an entry. */
+/* RULES 11.1: most records of a shift file. RULES 11.4: numbers of an entry of the first call, and of the second. */
 #define REFERENCE_MOST_RECORDS 4096u
 #define REFERENCE_ENTRY_NUMBERS 11u
+#define REFERENCE_ANY_ENTRY_NUMBERS 15u
+
+/* RULES 10.5, 11.1: forms of a shift file and of a record. */
+enum {
+    REFERENCE_WITHOUT_SETTINGS = 0,
+    REFERENCE_WITH_SETTINGS = 1
+};
+
+/* RULES 11.7: how many settings a record has, and what stands in the place of one that is not recorded. */
+#define REFERENCE_SETTINGS 4u
+#define REFERENCE_NOT_RECORDED 255u
 
 /* RULES 10.7: numbers of a report; kinds of its first difference; which file is none. */
 #define REFERENCE_REPORT_NUMBERS 18u
@@ -222,25 +234,36 @@ struct reference_answer reference_band(const struct reference_tables *tables, st
                                        const struct reference_source *source, const struct reference_planes *planes,
                                        const struct reference_buffer *carried);
 
-/* RULES 11.3: whether bytes are a shift file, and whether they are records back to back; where they are, also how many records. */
-int reference_is_file(const struct reference_bytes *file, uint64_t *records);
-int reference_are_records(const struct reference_bytes *bytes, uint64_t *records);
+/* RULES 11.3: whether bytes are a shift file of a form, and whether they are records of a form back to back; then also how many. */
+int reference_is_file(uint32_t form, const struct reference_bytes *file, uint64_t *records);
+int reference_are_records(uint32_t form, const struct reference_bytes *bytes, uint64_t *records);
 
 /*
- * RULES 10.5, 11.4: reads a shift file. An entry is REFERENCE_ENTRY_NUMBERS of the caller's numbers, of which `given` are lent.
- * It asks 15, and tells how many records there are and how many entries it wrote.
+ * RULES 10.5, 11.4: reads a shift file without settings. An entry is REFERENCE_ENTRY_NUMBERS of the caller's numbers, of which
+ * `given` are lent. It asks 15, and tells how many records there are and how many entries it wrote.
  */
 struct reference_answer reference_shift_records(const struct reference_bytes *file, uint64_t first, uint64_t *numbers,
                                                 uint64_t given, uint64_t *records, uint64_t *entries);
 
-/* RULES 11.5: writes a shift file. It asks 15, 16, and tells the size of the file. */
-struct reference_answer reference_shift_write(const struct reference_bytes *records, const struct reference_buffer *output,
-                                              uint64_t *size);
+/* The same of either form: an entry is REFERENCE_ANY_ENTRY_NUMBERS numbers, and the form is told too, 0 where it is refused. */
+struct reference_answer reference_shift_records_any(const struct reference_bytes *file, uint64_t first, uint64_t *numbers,
+                                                    uint64_t given, uint64_t *records, uint64_t *entries, uint64_t *form);
 
-/* RULES 11.6: makes a record from REFERENCE_PLANES planes. It asks 15, 8 to 12, 16, and tells the size of the record. */
-struct reference_answer reference_shift_record(uint32_t crossing, uint32_t width, uint32_t height,
+/* RULES 11.5: writes a shift file of a form. It asks 15, 16, and tells the size of the file. */
+struct reference_answer reference_shift_write(uint32_t form, const struct reference_bytes *records,
+                                              const struct reference_buffer *output, uint64_t *size);
+
+/*
+ * RULES 11.6: makes a record from REFERENCE_PLANES planes; with these REFERENCE_SETTINGS settings, or without, where they are
+ * NULL. It asks 15, 8 to 12, 16, and tells the size of the record.
+ */
+struct reference_answer reference_shift_record(uint32_t crossing, uint32_t width, uint32_t height, const uint32_t *settings,
                                                const struct reference_plane *planes, const struct reference_buffer *output,
                                                uint64_t *size);
+
+/* RULES 11.8: moves a shift file of the other form to this one: forward, or back. It asks 15, 20, 16, and tells the size. */
+struct reference_answer reference_shift_move(uint32_t to, const struct reference_bytes *file, const struct reference_buffer *output,
+                                             uint64_t *size);
 
 /* RULES 10.6, 12.4: builds the summary of a shift file. It asks 15, 17. */
 struct reference_answer reference_summary_build(const struct reference_bytes *file, const struct reference_buffer *summary);

@@ -224,8 +224,8 @@ static void replay_sequence(uint32_t line)
     }
 }
 
-/* LISTS: a reading of a shift file and its line (RULES 11.4). */
-static void replay_reading(void)
+/* LISTS: a reading of a shift file without settings, or of either form, and its line (RULES 11.4). */
+static void replay_reading(int any)
 {
     uint32_t length = read_number();
     uint64_t first = read_number();
@@ -235,6 +235,7 @@ static void replay_reading(void)
     struct reference_answer answer;
     uint64_t records;
     uint64_t entries;
+    uint64_t form;
     uint32_t given;
     uint32_t place;
 
@@ -249,9 +250,17 @@ static void replay_reading(void)
     buffer = read_buffer(length);
     file.bytes = buffer.bytes;
     file.length = buffer.length;
-    answer = reference_shift_records(&file, first, numbers, given, &records, &entries);
+    if (any) {
+        answer = reference_shift_records_any(&file, first, numbers, given, &records, &entries, &form);
+    } else {
+        answer = reference_shift_records(&file, first, numbers, given, &records, &entries);
+    }
     print_answer(&answer);
-    printf(" count=%llu told=%llu entries", (unsigned long long)records, (unsigned long long)entries);
+    printf(" count=%llu told=%llu", (unsigned long long)records, (unsigned long long)entries);
+    if (any) {
+        printf(" form=%llu", (unsigned long long)form);
+    }
+    printf(" entries");
     for (place = 0; place < given; place++) {
         printf(" %llu", (unsigned long long)numbers[place]);
     }
@@ -265,8 +274,8 @@ static void print_output(uint64_t size, const struct reference_buffer *output)
     print_digest("output", output->bytes, output->length);
 }
 
-/* LISTS: a writing of a shift file and its line (RULES 11.5). */
-static void replay_writing(void)
+/* LISTS: a writing of a shift file of a form and its line (RULES 11.5). */
+static void replay_writing(uint32_t form)
 {
     uint32_t length = read_number();
     uint32_t output_length = read_number();
@@ -278,17 +287,38 @@ static void replay_writing(void)
 
     records.bytes = buffer.bytes;
     records.length = buffer.length;
-    answer = reference_shift_write(&records, &output, &size);
+    answer = reference_shift_write(form, &records, &output, &size);
     print_answer(&answer);
     print_output(size, &output);
     free(buffer.bytes);
     free(output.bytes);
 }
 
-/* LISTS: a record from planes and its line (RULES 11.6). */
-static void replay_record(void)
+/* LISTS: a file moved to a form and its line (RULES 11.8). */
+static void replay_move(uint32_t to)
+{
+    uint32_t length = read_number();
+    uint32_t output_length = read_number();
+    struct reference_buffer buffer = read_buffer(length);
+    struct reference_buffer output = read_buffer(output_length);
+    struct reference_bytes file;
+    struct reference_answer answer;
+    uint64_t size;
+
+    file.bytes = buffer.bytes;
+    file.length = buffer.length;
+    answer = reference_shift_move(to, &file, &output, &size);
+    print_answer(&answer);
+    print_output(size, &output);
+    free(buffer.bytes);
+    free(output.bytes);
+}
+
+/* LISTS: a record of a form from planes and its line (RULES 11.6). */
+static void replay_record(uint32_t form)
 {
     uint32_t lengths[4];
+    uint32_t settings[REFERENCE_SETTINGS];
     uint32_t crossing;
     uint32_t width;
     uint32_t height;
@@ -308,13 +338,16 @@ static void replay_record(void)
     for (plane = 0; plane < REFERENCE_PLANES; plane++) {
         planes[plane].stride = read_number();
     }
+    for (plane = 0; form == REFERENCE_WITH_SETTINGS && plane < REFERENCE_SETTINGS; plane++) {
+        settings[plane] = read_number();
+    }
     for (plane = 0; plane < REFERENCE_PLANES; plane++) {
         buffers[plane] = read_buffer(lengths[plane]);
         planes[plane].bytes = buffers[plane].bytes;
         planes[plane].length = buffers[plane].length;
     }
     output = read_buffer(lengths[REFERENCE_PLANES]);
-    answer = reference_shift_record(crossing, width, height, planes, &output, &size);
+    answer = reference_shift_record(crossing, width, height, form == REFERENCE_WITH_SETTINGS ? settings : NULL, planes, &output, &size);
     print_answer(&answer);
     print_output(size, &output);
     for (plane = 0; plane < REFERENCE_PLANES; plane++) {
@@ -329,14 +362,25 @@ static void replay_shift(uint32_t line)
     uint32_t call = read_number();
 
     printf("%lu", (unsigned long)line);
-    if (call == 0) {
-        replay_reading();
-    } else if (call == 1) {
-        replay_writing();
-    } else if (call == 2) {
-        replay_record();
-    } else {
-        fail("a call on a shift file that is none of the three");
+    switch (call) {
+    case 0:
+    case 3:
+        replay_reading(call == 3);
+        break;
+    case 1:
+    case 4:
+        replay_writing(call == 1 ? REFERENCE_WITHOUT_SETTINGS : REFERENCE_WITH_SETTINGS);
+        break;
+    case 2:
+    case 5:
+        replay_record(call == 2 ? REFERENCE_WITHOUT_SETTINGS : REFERENCE_WITH_SETTINGS);
+        break;
+    case 6:
+    case 7:
+        replay_move(call == 6 ? REFERENCE_WITH_SETTINGS : REFERENCE_WITHOUT_SETTINGS);
+        break;
+    default:
+        fail("a call on a shift file that is none of the eight");
     }
     printf("\n");
 }

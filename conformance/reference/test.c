@@ -1927,7 +1927,7 @@ static void expect_records(long place, const uint8_t *bytes, size_t length, int 
     memcpy(own, bytes, length);
     records.bytes = own;
     records.length = length;
-    expect("11.3", place, are_records, reference_are_records(&records, &found));
+    expect("11.3", place, are_records, reference_are_records(REFERENCE_WITHOUT_SETTINGS, &records, &found));
     expect("11.3", place, (long long)count, (long long)found);
     free(own);
 }
@@ -1969,10 +1969,10 @@ static void test_layout(void)
     size_t place;
 
     for (place = 0; place < sizeof sizes / sizeof sizes[0]; place++) {
-        expect("11.2", (long)place, sizes[place].length, (long long)extent(sizes[place].side[0], sizes[place].side[1]).length);
+        expect("11.2", (long)place, sizes[place].length, (long long)extent(0, 0, sizes[place].side[0], sizes[place].side[1]).length);
     }
-    expect("11.1", 0, 1649267523588, (long long)(table_bytes(4096) + 4096 * extent(16384, 16384).length));
-    expect("11.4", 0, 1648864870396, (long long)(table_bytes(4096) + 4095 * extent(16384, 16384).length));
+    expect("11.1", 0, 1649267523588, (long long)(table_bytes(0, 4096) + 4096 * extent(0, 0, 16384, 16384).length));
+    expect("11.4", 0, 1648864870396, (long long)(table_bytes(0, 4096) + 4095 * extent(0, 0, 16384, 16384).length));
     for (place = 0; place < sizeof changes / sizeof changes[0]; place++) {
         memcpy(bytes, worked_file, FILE_BYTES);
         put_number(bytes + changes[place].at, changes[place].number, changes[place].bytes);
@@ -2099,7 +2099,7 @@ static struct reference_answer call_writing(const uint8_t *bytes, size_t length,
     output->bytes = own_bytes(output_length);
     output->length = output_length;
     memset(output->bytes, 0xEE, output_length);
-    result = reference_shift_write(&records, output, size);
+    result = reference_shift_write(REFERENCE_WITHOUT_SETTINGS, &records, output, size);
     free(own);
     return result;
 }
@@ -2210,7 +2210,7 @@ static void expect_record(long place, const uint32_t *size, const struct referen
     output.bytes = own_bytes(output_length);
     output.length = output_length;
     memset(output.bytes, 0xEE, output_length);
-    expect_answer("11.6", place, number, expected, received, reference_shift_record(1400, size[0], size[1], planes, &output, &got));
+    expect_answer("11.6", place, number, expected, received, reference_shift_record(1400, size[0], size[1], NULL, planes, &output, &got));
     expect("11.6 size", place, (long long)told, (long long)got);
     for (byte = 0; byte < output_length; byte++) {
         expect("11.6 output", place, number == 0 && byte < told ? record[byte] : 0xEE, output.bytes[byte]);
@@ -2360,7 +2360,7 @@ static void test_list(long place)
         output.bytes = list + (size_t)length;
         output.length = MOST_BYTES - length;
         expect_answer("11.6 list", place, 0, 0, 0,
-                      reference_shift_record(crossings[record], sides[record][0], sides[record][1], planes[record], &output,
+                      reference_shift_record(crossings[record], sides[record][0], sides[record][1], NULL, planes[record], &output,
                                              &size));
         length += size;
     }
@@ -2434,7 +2434,7 @@ static void test_frame_record(void)
     }
     output.bytes = record;
     output.length = sizeof record;
-    expect_answer("11.6 frame", 1, 0, 0, 0, reference_shift_record(4294967295u, 5, 3, planes, &output, &size));
+    expect_answer("11.6 frame", 1, 0, 0, 0, reference_shift_record(4294967295u, 5, 3, NULL, planes, &output, &size));
     expect("11.6 frame", 2, sizeof record, (long long)size);
     expect("11.6 frame", 3, 4294967295, (long long)number_at(record, 4));
     frame = describe(5, 3, REFERENCE_RGB, REFERENCE_420, REFERENCE_LIMITED, REFERENCE_BT601, REFERENCE_SRGB, bare);
@@ -2670,15 +2670,15 @@ static void test_means(void)
         put_number(record + 4, wanted[place].side[0], 2);
         put_number(record + 6, wanted[place].side[1], 2);
         memcpy(record + 8, wanted[place].luma, sizeof wanted[place].luma);
-        expect("12.2", (long)place, wanted[place].mean, mean_luma(record));
+        expect("12.2", (long)place, wanted[place].mean, mean_luma(0, record));
     }
     expect("12.2 sum", 0, 68451041280, (long long)(255 * largest));
     memset(record, 255, (size_t)(8 + largest));
     put_number(record + 4, 16384, 2);
     put_number(record + 6, 16384, 2);
-    expect("12.2 largest", 0, 255, mean_luma(record));
+    expect("12.2 largest", 0, 255, mean_luma(0, record));
     record[7 + largest] = 254;
-    expect("12.2 largest", 1, 254, mean_luma(record));
+    expect("12.2 largest", 1, 254, mean_luma(0, record));
     free(record);
 }
 
@@ -2690,7 +2690,7 @@ static void test_entries(void)
     unsigned record;
 
     for (record = 0; record < 3; record++) {
-        put_summary_entry(entry, three_file + offsets[record], offsets[record]);
+        put_summary_entry(0, entry, three_file + offsets[record], offsets[record]);
         expect_bytes("12.1", three_entries[record], entry, ENTRY_BYTES);
     }
 }
@@ -2999,7 +2999,7 @@ static void expect_orders(long place, const struct reference_buffer *file, struc
 /* RULES 11.2: writes a record of any small size, its planes by chance, and gives its length. */
 static size_t put_record(uint8_t *record, uint32_t crossing, uint32_t width, uint32_t height)
 {
-    size_t length = (size_t)extent(width, height).length;
+    size_t length = (size_t)extent(0, 0, width, height).length;
     size_t byte;
 
     put_number(record, crossing, 4);
@@ -3828,6 +3828,361 @@ static void test_full_pairing(uint32_t kinds)
 }
 
 /* All examples, one chapter after the other. */
+/* RULES 11.7: the file of two records with settings; and RULES 11.8: that of 11.1 moved forward. */
+enum { SET_FILE_BYTES = 74, SET_FIRST = 32, SET_SECOND = 54, MOVED_BYTES = 69 };
+
+static const uint8_t set_file[SET_FILE_BYTES] = {
+    0xFF, 0xFF, 0xFF, 0xFF, 0x02, 0x00, 0x00, 0x00,
+    0x20, 0x00, 0x00, 0x00, 0x00, 0x00, 0x00, 0x00, 0x16, 0x00, 0x00, 0x00,
+    0x36, 0x00, 0x00, 0x00, 0x00, 0x00, 0x00, 0x00, 0x14, 0x00, 0x00, 0x00,
+    0x78, 0x05, 0x00, 0x00, 0x03, 0x00, 0x02, 0x00, 0x00, 0xFF, 0xFF, 0xFF,
+    0x10, 0x11, 0x12, 0x20, 0x21, 0x22, 0x30, 0x31, 0x40, 0x41,
+    0x70, 0x11, 0x01, 0x00, 0x02, 0x00, 0x02, 0x00, 0x01, 0x01, 0x06, 0x03,
+    0x50, 0x51, 0x52, 0x53, 0x60, 0x61, 0x70, 0x71,
+};
+static const uint8_t moved_file[MOVED_BYTES] = {
+    0xFF, 0xFF, 0xFF, 0xFF, 0x02, 0x00, 0x00, 0x00,
+    0x20, 0x00, 0x00, 0x00, 0x00, 0x00, 0x00, 0x00, 0x16, 0x00, 0x00, 0x00,
+    0x36, 0x00, 0x00, 0x00, 0x00, 0x00, 0x00, 0x00, 0x0F, 0x00, 0x00, 0x00,
+    0x78, 0x05, 0x00, 0x00, 0x03, 0x00, 0x02, 0x00, 0x00, 0xFF, 0xFF, 0xFF,
+    0x10, 0x11, 0x12, 0x20, 0x21, 0x22, 0x30, 0x31, 0x40, 0x41,
+    0x70, 0x11, 0x01, 0x00, 0x01, 0x00, 0x01, 0x00, 0x00, 0xFF, 0xFF, 0xFF, 0x50, 0x60, 0x70,
+};
+
+/* RULES 11.7: whether a record may have this byte as one of its settings. */
+static int is_setting(unsigned setting, unsigned byte)
+{
+    static const unsigned last[4] = {1, 1, 6, 3};
+
+    return byte <= last[setting] || (setting > 0 && byte == 255);
+}
+
+/* RULES 11.4: a reading of either form of a copy of these bytes; and the reading of the form without settings, which is as said. */
+static void expect_any(const char *rule, long place, const uint8_t *bytes, size_t length, uint32_t number, uint64_t count, uint64_t form,
+                       uint32_t first_number)
+{
+    uint8_t *own = own_bytes(length);
+    struct reference_bytes file;
+    uint64_t records = 77;
+    uint64_t entries = 77;
+    uint64_t told = 77;
+
+    memcpy(own, bytes, length);
+    file.bytes = own;
+    file.length = length;
+    memset(lent, 0, sizeof lent);
+    expect_answer(rule, place, number, 0, 0, reference_shift_records_any(&file, 0, lent, MOST_LENT, &records, &entries, &told));
+    expect(rule, place, (long long)count, (long long)records);
+    expect(rule, place, (long long)form, (long long)told);
+    expect_answer(rule, place, first_number, 0, 0, reference_shift_records(&file, 0, lent, 0, &records, &entries));
+    free(own);
+}
+
+/* RULES 11.3, 11.4, 11.7: lengths, and which bytes are a file with settings. */
+static void test_settings_layout(void)
+{
+    static const struct {
+        uint32_t sampling;
+        uint32_t side[2];
+        long long length;
+    } sizes[] = {
+        {0, {1, 1}, 15}, {1, {1, 1}, 15}, {0, {3, 3}, 29}, {1, {3, 3}, 33}, {1, {1920, 1080}, 4147212}, {1, {16384, 16384}, 536870924},
+    };
+    static const struct {
+        unsigned at;
+        unsigned bytes;
+        uint64_t number;
+    } changes[] = {
+        {0, 4, 4294967294u}, {4, 4, 1}, {8, 8, 28}, {20, 8, 50}, {16, 4, 18}, {28, 4, 16}, {36, 2, 0}, {58, 2, 16385}, {60, 2, 3},
+    };
+    static const long long entry[2][15] = {
+        {1400, 3, 2, 32, 22, 44, 6, 50, 2, 52, 2, 0, 255, 255, 255},
+        {70000, 2, 2, 54, 20, 66, 4, 70, 2, 72, 2, 1, 1, 6, 3},
+    };
+    static uint8_t bytes[4 + FILE_BYTES + SET_FILE_BYTES];
+    struct reference_bytes file;
+    uint64_t records;
+    uint64_t entries;
+    uint64_t form;
+    unsigned place;
+    unsigned number;
+    uint64_t first;
+
+    for (place = 0; place < sizeof sizes / sizeof sizes[0]; place++) {
+        expect("11.7", (long)place, sizes[place].length,
+               (long long)extent(1, sizes[place].sampling, sizes[place].side[0], sizes[place].side[1]).length);
+    }
+    expect("11.7", 0, 2199023353864, (long long)(table_bytes(1, 4096) + 4096 * extent(1, 1, 16384, 16384).length));
+    expect_any("11.7", 0, set_file, SET_FILE_BYTES, 0, 2, 1, 15);
+    expect_any("11.4 either", 0, worked_file, FILE_BYTES, 0, 2, 0, 0);
+    for (place = 0; place < SET_FILE_BYTES; place++) {
+        expect_any("11.7 cut", (long)place, set_file, place, 15, 0, 0, 15);
+    }
+    for (place = 0; place < sizeof changes / sizeof changes[0]; place++) {
+        memcpy(bytes, set_file, SET_FILE_BYTES);
+        put_number(bytes + changes[place].at, changes[place].number, changes[place].bytes);
+        expect_any("11.7 number", (long)place, bytes, SET_FILE_BYTES, 15, 0, 0, 15);
+    }
+    memset(bytes, 0xFF, 4);
+    memset(bytes + 4, 0, 8);
+    for (place = 4; place < 12; place++) {
+        expect_any("11.7 none", (long)place, bytes, place, place == 8 ? 0 : 15, 0, place == 8, 15);
+    }
+    memcpy(bytes + 4, worked_file, FILE_BYTES);
+    expect_any("11.7 behind", 0, bytes, 4 + FILE_BYTES, 15, 0, 0, 15);
+    for (place = 0; place < 8 * SET_FILE_BYTES; place++) {
+        unsigned at = place / 8;
+        int is_free = (at >= 32 && at < 36) || (at >= 44 && at < 58) || at >= 66;
+
+        memcpy(bytes, set_file, SET_FILE_BYTES);
+        bytes[at] = (uint8_t)(bytes[at] ^ 1u << place % 8);
+        /* another sampling makes either record another length */
+        if ((at > 40 && at < 44) || (at > 62 && at < 66)) {
+            is_free = is_setting(at > 62 ? at - 62 : at - 40, bytes[at]);
+        }
+        expect_any("11.7 bit", (long)place, bytes, SET_FILE_BYTES, is_free ? 0 : 15, is_free ? 2 : 0, (uint64_t)is_free, 15);
+    }
+    file.bytes = set_file;
+    file.length = SET_FILE_BYTES;
+    for (first = 0; first < 4; first++) {
+        for (place = 0; place <= MOST_LENT; place++) {
+            uint64_t left = first < 2 ? 2 - first : 0;
+            uint64_t told = place / 15 < left ? place / 15 : left;
+
+            for (number = 0; number < MOST_LENT; number++) {
+                lent[number] = LENT;
+            }
+            expect_answer("11.4 either", (long)place, 0, 0, 0,
+                          reference_shift_records_any(&file, first, lent, place, &records, &entries, &form));
+            expect("11.4 either", (long)place, 2, (long long)records);
+            expect("11.4 either", (long)place, (long long)told, (long long)entries);
+            for (number = 0; number < MOST_LENT; number++) {
+                expect("11.4 number", (long)place, number < 15 * told ? entry[first + number / 15][number % 15] : LENT,
+                       (long long)lent[number]);
+            }
+        }
+    }
+}
+
+/* RULES 11.5, 11.6, 11.8: a call that makes a file or a record of these bytes; all bytes of the output EE before it. */
+static void expect_moved(const char *rule, long place, uint32_t to, const uint8_t *bytes, size_t length, size_t room, uint32_t number,
+                         uint64_t told, const uint8_t *made)
+{
+    uint8_t *own = own_bytes(length);
+    struct reference_bytes file;
+    struct reference_buffer output;
+    uint64_t size = 77;
+    size_t byte;
+
+    memcpy(own, bytes, length);
+    file.bytes = own;
+    file.length = length;
+    output.bytes = own_bytes(room);
+    output.length = room;
+    memset(output.bytes, 0xEE, room);
+    expect_answer(rule, place, number, 0, 0, reference_shift_move(to, &file, &output, &size));
+    expect(rule, place, (long long)told, (long long)size);
+    for (byte = 0; byte < room; byte++) {
+        expect(rule, place, number == 0 && byte < told ? made[byte] : 0xEE, output.bytes[byte]);
+    }
+    free(output.bytes);
+    free(own);
+}
+
+/* RULES 11.8: files moved into every output; each byte in the place of each setting; 15, 20, 16 in this order. */
+static void test_moving(void)
+{
+    static const uint8_t no_records[8] = {0xFF, 0xFF, 0xFF, 0xFF};
+    static uint8_t bytes[SET_FILE_BYTES];
+    unsigned setting;
+    size_t room;
+
+    for (room = 0; room < MOVED_BYTES + 3; room++) {
+        expect_moved("11.8 forward", (long)room, 1, worked_file, FILE_BYTES, room, room < MOVED_BYTES ? 16 : 0, MOVED_BYTES, moved_file);
+        expect_moved("11.8 back", (long)room, 0, moved_file, MOVED_BYTES, room, room < FILE_BYTES ? 16 : 0, FILE_BYTES, worked_file);
+        expect_moved("11.8 form", (long)room, 0, worked_file, FILE_BYTES, room, 15, 0, NULL);
+        expect_moved("11.8 form", (long)room, 1, moved_file, MOVED_BYTES, room, 15, 0, NULL);
+        expect_moved("11.8 recorded", (long)room, 0, set_file, SET_FILE_BYTES, room, 20, 0, NULL);
+        expect_moved("11.8 none", (long)room, 1, no_records + 4, 4, room, room < 8 ? 16 : 0, 8, no_records);
+        expect_moved("11.8 none", (long)room, 0, no_records, 8, room, room < 4 ? 16 : 0, 4, no_records + 4);
+    }
+    for (room = 0; room < MOVED_BYTES; room++) {
+        expect_moved("11.8 cut", (long)room, 0, moved_file, room, 10, 15, 0, NULL);
+        expect_moved("11.8 cut", (long)room, 0, set_file, room, 0, 15, 0, NULL);
+        expect_moved("11.8 cut", (long)room, 1, worked_file, room % FILE_BYTES, 10, 15, 0, NULL);
+    }
+    for (setting = 0; setting < 4; setting++) {
+        unsigned byte;
+
+        for (byte = 0; byte < 256; byte++) {
+            int is_unsaid = byte == (setting == 0 ? 0u : 255u);
+            uint32_t number = !is_setting(setting, byte) ? 15 : is_unsaid ? 0 : 20;
+
+            memcpy(bytes, moved_file, MOVED_BYTES);
+            bytes[SET_SECOND + 8 + setting] = (uint8_t)byte;
+            expect_moved("11.8 setting", (long)byte, 0, bytes, MOVED_BYTES, 60, number, number == 0 ? FILE_BYTES : 0, worked_file);
+            expect_moved("11.8 setting", (long)byte, 0, bytes, MOVED_BYTES, 0, number == 0 ? 16 : number, number == 0 ? FILE_BYTES : 0,
+                         NULL);
+            expect_any("11.7 setting", (long)byte, bytes, MOVED_BYTES, number == 15 ? 15 : 0, number == 15 ? 0 : 2, number != 15, 15);
+        }
+    }
+}
+
+/* RULES 11.5, 11.6: records with settings written, and made from planes of 3 × 2 in 4:2:2 with strides 3, 3, 2. */
+static void test_settings_records(void)
+{
+    static const struct {
+        uint32_t settings[4];
+        uint64_t lengths[3];
+        uint64_t room;
+        uint32_t number;
+        uint64_t expected;
+        uint64_t received;
+        uint64_t size;
+    } wanted[] = {
+        {{1, 0, 1, 255}, {6, 6, 4}, 27, 0, 0, 0, 26},   {{1, 0, 1, 255}, {6, 6, 4}, 25, 16, 0, 0, 26},
+        {{1, 0, 1, 255}, {6, 3, 2}, 26, 10, 5, 3, 0},   {{0, 0, 1, 255}, {6, 6, 4}, 26, 12, 3, 6, 0},
+        {{2, 0, 1, 255}, {0, 0, 0}, 0, 15, 0, 0, 0},    {{255, 0, 1, 255}, {6, 6, 4}, 26, 15, 0, 0, 0},
+        {{1, 254, 1, 255}, {6, 6, 4}, 26, 15, 0, 0, 0}, {{1, 0, 7, 255}, {6, 6, 4}, 26, 15, 0, 0, 0},
+        {{1, 0, 1, 4}, {6, 6, 4}, 26, 15, 0, 0, 0},     {{1, 256, 1, 255}, {6, 6, 4}, 26, 15, 0, 0, 0},
+    };
+    static const uint8_t made[26] = {
+        0x78, 0x05, 0x00, 0x00, 0x03, 0x00, 0x02, 0x00, 0x01, 0x00, 0x01, 0xFF, 0x10,
+        0x11, 0x12, 0x20, 0x21, 0x22, 0x30, 0x31, 0x32, 0x33, 0x40, 0x41, 0x42, 0x43,
+    };
+    static const uint8_t y[6] = {0x10, 0x11, 0x12, 0x20, 0x21, 0x22};
+    static const uint8_t u[6] = {0x30, 0x31, 0x99, 0x32, 0x33, 0x99};
+    static const uint8_t v[4] = {0x40, 0x41, 0x42, 0x43};
+    const uint8_t *const plane_bytes_of[3] = {y, u, v};
+    struct reference_bytes records;
+    struct reference_buffer output;
+    uint8_t room[100];
+    uint64_t size;
+    size_t place;
+    size_t byte;
+
+    output.bytes = room;
+    for (place = 0; place < sizeof wanted / sizeof wanted[0]; place++) {
+        static const uint32_t strides[3] = {3, 3, 2};
+        struct reference_plane planes[3];
+        unsigned plane;
+
+        for (plane = 0; plane < 3; plane++) {
+            planes[plane].bytes = plane_bytes_of[plane];
+            planes[plane].length = wanted[place].lengths[plane];
+            planes[plane].stride = strides[plane];
+        }
+        memset(room, 0xEE, sizeof room);
+        output.length = wanted[place].room;
+        expect_answer("11.6 settings", (long)place, wanted[place].number, wanted[place].expected, wanted[place].received,
+                      reference_shift_record(1400, 3, 2, wanted[place].settings, planes, &output, &size));
+        expect("11.6 settings", (long)place, (long long)wanted[place].size, (long long)size);
+        for (byte = 0; byte < sizeof room; byte++) {
+            expect("11.6 output", (long)place, wanted[place].number == 0 && byte < 26 ? made[byte] : 0xEE, room[byte]);
+        }
+    }
+    records.bytes = set_file + SET_FIRST;
+    for (place = 0; place < sizeof room; place++) {
+        memset(room, 0xEE, sizeof room);
+        records.length = SET_FILE_BYTES - SET_FIRST;
+        output.length = place;
+        expect_answer("11.5 settings", (long)place, place < SET_FILE_BYTES ? 16 : 0, 0, 0,
+                      reference_shift_write(REFERENCE_WITH_SETTINGS, &records, &output, &size));
+        expect("11.5 settings", (long)place, SET_FILE_BYTES, (long long)size);
+        for (byte = 0; byte < sizeof room; byte++) {
+            expect("11.5 output", (long)place, place >= SET_FILE_BYTES && byte < SET_FILE_BYTES ? set_file[byte] : 0xEE, room[byte]);
+        }
+        expect_answer("11.5 form", (long)place, 15, 0, 0,
+                      reference_shift_write(REFERENCE_WITHOUT_SETTINGS, &records, &output, &size));
+        records.length = place % (SET_FILE_BYTES - SET_FIRST);
+        if (records.length != 0 && records.length != 22) {
+            expect_answer("11.5 cut", (long)place, 15, 0, 0, reference_shift_write(REFERENCE_WITH_SETTINGS, &records, &output, &size));
+        }
+    }
+}
+
+/* RULES 12.1, 12.4 to 12.7, 13.2 to 13.4: the summary of the file of 11.7, and pairs of files of either form. */
+static void test_either_form(void)
+{
+    static const uint8_t summary[26] = {
+        0x78, 0x05, 0x00, 0x00, 0x20, 0x00, 0x00, 0x00, 0x00, 0x00, 0x00, 0x00, 0x19,
+        0x70, 0x11, 0x01, 0x00, 0x36, 0x00, 0x00, 0x00, 0x00, 0x00, 0x00, 0x00, 0x51,
+    };
+    static const uint64_t equal[18] = {2};
+    static const uint64_t samplings[18] = {1, 1, 0, 0, 1, 70000, 1, 1, 1, 1, 1, 1, 0, 0, 0, 0, 1, 0};
+    static const uint64_t exchanged[18] = {1, 1, 0, 0, 1, 70000, 1, 1, 1, 1, 1, 1, 0, 0, 0, 1, 0, 0};
+    static const uint64_t sizes[18] = {1, 1, 0, 0, 1, 70000, 1, 1, 1, 1, 2, 2, 0, 0, 0, 0, 1, 0};
+    static const uint64_t byte_of_v[18] = {1, 1, 0, 0, 2, 70000, 1, 1, 0, 0, 0, 0, 2, 1, 0, 0, 0, 0};
+    uint8_t tall[MOVED_BYTES];
+    uint8_t other[SET_FILE_BYTES];
+    uint8_t room[39];
+    uint64_t report[18];
+    struct reference_bytes files[5];
+    struct reference_bytes record;
+    struct reference_bytes checked;
+    struct reference_buffer buffer;
+    uint64_t told[2];
+    const struct {
+        unsigned ours;
+        unsigned theirs;
+        const uint64_t *report;
+    } wanted[] = {
+        {0, 0, equal}, {0, 1, equal}, {1, 0, equal}, {1, 1, equal}, {0, 2, samplings}, {1, 2, samplings}, {2, 0, exchanged},
+        {2, 1, exchanged}, {2, 2, equal}, {0, 3, sizes}, {1, 3, sizes}, {3, 3, equal}, {3, 4, byte_of_v}, {4, 3, byte_of_v},
+    };
+    size_t place;
+    unsigned number;
+
+    memcpy(tall, moved_file, MOVED_BYTES);
+    tall[SET_SECOND + 8] = 1;
+    memcpy(other, set_file, SET_FILE_BYTES);
+    other[SET_FILE_BYTES - 1] ^= 1; /* the last byte of V, which has two rows */
+    other[SET_SECOND + 9] = 255;    /* and a range that is not recorded, which does not matter */
+    files[0].bytes = worked_file, files[0].length = FILE_BYTES;
+    files[1].bytes = moved_file, files[1].length = MOVED_BYTES;
+    files[2].bytes = tall, files[2].length = MOVED_BYTES;
+    files[3].bytes = set_file, files[3].length = SET_FILE_BYTES;
+    files[4].bytes = other, files[4].length = SET_FILE_BYTES;
+    for (place = 0; place < sizeof wanted / sizeof wanted[0]; place++) {
+        uint64_t none = 77;
+
+        expect_answer("13.4 either", (long)place, 0, 0, 0,
+                      reference_shift_pairs(&files[wanted[place].ours], &files[wanted[place].theirs], report, &none));
+        expect("13.4 either", (long)place, 0, (long long)none);
+        for (number = 0; number < 18; number++) {
+            expect("10.7 either", (long)place, (long long)wanted[place].report[number], (long long)report[number]);
+        }
+    }
+    buffer.bytes = room;
+    for (place = 0; place <= sizeof room; place++) {
+        memset(room, 0xEE, sizeof room);
+        buffer.length = place;
+        expect_answer("12.4 settings", (long)place, place < 26 ? 17 : 0, 0, 0, reference_summary_build(&files[3], &buffer));
+        for (number = 0; number < sizeof room; number++) {
+            expect("12.4 settings", (long)number, place >= 26 && number < 26 ? summary[number] : 0xEE, room[number]);
+        }
+    }
+    checked.bytes = room;
+    checked.length = sizeof room;
+    expect_answer("12.5 settings", 0, 0, 0, 0, reference_summary_check(&files[3], &checked, &told[0]));
+    expect("12.5 settings", 0, 1, (long long)told[0]);
+    expect_answer("12.6 settings", 0, 0, 0, 0, reference_summary_find(&files[3], &checked, 70000, &told[0], &told[1]));
+    expect("12.6 settings", 0, 1, (long long)told[0]);
+    expect("12.6 settings", 1, 1, (long long)told[1]);
+    expect_answer("12.6 settings", 2, 17, 0, 0, reference_summary_find(&files[1], &checked, 70000, &told[0], &told[1]));
+    record.bytes = second_record;
+    record.length = SECOND_BYTES;
+    buffer.length = sizeof room;
+    expect_answer("12.7 settings", 0, 15, 0, 0, reference_summary_update(&files[3], &record, &buffer));
+    record.bytes = set_file + SET_FIRST;
+    record.length = SET_SECOND - SET_FIRST;
+    expect_answer("12.7 settings", 1, 15, 0, 0, reference_summary_update(&files[0], &record, &buffer));
+    expect_answer("12.7 settings", 2, 0, 0, 0, reference_summary_update(&files[3], &record, &buffer));
+    expect("12.7 settings", 3, 0x2C, room[4]);
+    expect("12.7 settings", 4, SET_FILE_BYTES + 12, room[17]);
+    expect("12.7 settings", 5, 0x42, room[30]);
+}
+
 int main(void)
 {
     reference_make_tables(&tables);
@@ -3873,6 +4228,9 @@ int main(void)
     test_record_order();
     test_lists();
     test_frame_record();
+    test_settings_layout();
+    test_settings_records();
+    test_moving();
     test_entries();
     test_means();
     test_which_summary();
@@ -3899,6 +4257,7 @@ int main(void)
     test_full_pairing(1);
     test_full_pairing(7);
     test_full_pairing(MOST_FULL);
+    test_either_form();
     printf("%lu comparisons, %lu differ\n", asked, differing);
     return differing == 0 ? EXIT_SUCCESS : EXIT_FAILURE;
 }
