@@ -138,7 +138,7 @@ demand-1 = record {
     lowest = lowest (matrixRules matrix) refl (p .answered);
     writes-nothing = λ l. painted-same (rw (refusal a l .1) at (p .counts));
   };
-  shift-reading = λ form file first before r after p. record {
+  shift-reading = λ kind form file first before r after p. record {
     lowest = lowest (fileRules form file) refl (p .answered);
     writes-nothing = λ l. reading.refused-writes-nothing (refusal (r .answer) l .1) p;
   };

@@ -32,7 +32,8 @@ use Rattle.shift_file.specs.Check.{isFile}
 use Rattle.shift_file.proofs.Record.{both, also}
 use Rattle.shift_file.proofs.File.{some-list, one-list, read-back, rewritten, one-form, form-of-file, some-form, form-of, its-records, is-checked, after-pairs}
 use Rattle.shift_reader.specs.declared.ShiftReading.{ShiftReading}
-use Rattle.shift_reader.specs.Entry.{entriesOf}
+use Rattle.shift_reader.specs.declared.EntryKind.{EntryKind}
+use Rattle.shift_reader.specs.Entry.{entrySize, entriesOf}
 use Rattle.shift_reader.specs.Reading.{ReadPost}
 use Rattle.shift_writer.specs.declared.ShiftWritten.{ShiftWritten}
 use Rattle.shift_writer.specs.Records.{BackToBack, areRecords, recordsBack, fileMade}
@@ -64,10 +65,10 @@ short-is-not false e = omega arith
 -- ---- reading
 
 -- a call tells of the records of a file
-told : (form : ShiftForm) (file : List ℕ) (first : ℕ) (before : List ℕ) (r : ShiftReading) (after : List ℕ) (rs : List ShiftRecord)
-    → IsFileOf form file rs → ReadPost form file first before r after → recordsIn form file ≡ rs
-    → (r .count ≡ length rs) × (after ≡ entriesOf form rs first (r .told) ++ drop (11 * r .told) before)
-told form file first before r after rs f p is =
+told : (kind : EntryKind) (form : ShiftForm) (file : List ℕ) (first : ℕ) (before : List ℕ) (r : ShiftReading) (after : List ℕ) (rs : List ShiftRecord)
+    → IsFileOf form file rs → ReadPost kind form file first before r after → recordsIn form file ≡ rs
+    → (r .count ≡ length rs) × (after ≡ entriesOf kind form rs first (r .told) ++ drop (entrySize kind * r .told) before)
+told kind form file first before r after rs f p is =
     let yes = is-checked form file rs f in
     let done = is-finished (r .answer) (ap (λ (x : Numbers). x .number) (p .answered) ∙ rw yes) in
     (p .count ∙ rw (done, is), p .entries ∙ rw is)
@@ -226,9 +227,9 @@ shift-files = record {
   form-of-file = form-of-file;
   some-form = some-form;
   either-form = λ file none form rs f. none rs (rw (form-of form file rs f) f);
-  refused = λ form file first before r after bytes p.
+  refused = λ kind form file first before r after bytes p.
       by-test (isFile form file) (numbers 0 0 0) (some-list form file bytes) (λ z. omega arith) (ap (λ (x : Numbers). x .number) (p .answered));
-  read = λ form file first before r after rs f p. told form file first before r after rs f p (its-records form file rs f);
+  read = λ kind form file first before r after rs f p. told kind form file first before r after rs f p (its-records form file rs f);
   write-refused = λ form records before r after bytes p.
       by-test (areRecords form records) (firstOf (outputRules (length (fileMade form records)) (length before))) (some-records form records bytes)
       (short-is-not (ltb (length before) (length (fileMade form records)))) (ap (λ (x : Numbers). x .number) (p .answered));

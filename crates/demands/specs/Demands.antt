@@ -53,7 +53,8 @@ use Rattle.shift_file.specs.File.{ShiftRecord, Allowed, codesAllowed, recordsAt
 use Rattle.shift_file.specs.Check.{formIn}
 use Rattle.shift_file.specs.Means.{SomeList, OneList, ReadBack, Rewritten, OneForm, FormOfFile, SomeForm}
 use Rattle.shift_reader.specs.declared.ShiftReading.{ShiftReading}
-use Rattle.shift_reader.specs.Entry.{nth, offsetOf, entriesOf}
+use Rattle.shift_reader.specs.declared.EntryKind.{EntryKind}
+use Rattle.shift_reader.specs.Entry.{nth, offsetOf, entrySize, entriesOf}
 use Rattle.shift_reader.specs.Reading.{fileRules, ReadPost}
 use Rattle.shift_writer.specs.declared.ShiftWritten.{ShiftWritten}
 use Rattle.shift_writer.specs.Records.{BackToBack}
@@ -110,8 +111,8 @@ pub record Demand1 : Type 0 where
   pub band : (k : BandCall) → BandPost k → Answered (bandRules k) (numbersOf (k .result .answer)) (Untouched k)
   pub counts : (range : YuvRange) (matrix : YuvStandardMatrix) (before : List ℕ) (a : YuvAnswer) (after : List ℕ) → CountsPost range matrix before a after
       → Answered (matrixRules matrix) (numbersOf a) (after ≡ before)
-  pub shift-reading : (form : ShiftForm) (file : List ℕ) (first : ℕ) (before : List ℕ) (r : ShiftReading) (after : List ℕ)
-      → ReadPost form file first before r after → Answered (fileRules form file) (numbersOf (r .answer)) (after ≡ before)
+  pub shift-reading : (kind : EntryKind) (form : ShiftForm) (file : List ℕ) (first : ℕ) (before : List ℕ) (r : ShiftReading) (after : List ℕ)
+      → ReadPost kind form file first before r after → Answered (fileRules form file) (numbersOf (r .answer)) (after ≡ before)
   pub shift-writing : (form : ShiftForm) (records before : List ℕ) (r : ShiftWritten) (after : List ℕ) → WritePost form records before r after
       → Answered (writeRules form records (length before)) (numbersOf (r .answer)) (after ≡ before)
   pub shift-record : (f : RecordFrame) (y u v before : List ℕ) (r : ShiftWritten) (after : List ℕ) → RecordPost f y u v before r after
@@ -318,11 +319,11 @@ pub record ShiftFiles : Type 0 where
   -- so bytes that are no file of the form that they tell are no file
   pub either-form : (file : List ℕ) → NoFile (formIn file) file → (form : ShiftForm) → NoFile form file
   -- of the calls: 15, and otherwise the records
-  pub refused : (form : ShiftForm) (file : List ℕ) (first : ℕ) (before : List ℕ) (r : ShiftReading) (after : List ℕ) → Bytes file
-      → ReadPost form file first before r after → (numbersOf (r .answer) .number ≡ 15) ↔ NoFile form file
-  pub read : (form : ShiftForm) (file : List ℕ) (first : ℕ) (before : List ℕ) (r : ShiftReading) (after : List ℕ) (rs : List ShiftRecord)
-      → IsFileOf form file rs → ReadPost form file first before r after
-      → (r .count ≡ length rs) × (after ≡ entriesOf form rs first (r .told) ++ drop (11 * r .told) before)
+  pub refused : (kind : EntryKind) (form : ShiftForm) (file : List ℕ) (first : ℕ) (before : List ℕ) (r : ShiftReading) (after : List ℕ) → Bytes file
+      → ReadPost kind form file first before r after → (numbersOf (r .answer) .number ≡ 15) ↔ NoFile form file
+  pub read : (kind : EntryKind) (form : ShiftForm) (file : List ℕ) (first : ℕ) (before : List ℕ) (r : ShiftReading) (after : List ℕ) (rs : List ShiftRecord)
+      → IsFileOf form file rs → ReadPost kind form file first before r after
+      → (r .count ≡ length rs) × (after ≡ entriesOf kind form rs first (r .told) ++ drop (entrySize kind * r .told) before)
   pub write-refused : (form : ShiftForm) (records before : List ℕ) (r : ShiftWritten) (after : List ℕ) → Bytes records
       → WritePost form records before r after → (numbersOf (r .answer) .number ≡ 15) ↔ NoRecords form records
   pub written : (form : ShiftForm) (records before : List ℕ) (r : ShiftWritten) (after : List ℕ) (rs : List ShiftRecord)

@@ -9,6 +9,7 @@ use Rattle.yuv_error.specs.Numbers.{numbersOf}
 use Rattle.yuv_error.specs.Rules.{Rule}
 use Rattle.call_numbers.specs.Codes.{at}
 use Rattle.shift_file.specs.declared.ShiftForm.the-variants.{WithoutSettings}
+use Rattle.shift_reader.specs.declared.EntryKind.the-variants.{Places}
 use Rattle.shift_reader.specs.declared.ShiftReading.{ShiftReading}
 use Rattle.shift_reader.specs.Reading.{fileRules, ReadPost}
 use Rattle.shift_writer.specs.declared.ShiftWritten.{ShiftWritten}
@@ -41,7 +42,7 @@ pub record ReadingKept (k : ExportedReading) : Type 0 where
   pub reading : ShiftReading
   pub number : k .number ≡ numbersOf (reading .answer) .number
   pub told : k .told ≡ reading .count ∷ reading .told ∷ []
-  pub read : ReadPost WithoutSettings (k .file) (k .first) (k .entries) reading (k .entries′)
+  pub read : ReadPost Places WithoutSettings (k .file) (k .first) (k .entries) reading (k .entries′)
 
 -- ---- `segvartin_call_shift_write`
 

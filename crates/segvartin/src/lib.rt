@@ -6,6 +6,7 @@ use call_numbers::Told;
 use shift_file::SettingCodes;
 use shift_file::ShiftForm;
 use shift_pairs::Pairing;
+use shift_reader::EntryKind;
 use shift_reader::ShiftReading;
 use shift_record::RecordFrame;
 use shift_writer::ShiftWritten;
@@ -210,7 +211,13 @@ pub extern "C" fn segvartin_call_shift_records(
 ) -> u32
     ensures { λ n. ⌜ ReadingKept (exportedReading (now (file .entry)) first (now (entries .entry)) n (now (told .exit)) (now (entries .exit))) ⌝ }
 {
-    let reading = shift_reader::read_records(ShiftForm::WithoutSettings, file, first, entries);
+    let reading = shift_reader::read_records(
+        EntryKind::Places,
+        ShiftForm::WithoutSettings,
+        file,
+        first,
+        entries,
+    );
     tell_reading(reading, told)
 }
 

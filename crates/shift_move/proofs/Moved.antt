@@ -2,7 +2,7 @@
 use Prim.Native.Nat.{ℕ, _+_, _*_, _≤_}
 use mathlib.Core.Path.{_≡_, refl, ap, sym, _∙_}
 use mathlib.Core.Bool.{Bool, true, _&&_}
-use mathlib.Core.List.{List, [], _∷_, _++_, append-assoc, append-nil}
+use mathlib.Core.List.{List, [], _∷_, _++_, append-assoc}
 use native.Mathlib.Nat.{add-assoc}
 use native.Mathlib.Omega.{arith}
 use lib.Dec.{eqb}
@@ -18,8 +18,7 @@ use Rattle.little_endian.proofs.Stores.{sets-append}
 use Rattle.shift_file.specs.declared.ShiftForm.{ShiftForm}
 use Rattle.shift_file.specs.declared.ShiftForm.the-variants.{WithoutSettings, WithSettings}
 use Rattle.shift_file.specs.File.{ShiftRecord, Allowed, settingsSize, headerSize, samplingOf, chromaBytes, codesAllowed, bytesOf}
-use Rattle.shift_file.specs.Read.{settingsAt}
-use Rattle.shift_file.proofs.Record.{both, settings-is}
+use Rattle.shift_file.proofs.Record.{both}
 use Rattle.shift_file.proofs.Tests.{four}
 use Rattle.shift_move.specs.Move.{otherForm, plainSettings, isPlain, movedRecord}
 
@@ -144,7 +143,3 @@ module _ (from : ShiftForm) (r : ShiftRecord) (a : Allowed from r) (p : Plain fr
     u = r .u;
     v = r .v;
   }
-
--- the settings as they stand in the record's bytes
-pub settings-of : (form : ShiftForm) (r : ShiftRecord) → Allowed form r → settingsAt form (bytesOf r) ≡ r .settings
-settings-of form r a = ap (settingsAt form) (sym (append-nil (bytesOf r))) ∙ settings-is form r a []

@@ -1,7 +1,7 @@
 -- Record k of a file, where it stands: its pair and its header tell it, and what follows is the record. Assumes nothing.
 use Prim.Native.Nat.{ℕ, zero, suc, _+_, _*_, _^_, _≤_, _<_}
 use mathlib.Core.Path.{_≡_, refl, ap, sym, _∙_}
-use mathlib.Core.List.{List, [], _∷_, _++_, append-assoc}
+use mathlib.Core.List.{List, [], _∷_, _++_, append-assoc, append-nil}
 use native.Mathlib.Omega.{arith}
 use lib.ListN.{length, getD, take, drop, length-append, length-drop}
 use lib.Seq.{drop-drop, drop-append-le, take-at}
@@ -16,7 +16,7 @@ use Rattle.shift_file.proofs.Walk.{offset-in, extent-in}
 use Rattle.shift_file.proofs.File.{length-pairs, after-count, after-pairs, length-file, file-most, bytes-at, pairs-at}
 use Rattle.shift_reader.specs.Entry.{noRecord, nth, offsetOf}
 
-allowed-at : (form : ShiftForm) (k : ℕ) (rs : List ShiftRecord) → EachAllowed form rs → k < length rs → Allowed form (nth rs k)
+pub allowed-at : (form : ShiftForm) (k : ℕ) (rs : List ShiftRecord) → EachAllowed form rs → k < length rs → Allowed form (nth rs k)
 allowed-at form k [] e h = absurd (omega arith)
 allowed-at form zero (r ∷ rs) e h = e .0
 allowed-at form (suc k) (r ∷ rs) e h = allowed-at form k rs (e .1) (omega arith)
@@ -121,3 +121,7 @@ module _ (form : ShiftForm) (r : ShiftRecord) (a : Allowed form r) (t part : Lis
 
   pub height-told : (n : ℕ) → n ≡ heightAt part → n ≡ r .height
   height-told n e = e ∙ rw here (height-is form r a t)
+
+-- the settings as they stand in the record's bytes
+pub settings-there : (form : ShiftForm) (r : ShiftRecord) → Allowed form r → settingsAt form (bytesOf r) ≡ r .settings
+settings-there form r a = ap (settingsAt form) (sym (append-nil (bytesOf r))) ∙ settings-is form r a []

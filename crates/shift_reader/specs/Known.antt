@@ -7,9 +7,10 @@ use lib.ListN.{length}
 use Rattle.shift_file.specs.declared.ShiftForm.{ShiftForm}
 use Rattle.shift_file.specs.File.{IsFileOf, headerSize, bytesOf}
 use Rattle.shift_file.specs.Read.{recordsIn}
+use Rattle.shift_reader.specs.declared.EntryKind.{EntryKind}
 use Rattle.shift_reader.specs.declared.Place.{Place}
 use Rattle.shift_reader.specs.declared.ShiftEntry.{ShiftEntry}
-use Rattle.shift_reader.specs.Entry.{recordOf, offsetOf}
+use Rattle.shift_reader.specs.Entry.{entrySize, recordOf, offsetOf}
 
 -- the file of its records, which are more than k
 pub record HasRecord (form : ShiftForm) (file : List ℕ) (k : ℕ) : Type 0 where
@@ -17,10 +18,10 @@ pub record HasRecord (form : ShiftForm) (file : List ℕ) (k : ℕ) : Type 0 whe
   pub below : k < length (recordsIn form file)
 
 -- so many records from one on, with room for their entries
-pub record EntriesFit (form : ShiftForm) (file : List ℕ) (first count room : ℕ) : Type 0 where
+pub record EntriesFit (kind : EntryKind) (form : ShiftForm) (file : List ℕ) (first count room : ℕ) : Type 0 where
   pub is-file : IsFileOf form file (recordsIn form file)
   pub below : first + count ≤ length (recordsIn form file)
-  pub fit : 11 * count ≤ room
+  pub fit : entrySize kind * count ≤ room
 
 pub record PlaceIs (form : ShiftForm) (file : List ℕ) (k : ℕ) (p : Place) : Type 0 where
   pub offset : p .offset ≡ offsetOf form (recordsIn form file) k

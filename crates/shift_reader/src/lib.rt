@@ -1,5 +1,6 @@
 // Reading a shift file: how many records it has, where each of them and each of its planes stands, and these as parts of the file (RULES 11.4).
 // Nothing is copied: what the check did not look at, the planes, is not looked at here either.
+use shift_file::SettingCodes;
 use shift_file::ShiftForm;
 use yuv_error::YuvAnswer;
 use yuv_error::YuvError;
@@ -7,14 +8,29 @@ ghost use mathlib.Core.Path.{_≡_};
 ghost use Prim.Native.Nat.{_+_, _*_, _≤_, min};
 ghost use lib.ListN.{length};
 ghost use lib.Seq.{sets};
-ghost use Rattle.shift_file.specs.File.{bytesOf};
+ghost use Rattle.shift_file.specs.File.{settingsTold, codeList, bytesOf};
 ghost use Rattle.shift_file.specs.Read.{recordsIn};
-ghost use Rattle.shift_reader.specs.Entry.{recordOf, entriesOf, entryNumbers};
+ghost use Rattle.shift_reader.specs.Entry.{recordOf, entrySize, settingsAfter, entriesOf, entryNumbers};
 ghost use Rattle.shift_reader.specs.Known.{HasRecord, EntriesFit, PlaceIs, EntryIs};
 ghost use Rattle.shift_reader.specs.Reading.{ReadPost};
 
-// The numbers of an entry.
-const ENTRY: usize = 11;
+// What is told of a record: eleven numbers, or its settings after them too.
+pub enum EntryKind {
+    Places,
+    PlacesAndSettings,
+}
+
+impl EntryKind {
+    // The numbers of an entry.
+    fn size(self) -> usize
+        ensures { λ r. ⌜ (r ≡ entrySize self) × (11 ≤ r) × (r ≤ 15) ⌝ }
+    {
+        match self {
+            EntryKind::Places => 11,
+            EntryKind::PlacesAndSettings => 15,
+        }
+    }
+}
 
 // Where a record stands.
 struct Place {
@@ -152,14 +168,60 @@ fn tell_entry(entries: &mut [u64], at: usize, entry: ShiftEntry)
     tell_numbers(entries, at, &numbers)
 }
 
-// So many entries from a record on.
-fn tell_entries(form: ShiftForm, file: &[u8], first: usize, count: usize, entries: &mut [u64])
-    requires { ⌜ EntriesFit form (now file) first count (length (now entries)) ⌝ }
-    ensures { λ _. ⌜ now (entries .exit) ≡ sets (now (entries .entry)) 0 (entriesOf form (recordsIn form (now (file .entry))) first count) ⌝ }
+// The settings of record k; 4:2:0, and nothing recorded, in the form without.
+pub fn settings_of(form: ShiftForm, file: &[u8], k: usize) -> SettingCodes
+    requires { ⌜ HasRecord form (now file) k ⌝ }
+    ensures { λ r. ⌜ codeList r ≡ settingsTold form (recordOf form (now (file .entry)) k .settings) ⌝ }
 {
+    shift_file::settings_told(form, record_part(form, file, k))
+}
+
+fn tell_settings(
+    entries: &mut [u64],
+    at: usize,
+    kind: EntryKind,
+    form: ShiftForm,
+    file: &[u8],
+    k: usize,
+)
+    requires { ⌜ HasRecord form (now file) k ⌝ }
+    requires { ⌜ at + length (settingsAfter kind form (recordOf form (now file) k)) ≤ length (now entries) ⌝ }
+    ensures { λ _. ⌜ now (entries .exit) ≡ sets (now (entries .entry)) at (settingsAfter kind form (recordOf form (now (file .entry)) k)) ⌝ }
+{
+    match kind {
+        EntryKind::Places => {}
+        EntryKind::PlacesAndSettings => {
+            let codes = settings_of(form, file, k);
+            let numbers = [
+                codes.sampling as u64,
+                codes.range as u64,
+                codes.matrix as u64,
+                codes.transfer as u64,
+            ];
+            tell_numbers(entries, at, &numbers);
+        }
+    }
+}
+
+// So many entries from a record on.
+fn tell_entries(
+    kind: EntryKind,
+    form: ShiftForm,
+    file: &[u8],
+    first: usize,
+    count: usize,
+    entries: &mut [u64],
+)
+    requires { ⌜ EntriesFit kind form (now file) first count (length (now entries)) ⌝ }
+    ensures { λ _. ⌜ now (entries .exit) ≡ sets (now (entries .entry)) 0 (entriesOf kind form (recordsIn form (now (file .entry))) first count) ⌝ }
+{
+    let size = kind.size();
+    let mut at = 0;
     let mut i = 0;
     while i < count {
-        tell_entry(entries, ENTRY * i, entry_of(form, file, first + i));
+        tell_entry(entries, at, entry_of(form, file, first + i));
+        tell_settings(entries, at + 11, kind, form, file, first + i);
+        at += size;
         i += 1;
     }
 }
@@ -171,8 +233,14 @@ fn at_most(a: usize, b: usize) -> usize
 }
 
 // How many records a file has, and the entries of those from `first` on that have room; or 15 for bytes that are no shift file, and nothing written.
-pub fn read_records(form: ShiftForm, file: &[u8], first: usize, entries: &mut [u64]) -> ShiftReading
-    ensures { λ r. ⌜ ReadPost form (now (file .entry)) first (now (entries .entry)) r (now (entries .exit)) ⌝ }
+pub fn read_records(
+    kind: EntryKind,
+    form: ShiftForm,
+    file: &[u8],
+    first: usize,
+    entries: &mut [u64],
+) -> ShiftReading
+    ensures { λ r. ⌜ ReadPost kind form (now (file .entry)) first (now (entries .entry)) r (now (entries .exit)) ⌝ }
 {
     if !shift_file::is_file(form, file) {
         return ShiftReading {
@@ -183,8 +251,8 @@ pub fn read_records(form: ShiftForm, file: &[u8], first: usize, entries: &mut [u
     }
     let count = shift_file::count_at(form, file) as usize;
     let from = at_most(first, count);
-    let told = at_most(count - from, entries.len() / ENTRY);
-    tell_entries(form, file, from, told, entries);
+    let told = at_most(count - from, entries.len() / kind.size());
+    tell_entries(kind, form, file, from, told, entries);
     ShiftReading {
         answer: YuvAnswer::Finished,
         count,

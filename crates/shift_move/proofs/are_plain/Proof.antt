@@ -13,9 +13,8 @@ use Rattle.shift_file.specs.File.{Allowed, bytesOf}
 use Rattle.shift_file.specs.Read.{settingsAt, recordsIn}
 use Rattle.shift_file.proofs.Record.{length-bytes}
 use Rattle.shift_reader.specs.Entry.{recordOf}
-use Rattle.shift_reader.proofs.Places.{allowed}
+use Rattle.shift_reader.proofs.Places.{allowed, settings-there}
 use Rattle.shift_move.specs.Move.{isPlain, arePlain}
-use Rattle.shift_move.proofs.Moved.{settings-of}
 use Rattle.shift_move.proofs.Steps.{plain-next, plain-last}
 use Rattle.shift_move.proofs.are_plain.Statement.{statement}
 use Rattle.shift_move.proofs.are_plain.Tie as tie
@@ -38,7 +37,7 @@ plain-here : (c : tie.After-is-plain Inv-loop μ-loop) → let i = c .before .be
     c .is-plain .result ≡ isPlain (recordOf WithSettings (now (a .file)) (i .before .loop .k) .settings)
 plain-here c =
     let i = c .before .before in
-    c .is-plain .ensures ∙ ap isPlain (ap (settingsAt WithSettings) (c .before .record-part .ensures) ∙ settings-of WithSettings _ (here i))
+    c .is-plain .ensures ∙ ap isPlain (ap (settingsAt WithSettings) (c .before .record-part .ensures) ∙ settings-there WithSettings _ (here i))
 
 -- and so of all that are left
 left-here : (c : tie.After-is-plain Inv-loop μ-loop) → let i = c .before .before in let rs = recordsIn WithSettings (now (i .before .before .before .args .file)) in
