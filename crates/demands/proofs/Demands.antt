@@ -49,12 +49,15 @@ use Rattle.shift_reader.specs.Reading.{fileRules}
 use Rattle.shift_reader.proofs.Post as reading
 use Rattle.shift_writer.specs.Writing.{writeRules}
 use Rattle.shift_record.specs.Record.{recordRules}
-use Rattle.segvartin.specs.Shift.{rulesOfReading, rulesOfWriting, rulesOfRecord}
+use Rattle.shift_move.specs.Moving.{moveRules}
+use Rattle.segvartin.specs.Shift.{rulesOfReading, rulesOfReadingAny, rulesOfWriting, rulesOfRecord, rulesOfMove}
 use Rattle.shift_pairs.specs.Pairing.{pairingRules}
 use Rattle.segvartin.specs.Pairs.{rulesOfPairing}
 use Rattle.segvartin.proofs.Pairs.{pairing-first, pairing-writes-nothing}
-use Rattle.segvartin.proofs.Shift.{unwritten, reading-first, reading-writes-nothing, writing-first, writing-writes-nothing, record-first, record-writes-nothing}
+use Rattle.segvartin.proofs.Shift.{unwritten, reading-first, reading-writes-nothing, reading-any-first, reading-any-writes-nothing}
+use Rattle.segvartin.proofs.Shift.{writing-first, writing-writes-nothing, record-first, record-writes-nothing, move-first, move-writes-nothing}
 use Rattle.shift_file.specs.declared.ShiftForm.{ShiftForm}
+use Rattle.shift_file.specs.declared.ShiftForm.the-variants.{WithoutSettings, WithSettings}
 use Rattle.shift_file.specs.Read.{recordsIn}
 use Rattle.shift_file.specs.Check.{isFile, formIn}
 use Rattle.summary_check.specs.Check.{isSummary}
@@ -72,6 +75,11 @@ use Rattle.demands.specs.Demands.{Replied, CountsReplied, Demand1, Deman
 -- the promise's equation, read as the sentence of RULES 7.1
 lowest : (rules : List Rule) {x : Numbers} → inOrder 0 rules ≡ true → x ≡ firstOf rules → Lowest rules x
 lowest rules {x} up = first-is-lowest rules x up .0
+
+-- forward 15, 16; back 15, 20, 16
+moves-in-order : (from : ShiftForm) (file : List ℕ) (room : ℕ) → inOrder 0 (moveRules from file room) ≡ true
+moves-in-order WithoutSettings file room = refl
+moves-in-order WithSettings file room = refl
 
 -- a refusal's number is not 0
 refusal : (a : YuvAnswer) → 1 ≤ numbersOf a .number → (e : YuvError) × (a ≡ Refused e)
@@ -150,6 +158,10 @@ demand-1 = record {
     lowest = lowest (recordRules f y u v (length before)) refl (p .answered);
     writes-nothing = λ l. unwritten (r .answer) _ l (p .written);
   };
+  shift-moving = λ from file before r after p. record {
+    lowest = lowest (moveRules from file (length before)) (moves-in-order from file (length before)) (p .answered);
+    writes-nothing = λ l. unwritten (r .answer) _ l (p .written);
+  };
   summary-build = λ form file before a after p. record {
     lowest = lowest (buildRules form file (length before)) refl (p .answered);
     writes-nothing = λ l. unwritten a _ l (p .written);
@@ -170,9 +182,14 @@ demand-1 = record {
   linked-band = λ k p. record { lowest = lowest (rulesOfBand k) refl (band-first p); writes-nothing = band-writes-nothing p };
   linked-counts = λ k p. record { lowest = lowest (rulesOfCounts k) refl (counts-first p); writes-nothing = counts-write-nothing p };
   linked-shift-reading = λ k p. record { lowest = lowest (rulesOfReading k) refl (reading-first p); writes-nothing = reading-writes-nothing p };
-  linked-shift-writing = λ k p. record { lowest = lowest (rulesOfWriting k) refl (writing-first p); writes-nothing = writing-writes-nothing p };
+  linked-shift-reading-any = λ k p. record { lowest = lowest (rulesOfReadingAny k) refl (reading-any-first p); writes-nothing = reading-any-writes-nothing p };
+  linked-shift-writing = λ form k p. record { lowest = lowest (rulesOfWriting form k) refl (writing-first p); writes-nothing = writing-writes-nothing p };
+  linked-shift-moving = λ from k p. record {
+    lowest = lowest (rulesOfMove from k) (moves-in-order from (k .file) (length (k .output))) (move-first p);
+    writes-nothing = move-writes-nothing p;
+  };
   linked-shift-pairing = λ k p. record { lowest = lowest (rulesOfPairing k) refl (pairing-first p); writes-nothing = pairing-writes-nothing p };
-  linked-shift-record = λ k p. record { lowest = lowest (rulesOfRecord k) refl (record-first p); writes-nothing = record-writes-nothing p };
+  linked-shift-record = λ form k p. record { lowest = lowest (rulesOfRecord form k) refl (record-first p); writes-nothing = record-writes-nothing p };
   linked-summary-build = λ k p. record { lowest = lowest (rulesOfBuild k) refl (build-first p); writes-nothing = build-writes-nothing p };
   linked-summary-check = λ k p. (
     lowest (rulesOfCheck k) refl (check-first p),

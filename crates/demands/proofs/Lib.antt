@@ -5,3 +5,4 @@ pub mod Counts
 pub mod ShiftFiles
 pub mod ShiftSummaries
 pub mod ShiftPairs
+pub mod ShiftMoves

@@ -230,6 +230,7 @@ shift-files = record {
   refused = λ kind form file first before r after bytes p.
       by-test (isFile form file) (numbers 0 0 0) (some-list form file bytes) (λ z. omega arith) (ap (λ (x : Numbers). x .number) (p .answered));
   read = λ kind form file first before r after rs f p. told kind form file first before r after rs f p (its-records form file rs f);
+  linked-reading = λ k p form rs f. rw (form-of form (k .file) rs f) at (p .read);
   write-refused = λ form records before r after bytes p.
       by-test (areRecords form records) (firstOf (outputRules (length (fileMade form records)) (length before))) (some-records form records bytes)
       (short-is-not (ltb (length before) (length (fileMade form records)))) (ap (λ (x : Numbers). x .number) (p .answered));

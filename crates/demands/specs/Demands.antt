@@ -1,9 +1,9 @@
 -- The three demands, one after the other, and what else is claimed of all calls. Each cites definitions alone: the promises of the calls
--- (`FramePost`, `OpenPost`, `BandPost`, `CountsPost`, `ReadPost`, `WritePost`, `RecordPost`, `BuildPost`, `CheckPost`, `FindPost`, `UpdatePost`,
--- `PairingPost`, `RequestPost`, `Begins`, and `..Kept` of the calls that C and Rust link, the very predicates of their `ensures`), which hold of every
+-- (`FramePost`, `OpenPost`, `BandPost`, `CountsPost`, `ReadPost`, `WritePost`, `RecordPost`, `MovePost`, `BuildPost`, `CheckPost`, `FindPost`,
+-- `UpdatePost`, `PairingPost`, `RequestPost`, `Begins`, and `..Kept` of the calls that C and Rust link, the very predicates of their `ensures`), which hold of every
 -- call whatever it is given, and the rules, rows, planes, curves, files, summaries and reports that they speak of. Their proofs are `demand-1`,
--- `demand-2` and `demand-3` of proofs/Demands.antt, `grey` of Grey.antt, `counts` of Counts.antt, `shift-files` of ShiftFiles.antt, `shift-summaries`
--- of ShiftSummaries.antt and `shift-pairs` of ShiftPairs.antt.
+-- `demand-2` and `demand-3` of proofs/Demands.antt, `grey` of Grey.antt, `counts` of Counts.antt, `shift-files` of ShiftFiles.antt, `shift-moves`
+-- of ShiftMoves.antt, `shift-summaries` of ShiftSummaries.antt and `shift-pairs` of ShiftPairs.antt.
 -- Assumes nothing.
 use Prim.Native.Nat.{ℕ, _+_, _*_, _≤_, _<_}
 use mathlib.Core.Path.{_≡_}
@@ -49,11 +49,13 @@ use Rattle.exact_weights.specs.Near.{MatrixNear}
 use Rattle.grey.specs.Grey.{greyOf, GreyRows, LumaOfGrey, GreyPlanes}
 use Rattle.little_endian.specs.Number.{Bytes}
 use Rattle.shift_file.specs.declared.ShiftForm.{ShiftForm}
+use Rattle.shift_file.specs.declared.ShiftForm.the-variants.{WithoutSettings, WithSettings}
 use Rattle.shift_file.specs.File.{ShiftRecord, Allowed, codesAllowed, recordsAt, bytesOf, fileOf, HasFile, IsFileOf}
 use Rattle.shift_file.specs.Check.{formIn}
 use Rattle.shift_file.specs.Means.{SomeList, OneList, ReadBack, Rewritten, OneForm, FormOfFile, SomeForm}
 use Rattle.shift_reader.specs.declared.ShiftReading.{ShiftReading}
 use Rattle.shift_reader.specs.declared.EntryKind.{EntryKind}
+use Rattle.shift_reader.specs.declared.EntryKind.the-variants.{PlacesAndSettings}
 use Rattle.shift_reader.specs.Entry.{nth, offsetOf, entrySize, entriesOf}
 use Rattle.shift_reader.specs.Reading.{fileRules, ReadPost}
 use Rattle.shift_writer.specs.declared.ShiftWritten.{ShiftWritten}
@@ -61,9 +63,13 @@ use Rattle.shift_writer.specs.Records.{BackToBack}
 use Rattle.shift_writer.specs.Writing.{writeRules, WritePost}
 use Rattle.shift_record.specs.declared.RecordFrame.{RecordFrame}
 use Rattle.shift_record.specs.Record.{settingsOf, frameSampling, recordMade, recordSize, recordRules, RecordPost}
-use Rattle.segvartin.specs.Shift.{ExportedReading, rulesOfReading, ReadingKept}
+use Rattle.shift_move.specs.Move.{otherForm, mayMove, moved, movedFile}
+use Rattle.shift_move.specs.Moving.{moveRules, MovePost}
+use Rattle.shift_move.specs.Means.{MovedIsFile, MayReturn, ThereAndBack}
+use Rattle.segvartin.specs.Shift.{ExportedReading, rulesOfReading, ReadingKept, rulesOfReadingAny, ReadingAnyKept}
 use Rattle.segvartin.specs.Shift.{ExportedWriting, rulesOfWriting, WritingKept}
 use Rattle.segvartin.specs.Shift.{ExportedRecord, rulesOfRecord, RecordKept}
+use Rattle.segvartin.specs.Shift.{ExportedMove, rulesOfMove, MoveKept}
 use Rattle.shift_summary.specs.Summary.{IsSummary, OneSummary}
 use Rattle.summary_calls.specs.declared.FoundRecord.the-variants.{At, Nowhere}
 use Rattle.summary_calls.specs.declared.SummaryVerdict.{SummaryVerdict}
@@ -103,7 +109,7 @@ CountsReplied input bytes =
     → (x .number ≡ 0 → bytes ≡ lines (countOf (rangeOf input) (matrixOf input)) 256) × (1 ≤ x .number → bytes ≡ refusalLine (x .number))
 
 -- RULES 7.1, 7.2: of the calls of Rattle, which are frame, opening, band, a count of colours, reading and writing a shift file, one record of it,
--- building, checking, asking and updating its summary, pairing two files, and a request of the program; then of those that C and Rust link, whose
+-- moving a file to its other form, building, checking, asking and updating its summary, pairing two files, and a request of the program; then of those that C and Rust link, whose
 -- numbers come first to be refused
 pub record Demand1 : Type 0 where
   pub frame : (k : FrameCall) → FramePost k → Answered (frameRules k) (numbersOf (k .answer)) (Unwritten k)
@@ -117,6 +123,8 @@ pub record Demand1 : Type 0 where
       → Answered (writeRules form records (length before)) (numbersOf (r .answer)) (after ≡ before)
   pub shift-record : (f : RecordFrame) (y u v before : List ℕ) (r : ShiftWritten) (after : List ℕ) → RecordPost f y u v before r after
       → Answered (recordRules f y u v (length before)) (numbersOf (r .answer)) (after ≡ before)
+  pub shift-moving : (from : ShiftForm) (file before : List ℕ) (r : ShiftWritten) (after : List ℕ) → MovePost from file before r after
+      → Answered (moveRules from file (length before)) (numbersOf (r .answer)) (after ≡ before)
   pub summary-build : (form : ShiftForm) (file before : List ℕ) (a : YuvAnswer) (after : List ℕ) → BuildPost form file before a after
       → Answered (buildRules form file (length before)) (numbersOf a) (after ≡ before)
   -- these two are lent nothing to write in: refused, the one says no and the other finds nothing
@@ -138,11 +146,17 @@ pub record Demand1 : Type 0 where
   pub linked-band : (k : ExportedBand) → BandKept k
       → Answered (rulesOfBand k) (numbersTold (k .number) (k .told)) (Kept k (doneTold (k .told)))
   pub linked-counts : (k : ExportedCounts) → CountsKept k → Answered (rulesOfCounts k) (numbersTold (k .number) (k .told)) (k .counts′ ≡ k .counts)
-  -- 15, 16 and 17 come without expected and received, so the number alone tells the answer of these two, of the summary's four, and of the pairing
+  -- 15, 16, 17 and 20 come without expected and received, so the number alone tells the answer of these, of the summary's four, and of the pairing
   pub linked-shift-reading : (k : ExportedReading) → ReadingKept k → Answered (rulesOfReading k) (numbers (k .number) 0 0) (k .entries′ ≡ k .entries)
-  pub linked-shift-writing : (k : ExportedWriting) → WritingKept k → Answered (rulesOfWriting k) (numbers (k .number) 0 0) (k .file′ ≡ k .file)
+  pub linked-shift-reading-any : (k : ExportedReading) → ReadingAnyKept k
+      → Answered (rulesOfReadingAny k) (numbers (k .number) 0 0) (k .entries′ ≡ k .entries)
+  pub linked-shift-writing : (form : ShiftForm) (k : ExportedWriting) → WritingKept form k
+      → Answered (rulesOfWriting form k) (numbers (k .number) 0 0) (k .file′ ≡ k .file)
+  pub linked-shift-moving : (from : ShiftForm) (k : ExportedMove) → MoveKept from k
+      → Answered (rulesOfMove from k) (numbers (k .number) 0 0) (k .output′ ≡ k .output)
   pub linked-shift-pairing : (k : ExportedPairing) → PairingKept k → Answered (rulesOfPairing k) (numbers (k .number) 0 0) (k .report′ ≡ k .report)
-  pub linked-shift-record : (k : ExportedRecord) → RecordKept k → Answered (rulesOfRecord k) (numbersTold (k .number) (k .told)) (k .output′ ≡ k .output)
+  pub linked-shift-record : (form : ShiftForm) (k : ExportedRecord) → RecordKept form k
+      → Answered (rulesOfRecord form k) (numbersTold (k .number) (k .told)) (k .output′ ≡ k .output)
   pub linked-summary-build : (k : ExportedBuild) → BuildKept k → Answered (rulesOfBuild k) (numbers (k .number) 0 0) (k .summary′ ≡ k .summary)
   pub linked-summary-check : (k : ExportedCheck) → CheckKept k
       → Lowest (rulesOfCheck k) (numbers (k .number) 0 0) × (1 ≤ k .number → k .told ≡ 0 ∷ [])
@@ -324,6 +338,9 @@ pub record ShiftFiles : Type 0 where
   pub read : (kind : EntryKind) (form : ShiftForm) (file : List ℕ) (first : ℕ) (before : List ℕ) (r : ShiftReading) (after : List ℕ) (rs : List ShiftRecord)
       → IsFileOf form file rs → ReadPost kind form file first before r after
       → (r .count ≡ length rs) × (after ≡ entriesOf kind form rs first (r .told) ++ drop (entrySize kind * r .told) before)
+  -- for who links the library: the reader of either form reads in the one that the file has
+  pub linked-reading : (k : ExportedReading) (p : ReadingAnyKept k) (form : ShiftForm) (rs : List ShiftRecord) → IsFileOf form (k .file) rs
+      → ReadPost PlacesAndSettings form (k .file) (k .first) (k .entries) (p .reading) (k .entries′)
   pub write-refused : (form : ShiftForm) (records before : List ℕ) (r : ShiftWritten) (after : List ℕ) → Bytes records
       → WritePost form records before r after → (numbersOf (r .answer) .number ≡ 15) ↔ NoRecords form records
   pub written : (form : ShiftForm) (records before : List ℕ) (r : ShiftWritten) (after : List ℕ) (rs : List ShiftRecord)
@@ -340,6 +357,47 @@ pub record ShiftFiles : Type 0 where
   pub frame-accepted : (k : FrameCall) (f : RecordFrame) (before : List ℕ) (r : ShiftWritten) (after : List ℕ) → FramePost k → k .answer ≡ Finished
       → OfFrame k f → RecordPost f (k .y′) (k .u′) (k .v′) before r after → recordSize f ≤ length before → r .answer ≡ Finished
   pub frame : (k : FrameCall) (f : RecordFrame) → FramePost k → k .answer ≡ Finished → OfFrame k f → RecordBytes k (recordMade f (k .y′) (k .u′) (k .v′))
+
+-- ---- A shift file moved to its other form: forward sets 4:2:0 and records nothing else, back drops just that, and there and back it is the same file,
+-- byte for byte. 15, 20 and 16 are answered exactly where they are due, and a reader of one form answers 15 to every file of the other.
+
+-- RULES 11.8: 4:2:0, and range, matrix and transfer not recorded
+pub record NothingRecorded (r : ShiftRecord) : Type 0 where
+  pub sampling : getD (r .settings) 0 0 ≡ 0
+  pub range : getD (r .settings) 1 0 ≡ 255
+  pub matrix : getD (r .settings) 2 0 ≡ 255
+  pub transfer : getD (r .settings) 3 0 ≡ 255
+
+-- RULES 11.7, 11.8
+pub record ShiftMoves : Type 0 where
+  -- of the definitions
+  pub moved-is-file : MovedIsFile
+  pub may-return : MayReturn
+  pub there-and-back : ThereAndBack
+  -- of the calls: 15
+  pub refused : (from : ShiftForm) (file before : List ℕ) (r : ShiftWritten) (after : List ℕ) → Bytes file → MovePost from file before r after
+      → (numbersOf (r .answer) .number ≡ 15) ↔ NoFile from file
+  -- 20, where a record to be moved back has 4:2:2 or a recorded setting; and forward never
+  pub recorded : (file before : List ℕ) (r : ShiftWritten) (after : List ℕ) (rs : List ShiftRecord) → IsFileOf WithSettings file rs
+      → MovePost WithSettings file before r after
+      → (numbersOf (r .answer) .number ≡ 20) ↔ ((i : ℕ) × (i < length rs) × (NothingRecorded (nth rs i) → ⊥))
+  pub none-forward : (file before : List ℕ) (r : ShiftWritten) (after : List ℕ) → MovePost WithoutSettings file before r after
+      → numbersOf (r .answer) .number ≡ 20 → ⊥
+  -- 16
+  pub short : (from : ShiftForm) (file before : List ℕ) (r : ShiftWritten) (after : List ℕ) (rs : List ShiftRecord) → IsFileOf from file rs
+      → mayMove from rs ≡ true → MovePost from file before r after → (numbersOf (r .answer) .number ≡ 16) ↔ (length before < length (movedFile from file))
+  -- and otherwise the file of the moved records
+  pub moved-there : (from : ShiftForm) (file before : List ℕ) (r : ShiftWritten) (after : List ℕ) (rs : List ShiftRecord) → IsFileOf from file rs
+      → MovePost from file before r after → r .answer ≡ Finished
+      → IsFileOf (otherForm from) (take (r .size) after) (moved (otherForm from) rs) × (drop (r .size) after ≡ drop (r .size) before)
+  -- which moved back, wherever there is room, is the same file
+  pub moved-back : (from : ShiftForm) (file before : List ℕ) (r : ShiftWritten) (after : List ℕ) → Bytes file → MovePost from file before r after
+      → r .answer ≡ Finished → (before₂ : List ℕ) (r₂ : ShiftWritten) (after₂ : List ℕ) → MovePost (otherForm from) (take (r .size) after) before₂ r₂ after₂
+      → length file ≤ length before₂ → (r₂ .answer ≡ Finished) × (take (r₂ .size) after₂ ≡ file)
+  -- a reader of one form answers 15 to a file of the other
+  pub other-reader : (kind : EntryKind) (form : ShiftForm) (file : List ℕ) (rs : List ShiftRecord) → IsFileOf form file rs
+      → (first : ℕ) (before : List ℕ) (r : ShiftReading) (after : List ℕ) → ReadPost kind (otherForm form) file first before r after
+      → numbersOf (r .answer) .number ≡ 15
 
 -- ---- The summary of a shift file: a file has one, byte for byte; what is built is the summary, the check says yes exactly where it is there, a lookup finds
 -- the first record of a crossing, or none exactly where there is none, and an update leaves the bytes that are built afresh of the grown file, which is the

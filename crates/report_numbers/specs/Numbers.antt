@@ -4,6 +4,7 @@ use Prim.Native.Nat.{ℕ}
 use mathlib.Core.List.{List, [], _∷_}
 use Rattle.yuv_error.specs.declared.YuvAnswer.{YuvAnswer}
 use Rattle.yuv_error.specs.declared.YuvAnswer.the-variants.{Finished, Refused}
+use Rattle.setting_codes.specs.Codes.{samplingCode}
 use Rattle.record_difference.specs.declared.Plane.{Plane}
 use Rattle.record_difference.specs.declared.Plane.the-variants.{Y, U, «V»}
 use Rattle.record_difference.specs.declared.RecordDifference.{RecordDifference}
@@ -29,6 +30,8 @@ noNumbers = record {
   plane = 0;
   row = 0;
   column = 0;
+  «our_sampling» = 0;
+  «their_sampling» = 0;
 }
 
 -- RULES 10.7: sizes are kind 1, a place is kind 2
@@ -43,6 +46,8 @@ differenceNumbers (Sizes a b) = record {
   plane = 0;
   row = 0;
   column = 0;
+  «our_sampling» = samplingCode (a .sampling);
+  «their_sampling» = samplingCode (b .sampling);
 }
 differenceNumbers (At p) = record {
   kind = 2;
@@ -53,16 +58,18 @@ differenceNumbers (At p) = record {
   plane = planeNumber (p .plane);
   row = p .row;
   column = p .column;
+  «our_sampling» = 0;
+  «their_sampling» = 0;
 }
 
--- RULES 10.7: counts, the first difference's kind and pair, sizes, place, three times 0
+-- RULES 10.7: counts, the first difference's kind and pair, sizes, place, samplings, 0
 unfoldable pub reportNumbers : PairReport → List ℕ
 reportNumbers r =
     let d = differenceNumbers (r .first .difference) in
     r .equal ∷ r .differing ∷ r .«only_ours» ∷ r .«only_theirs»
     ∷ d .kind ∷ r .first .crossing ∷ r .first .ours ∷ r .first .theirs
     ∷ d .«our_width» ∷ d .«our_height» ∷ d .«their_width» ∷ d .«their_height»
-    ∷ d .plane ∷ d .row ∷ d .column ∷ 0 ∷ 0 ∷ 0 ∷ []
+    ∷ d .plane ∷ d .row ∷ d .column ∷ d .«our_sampling» ∷ d .«their_sampling» ∷ 0 ∷ []
 
 -- RULES 10.7: what the lent numbers are after a call
 abbrev pub numbersAfter : YuvAnswer → PairReport → (before : List ℕ) → List ℕ

@@ -18,6 +18,8 @@ pub struct DifferenceNumbers {
     pub plane: u64,
     pub row: u64,
     pub column: u64,
+    pub our_sampling: u64,
+    pub their_sampling: u64,
 }
 
 fn plane_number(plane: Plane) -> u64
@@ -43,17 +45,25 @@ fn difference_numbers(difference: RecordDifference) -> DifferenceNumbers
             plane: 0,
             row: 0,
             column: 0,
+            our_sampling: 0,
+            their_sampling: 0,
         },
-        RecordDifference::Sizes(ours, theirs) => DifferenceNumbers {
-            kind: 1,
-            our_width: ours.width as u64,
-            our_height: ours.height as u64,
-            their_width: theirs.width as u64,
-            their_height: theirs.height as u64,
-            plane: 0,
-            row: 0,
-            column: 0,
-        },
+        RecordDifference::Sizes(ours, theirs) => {
+            let our_sampling = ours.sampling;
+            let their_sampling = theirs.sampling;
+            DifferenceNumbers {
+                kind: 1,
+                our_width: ours.width as u64,
+                our_height: ours.height as u64,
+                their_width: theirs.width as u64,
+                their_height: theirs.height as u64,
+                plane: 0,
+                row: 0,
+                column: 0,
+                our_sampling: setting_codes::sampling_code(our_sampling) as u64,
+                their_sampling: setting_codes::sampling_code(their_sampling) as u64,
+            }
+        }
         RecordDifference::At(place) => {
             let plane = place.plane;
             DifferenceNumbers {
@@ -65,13 +75,15 @@ fn difference_numbers(difference: RecordDifference) -> DifferenceNumbers
                 plane: plane_number(plane),
                 row: place.row as u64,
                 column: place.column as u64,
+                our_sampling: 0,
+                their_sampling: 0,
             }
         }
     }
 }
 
 // Equal, differing, only ours, only theirs; the kind of the first difference, the crossing of its pair and the places of its records; width and
-// height of ours and of theirs; plane, row and column; three times 0.
+// height of ours and of theirs; plane, row and column; the samplings of ours and of theirs; 0.
 fn tell_report(report: PairReport, numbers: &mut [u64])
     requires { ⌜ length (now numbers) ≡ 18 ⌝ }
     ensures { λ _. ⌜ now (numbers .exit) ≡ reportNumbers report ⌝ }
@@ -94,8 +106,8 @@ fn tell_report(report: PairReport, numbers: &mut [u64])
     numbers[12] = told.plane;
     numbers[13] = told.row;
     numbers[14] = told.column;
-    numbers[15] = 0;
-    numbers[16] = 0;
+    numbers[15] = told.our_sampling;
+    numbers[16] = told.their_sampling;
     numbers[17] = 0;
 }
 

@@ -8,12 +8,15 @@ use Rattle.yuv_error.specs.declared.YuvAnswer.{YuvAnswer}
 use Rattle.yuv_error.specs.declared.YuvAnswer.the-variants.{Refused}
 use Rattle.yuv_error.specs.Numbers.{Numbers, numbers, numbersOf}
 use Rattle.yuv_error.specs.Rules.{Rule, firstOf}
+use Rattle.shift_file.specs.declared.ShiftForm.{ShiftForm}
+use Rattle.shift_file.specs.declared.ShiftForm.the-variants.{WithoutSettings, WithSettings}
 use Rattle.shift_reader.proofs.Post.{refused-writes-nothing}
 use Rattle.shift_writer.specs.Output.{overwritten}
 use Rattle.segvartin.specs.Lists.{numbersTold}
-use Rattle.segvartin.specs.Shift.{ExportedReading, rulesOfReading, ReadingKept}
+use Rattle.segvartin.specs.Shift.{ExportedReading, rulesOfReading, ReadingKept, rulesOfReadingAny, ReadingAnyKept}
 use Rattle.segvartin.specs.Shift.{ExportedWriting, rulesOfWriting, WritingKept}
 use Rattle.segvartin.specs.Shift.{ExportedRecord, rulesOfRecord, RecordKept}
+use Rattle.segvartin.specs.Shift.{ExportedMove, rulesOfMove, MoveKept}
 use Rattle.segvartin.proofs.Lists.{is-refused}
 
 -- rules that say no size
@@ -45,16 +48,35 @@ module _ {k : ExportedReading} (p : ReadingKept k) where
   reading-writes-nothing l =
       refused-writes-nothing (is-refused (p .reading .answer) (subst (λ (n : ℕ). 1 ≤ n) (p .number) l) .1) (p .read)
 
-module _ {k : ExportedWriting} (p : WritingKept k) where
-  pub writing-first : numbers (k .number) 0 0 ≡ firstOf (rulesOfWriting k)
-  writing-first = alone (rulesOfWriting k) (p .written .answer) (refl, (refl, tt)) (p .number) (p .wrote .answered)
+module _ {k : ExportedReading} (p : ReadingAnyKept k) where
+  pub reading-any-first : numbers (k .number) 0 0 ≡ firstOf (rulesOfReadingAny k)
+  reading-any-first = alone (rulesOfReadingAny k) (p .reading .answer) (refl, tt) (p .number) (p .read .answered)
+
+  pub reading-any-writes-nothing : 1 ≤ k .number → k .entries′ ≡ k .entries
+  reading-any-writes-nothing l =
+      refused-writes-nothing (is-refused (p .reading .answer) (subst (λ (n : ℕ). 1 ≤ n) (p .number) l) .1) (p .read)
+
+module _ {form : ShiftForm} {k : ExportedWriting} (p : WritingKept form k) where
+  pub writing-first : numbers (k .number) 0 0 ≡ firstOf (rulesOfWriting form k)
+  writing-first = alone (rulesOfWriting form k) (p .written .answer) (refl, (refl, tt)) (p .number) (p .wrote .answered)
 
   pub writing-writes-nothing : 1 ≤ k .number → k .file′ ≡ k .file
   writing-writes-nothing l = unwritten (p .written .answer) _ (subst (λ (n : ℕ). 1 ≤ n) (p .number) l) (p .wrote .written)
 
-module _ {k : ExportedRecord} (p : RecordKept k) where
-  pub record-first : numbersTold (k .number) (k .told) ≡ firstOf (rulesOfRecord k)
+module _ {form : ShiftForm} {k : ExportedRecord} (p : RecordKept form k) where
+  pub record-first : numbersTold (k .number) (k .told) ≡ firstOf (rulesOfRecord form k)
   record-first = rw (p .number, p .told) (p .wrote .answered)
 
   pub record-writes-nothing : 1 ≤ k .number → k .output′ ≡ k .output
   record-writes-nothing l = unwritten (p .written .answer) _ (subst (λ (n : ℕ). 1 ≤ n) (p .number) l) (p .wrote .written)
+
+plain-moves : (from : ShiftForm) (k : ExportedMove) → Plain (rulesOfMove from k)
+plain-moves WithoutSettings k = (refl, (refl, tt))
+plain-moves WithSettings k = (refl, (refl, (refl, tt)))
+
+module _ {from : ShiftForm} {k : ExportedMove} (p : MoveKept from k) where
+  pub move-first : numbers (k .number) 0 0 ≡ firstOf (rulesOfMove from k)
+  move-first = alone (rulesOfMove from k) (p .written .answer) (plain-moves from k) (p .number) (p .moved .answered)
+
+  pub move-writes-nothing : 1 ≤ k .number → k .output′ ≡ k .output
+  move-writes-nothing l = unwritten (p .written .answer) _ (subst (λ (n : ℕ). 1 ≤ n) (p .number) l) (p .moved .written)

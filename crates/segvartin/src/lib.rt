@@ -27,7 +27,9 @@ ghost use Rattle.segvartin.specs.Counts.{exportedCounts, CountsAnswered,
 ghost use Rattle.segvartin.specs.Summary.{exportedBuild, BuildKept, exportedCheck, asNumber, CheckKept};
 ghost use Rattle.segvartin.specs.Summary.{exportedFind, foundCount, foundPlace, FindKept, exportedUpdate, UpdateKept};
 ghost use Rattle.segvartin.specs.Pairs.{exportedPairing, PairingKept};
-ghost use Rattle.segvartin.specs.Shift.{exportedReading, ReadingKept, exportedWriting, WritingKept, exportedRecord, RecordKept};
+ghost use Rattle.yuv_error.specs.Lent.{taken};
+ghost use Rattle.segvartin.specs.Shift.{exportedReading, ReadingKept, formNumber, ReadingAnyKept, exportedWriting, WritingKept};
+ghost use Rattle.segvartin.specs.Shift.{exportedRecord, RecordKept, exportedMove, MoveKept};
 
 // What stands before the description: the source's stride of a frame; the rows done, the rows and the source's stride of a band.
 const OF_FRAME: usize = 1;
@@ -221,6 +223,53 @@ pub extern "C" fn segvartin_call_shift_records(
     tell_reading(reading, told)
 }
 
+fn form_told(answer: YuvAnswer, form: ShiftForm) -> usize
+    ensures { λ r. ⌜ r ≡ taken answer (formNumber form) ⌝ }
+{
+    match answer {
+        YuvAnswer::Finished => match form {
+            ShiftForm::WithoutSettings => 0,
+            ShiftForm::WithSettings => 1,
+        },
+        YuvAnswer::Refused(_) => 0,
+    }
+}
+
+fn tell_reading_any(reading: ShiftReading, form: ShiftForm, told: &mut [usize]) -> u32
+    requires { ⌜ 3 ≤ length (now told) ⌝ }
+    ensures { λ n. ⌜ (n ≡ numbersOf (reading .answer) .number)
+        × (now (told .exit) ≡ set (set (set (now (told .entry)) 0 (reading .count)) 1 (reading .told)) 2 (taken (reading .answer) (formNumber form))) ⌝ }
+{
+    let answer = reading.answer;
+    told[0] = reading.count;
+    told[1] = reading.told;
+    told[2] = form_told(answer, form);
+    number_of(answer)
+}
+
+// As `segvartin_call_shift_records`, of a file of either form, with fifteen numbers an entry: the eleven, then the codes of sampling, range, matrix
+// and transfer, 255 in the last three for not recorded; of a record without settings 0, 255, 255 and 255. told: the count, how many records were
+// told of, and 1 for a file with settings, else 0.
+#[no_mangle]
+pub extern "C" fn segvartin_call_shift_records_any(
+    file: &[u8],
+    first: usize,
+    entries: &mut [u64],
+    told: &mut [usize; 3],
+) -> u32
+    ensures { λ n. ⌜ ReadingAnyKept (exportedReading (now (file .entry)) first (now (entries .entry)) n (now (told .exit)) (now (entries .exit))) ⌝ }
+{
+    let form = shift_file::form_of(file);
+    let reading = shift_reader::read_records(
+        EntryKind::PlacesAndSettings,
+        form,
+        file,
+        first,
+        entries,
+    );
+    tell_reading_any(reading, form, told)
+}
+
 fn tell_size(written: ShiftWritten, told: &mut [usize]) -> u32
     requires { ⌜ 1 ≤ length (now told) ⌝ }
     ensures { λ n. ⌜ (n ≡ numbersOf (written .answer) .number) × (now (told .exit) ≡ set (now (told .entry)) 0 (written .size)) ⌝ }
@@ -239,9 +288,51 @@ pub extern "C" fn segvartin_call_shift_write(
     file: &mut [u8],
     told: &mut [usize; 1],
 ) -> u32
-    ensures { λ n. ⌜ WritingKept (exportedWriting (now (records .entry)) (now (file .entry)) n (now (told .exit)) (now (file .exit))) ⌝ }
+    ensures { λ n. ⌜ WritingKept ShiftForm.WithoutSettings (exportedWriting (now (records .entry)) (now (file .entry)) n (now (told .exit)) (now (file .exit))) ⌝ }
 {
     let written = shift_writer::write_file(ShiftForm::WithoutSettings, records, file);
+    tell_size(written, told)
+}
+
+// As `segvartin_call_shift_write`, of records and a file with settings.
+#[no_mangle]
+pub extern "C" fn segvartin_call_shift_write_settings(
+    records: &[u8],
+    file: &mut [u8],
+    told: &mut [usize; 1],
+) -> u32
+    ensures { λ n. ⌜ WritingKept ShiftForm.WithSettings (exportedWriting (now (records .entry)) (now (file .entry)) n (now (told .exit)) (now (file .exit))) ⌝ }
+{
+    let written = shift_writer::write_file(ShiftForm::WithSettings, records, file);
+    tell_size(written, told)
+}
+
+// Writes a shift file without settings as one with them, 4:2:0 and nothing recorded, at the front of `output` (0); or answers 15 where these bytes are
+// no shift file without settings, 16 where `output` is shorter than the moved file, and writes nothing. told: the moved file's size, after 16 too.
+#[no_mangle]
+pub extern "C" fn segvartin_call_shift_forward(
+    file: &[u8],
+    output: &mut [u8],
+    told: &mut [usize; 1],
+) -> u32
+    ensures { λ n. ⌜ MoveKept ShiftForm.WithoutSettings (exportedMove (now (file .entry)) (now (output .entry)) n (now (told .exit)) (now (output .exit))) ⌝ }
+{
+    let written = shift_move::move_forward(file, output);
+    tell_size(written, told)
+}
+
+// Writes a shift file with settings as one without them at the front of `output` (0); or answers 15 where these bytes are no shift file with settings,
+// 20 where a record has 4:2:2 or a recorded setting, 16 where `output` is shorter than the moved file, and writes nothing. told: the moved file's
+// size, after 16 too.
+#[no_mangle]
+pub extern "C" fn segvartin_call_shift_back(
+    file: &[u8],
+    output: &mut [u8],
+    told: &mut [usize; 1],
+) -> u32
+    ensures { λ n. ⌜ MoveKept ShiftForm.WithSettings (exportedMove (now (file .entry)) (now (output .entry)) n (now (told .exit)) (now (output .exit))) ⌝ }
+{
+    let written = shift_move::move_back(file, output);
     tell_size(written, told)
 }
 
@@ -268,7 +359,7 @@ pub extern "C" fn segvartin_call_shift_record(
     record: &mut [u8],
     told: &mut [usize; 3],
 ) -> u32
-    ensures { λ n. ⌜ RecordKept (exportedRecord (now (numbers .entry)) (now (y .entry)) (now (u .entry)) (now (v .entry))
+    ensures { λ n. ⌜ RecordKept ShiftForm.WithoutSettings (exportedRecord (now (numbers .entry)) (now (y .entry)) (now (u .entry)) (now (v .entry))
         (now («record» .entry)) n (now (told .exit)) (now («record» .exit))) ⌝ }
 {
     let settings = SettingCodes {
@@ -279,6 +370,41 @@ pub extern "C" fn segvartin_call_shift_record(
     };
     let frame = RecordFrame {
         form: ShiftForm::WithoutSettings,
+        crossing: numbers[0],
+        width: numbers[1],
+        height: numbers[2],
+        settings,
+        y_stride: numbers[3],
+        u_stride: numbers[4],
+        v_stride: numbers[5],
+    };
+    let written = shift_record::write_record(frame, y, u, v, record);
+    tell_written(written, told)
+}
+
+// As `segvartin_call_shift_record`, with settings, and of planes of the sampling among them; 15 also where a setting has no such code. numbers:
+// crossing, width, height, the strides of Y, U and V, then the codes of sampling, range, matrix (6 for Custom) and transfer, 255 in the last three for
+// not recorded.
+#[no_mangle]
+pub extern "C" fn segvartin_call_shift_record_settings(
+    numbers: &[u32; 10],
+    y: &[u8],
+    u: &[u8],
+    v: &[u8],
+    record: &mut [u8],
+    told: &mut [usize; 3],
+) -> u32
+    ensures { λ n. ⌜ RecordKept ShiftForm.WithSettings (exportedRecord (now (numbers .entry)) (now (y .entry)) (now (u .entry)) (now (v .entry))
+        (now («record» .entry)) n (now (told .exit)) (now («record» .exit))) ⌝ }
+{
+    let settings = SettingCodes {
+        sampling: numbers[6],
+        range: numbers[7],
+        matrix: numbers[8],
+        transfer: numbers[9],
+    };
+    let frame = RecordFrame {
+        form: ShiftForm::WithSettings,
         crossing: numbers[0],
         width: numbers[1],
         height: numbers[2],
@@ -410,8 +536,8 @@ fn tell_broken(pairing: Pairing, told: &mut [usize]) -> u32
 // Pairs two shift files, each of either form, the k-th record of a crossing in ours with the k-th in theirs (0); or answers 15 where one is no shift
 // file, and writes no number of the report. report: how many pairs are equal and how many differ, how many records are only in ours and only in
 // theirs; of the first pair that differs the kind (0 none, 1 sizes, 2 a place), its crossing, the places of its records in ours and in theirs; for
-// sizes width and height of ours and of theirs; for a place plane (0 Y, 1 U, 2 V), row and column; three times 0. told: the file that is none, 1 for
-// ours, 2 for theirs, or 0.
+// sizes width and height of ours and of theirs; for a place plane (0 Y, 1 U, 2 V), row and column; for sizes the codes of the samplings of ours
+// and of theirs; 0. told: the file that is none, 1 for ours, 2 for theirs, or 0.
 #[no_mangle]
 pub extern "C" fn segvartin_call_shift_pairs(
     ours: &[u8],

@@ -9,7 +9,23 @@ returns : tie.Need-returns
 returns c = rw (c .enum-told .given .1)
 
 returns-2 : tie.Need-returns-2
-returns-2 c = rw (c .before .before .before .before .before .difference .given .1)
+returns-2 c =
+    let d = c .before .before .before .before .before .before .before in
+    let ours = d .difference .given .0 .0 in
+    let theirs = d .difference .given .0 .1 .0 in
+    rw (d .difference .given .1)
+    (λ i. record {
+      kind = 1;
+      «our_width» = ours .width;
+      «our_height» = ours .height;
+      «their_width» = theirs .width;
+      «their_height» = theirs .height;
+      plane = 0;
+      row = 0;
+      column = 0;
+      «our_sampling» = c .before .sampling-code .ensures i;
+      «their_sampling» = c .sampling-code2 .ensures i;
+    })
 
 returns-3 : tie.Need-returns-3
 returns-3 c =
@@ -24,6 +40,8 @@ returns-3 c =
       plane = c .plane-number .ensures i;
       row = place .row;
       column = place .column;
+      «our_sampling» = 0;
+      «their_sampling» = 0;
     })
 
 pub difference-numbers-spec : {M : Type 1} → statement M
@@ -35,6 +53,10 @@ difference-numbers-spec =
     (λ c. search needs)
     (λ c. search needs)
     (λ c. search needs)
+    (λ c. search needs)
+    (λ c κs. search needs)
+    (λ c. search needs)
+    (λ c κs. search needs)
     (λ c. search needs)
     (λ c. search needs)
     (λ c κs. search needs)

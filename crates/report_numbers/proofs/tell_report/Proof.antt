@@ -21,7 +21,7 @@ stored r d =
     r .equal ∷ r .differing ∷ r .«only_ours» ∷ r .«only_theirs»
     ∷ d .kind ∷ r .first .crossing ∷ r .first .ours ∷ r .first .theirs
     ∷ d .«our_width» ∷ d .«our_height» ∷ d .«their_width» ∷ d .«their_height»
-    ∷ d .plane ∷ d .row ∷ d .column ∷ 0 ∷ 0 ∷ 0 ∷ []
+    ∷ d .plane ∷ d .row ∷ d .column ∷ d .«our_sampling» ∷ d .«their_sampling» ∷ 0 ∷ []
 
 told : (l : List ℕ) (r : PairReport) (d : DifferenceNumbers) → length l ≡ 18 → d ≡ differenceNumbers (r .first .difference)
     → sets l 0 (stored r d) ≡ reportNumbers r
