@@ -181,15 +181,15 @@ uint32_t segvartin_call_shift_write(const uint8_t *records, size_t records_len, 
 
 uint32_t segvartin_call_shift_write_settings(const uint8_t *records, size_t records_len, uint8_t *file, size_t file_len, size_t told[1]);
 
+uint32_t segvartin_call_shift_forward(const uint8_t *file, size_t file_len, uint8_t *output, size_t output_len, size_t told[1]);
+
+uint32_t segvartin_call_shift_back(const uint8_t *file, size_t file_len, uint8_t *output, size_t output_len, size_t told[1]);
+
 uint32_t segvartin_call_shift_record(const uint32_t numbers[6], const uint8_t *y, size_t y_len, const uint8_t *u, size_t u_len,
                                      const uint8_t *v, size_t v_len, uint8_t *record, size_t record_len, size_t told[3]);
 
 uint32_t segvartin_call_shift_record_settings(const uint32_t numbers[10], const uint8_t *y, size_t y_len, const uint8_t *u, size_t u_len,
                                               const uint8_t *v, size_t v_len, uint8_t *record, size_t record_len, size_t told[3]);
-
-uint32_t segvartin_call_shift_forward(const uint8_t *file, size_t file_len, uint8_t *output, size_t output_len, size_t told[1]);
-
-uint32_t segvartin_call_shift_back(const uint8_t *file, size_t file_len, uint8_t *output, size_t output_len, size_t told[1]);
 
 uint32_t segvartin_call_summary_build(const uint8_t *file, size_t file_len, uint8_t *summary, size_t summary_len);
 

@@ -83,6 +83,22 @@ unsafe extern "C" {
         told: &mut [usize; 1],
     ) -> u32;
 
+    pub(crate) fn segvartin_call_shift_forward(
+        file: *const u8,
+        file_len: usize,
+        output: *mut u8,
+        output_len: usize,
+        told: &mut [usize; 1],
+    ) -> u32;
+
+    pub(crate) fn segvartin_call_shift_back(
+        file: *const u8,
+        file_len: usize,
+        output: *mut u8,
+        output_len: usize,
+        told: &mut [usize; 1],
+    ) -> u32;
+
     pub(crate) fn segvartin_call_shift_record(
         numbers: &[u32; 6],
         y: *const u8,
@@ -107,22 +123,6 @@ unsafe extern "C" {
         record: *mut u8,
         record_len: usize,
         told: &mut [usize; 3],
-    ) -> u32;
-
-    pub(crate) fn segvartin_call_shift_forward(
-        file: *const u8,
-        file_len: usize,
-        output: *mut u8,
-        output_len: usize,
-        told: &mut [usize; 1],
-    ) -> u32;
-
-    pub(crate) fn segvartin_call_shift_back(
-        file: *const u8,
-        file_len: usize,
-        output: *mut u8,
-        output_len: usize,
-        told: &mut [usize; 1],
     ) -> u32;
 
     pub(crate) fn segvartin_call_summary_build(
