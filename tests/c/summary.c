@@ -385,7 +385,7 @@ static void full_files(void) {
             segvartin_answer a;
             int yes = 0, found = 0, ordered = 1;
             size_t first = 0, offset = COUNT + PAIR * n;
-            segvartin_shift_record r = {0};
+            segvartin_shift_record r;
             for (size_t k = 0; k < n; k++) {
                 many[k].crossing = equal ? (uint32_t)(k % 3) : (uint32_t)(k * 2654435761u);
                 many[k].w = 1 + (uint32_t)(k % 3);
