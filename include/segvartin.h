@@ -850,8 +850,8 @@ static inline segvartin_answer segvartin_find_any_record(segvartin_bytes file, s
 }
 
 /*
- * The same without the settings: where the file may have them, U and V have as many bytes as the record says, in either sampling. It is not inlined,
- * since gcc would warn, where a caller knows that the record is there, that it may not have been set.
+ * The same without the settings, of a file of either form: U and V have as many bytes as the record says, in either sampling. It is not inlined, since
+ * gcc would warn, where a caller knows that the record is there, that it may not have been set.
  */
 SEGVARTIN_APART segvartin_answer segvartin_find_record(segvartin_bytes file, segvartin_bytes summary, uint32_t crossing,
                                                        segvartin_shift_record *record, int *found) {
