@@ -12,6 +12,14 @@ use lib.ListN.{length, getD, take, drop}
 use lib.Seq.{take-at, drop-at}
 use borrow.Author.Tests.{le-leb, le-ltb}
 use Rattle.yuv_support.specs.declared.YuvChromaSubsampling.{YuvChromaSubsampling}
+use Rattle.yuv_support.specs.declared.YuvChromaSubsampling.the-variants.{Yuv420, Yuv422}
+use Rattle.yuv_support.specs.declared.YuvRange.{YuvRange}
+use Rattle.yuv_support.specs.declared.YuvRange.the-variants.{Limited, Full}
+use Rattle.yuv_support.specs.declared.YuvStandardMatrix.{YuvStandardMatrix}
+use Rattle.yuv_support.specs.declared.YuvStandardMatrix.the-variants.{Bt601, Bt709, Bt2020, Smpte240, «Bt470_6», Fcc, Custom}
+use Rattle.sharp_gamma.specs.declared.SharpYuvGammaTransfer.{SharpYuvGammaTransfer}
+use Rattle.sharp_gamma.specs.declared.SharpYuvGammaTransfer.the-variants.{Srgb, Rec709, Gamma2p2, Gamma2p8}
+use Rattle.setting_codes.specs.Codes.{samplingCodes, samplingCode, rangeCode, matrixCode, transferCode}
 use Rattle.yuv_support.specs.Sampling.{chromaHeight}
 use Rattle.yuv_error.specs.declared.YuvAnswer.{YuvAnswer}
 use Rattle.yuv_error.specs.declared.YuvAnswer.the-variants.{Finished}
@@ -22,11 +30,13 @@ use Rattle.yuv_error.proofs.First.{append-finished}
 use Rattle.yuv_error.proofs.Accepts.{both-pass, planes-pass}
 use Rattle.definitions.specs.Image.{chromaSize, chromaRows, lumaAt, cbAt, crAt}
 use Rattle.definitions.specs.declared.FrameDescription.{FrameDescription}
+use Rattle.definitions.specs.declared.YuvSettings.{YuvSettings}
 use Rattle.sharp_rgba_to_yuv.specs.FrameCall.{FrameCall, imageOf, FramePost}
 use Rattle.little_endian.specs.Number.{Bytes}
 use Rattle.shift_file.specs.declared.ShiftForm.{ShiftForm}
+use Rattle.shift_file.specs.declared.ShiftForm.the-variants.{WithSettings}
 use Rattle.shift_file.specs.declared.SettingCodes.{SettingCodes}
-use Rattle.shift_file.specs.File.{ShiftRecord, Allowed, codesAllowed, isSide, recordsAt, recordBytes, bytesOf, fileOf, IsFileOf}
+use Rattle.shift_file.specs.File.{ShiftRecord, Allowed, isCode, codesAllowed, isSide, recordsAt, recordBytes, bytesOf, fileOf, IsFileOf}
 use Rattle.shift_file.specs.Read.{recordsIn}
 use Rattle.shift_file.specs.Check.{isFile}
 use Rattle.shift_file.proofs.Record.{both, also}
@@ -46,7 +56,7 @@ use Rattle.shift_record.specs.Record.{chromaRows as rowsOfRecord, RecordPost}
 use Rattle.shift_record.specs.Known.{PlanesFit}
 use Rattle.shift_record.proofs.Rows.{length-unpadded, unpadded-at}
 use Rattle.shift_record.proofs.Made.{length-made, planes-fit, is-frame, made-allowed, rows-bounds}
-use Rattle.demands.specs.Demands.{NoFile, NoRecords, OfFrame, RecordBytes, WholeFrame, FrameBytes, ShiftFiles}
+use Rattle.demands.specs.Demands.{NoFile, NoRecords, OfFrame, codesOf, RecordBytes, WholeFrame, FrameBytes, ShiftFiles}
 use Rattle.demands.proofs.Demands.{whole, bytes}
 
 -- ---- 15 by a test that says whether there is something
@@ -217,6 +227,36 @@ frame-is k f o = λ i. record {
   «v_stride» = sym (o .v-stride) i;
 }
 
+sampling-code : (a : YuvChromaSubsampling) → ltb (samplingCode a) 2 ≡ true
+sampling-code Yuv420 = refl
+sampling-code Yuv422 = refl
+
+range-code : (a : YuvRange) → isCode 2 (rangeCode a) ≡ true
+range-code Limited = refl
+range-code Full = refl
+
+matrix-code : (a : YuvStandardMatrix) → isCode 7 (matrixCode a) ≡ true
+matrix-code Bt601 = refl
+matrix-code Bt709 = refl
+matrix-code Bt2020 = refl
+matrix-code Smpte240 = refl
+matrix-code «Bt470_6» = refl
+matrix-code Fcc = refl
+matrix-code (Custom kr kb) = refl
+
+transfer-code : (a : SharpYuvGammaTransfer) → isCode 4 (transferCode a) ≡ true
+transfer-code Srgb = refl
+transfer-code Rec709 = refl
+transfer-code Gamma2p2 = refl
+transfer-code Gamma2p8 = refl
+
+codes-allowed : (s : YuvSettings) → codesAllowed WithSettings (codesOf s) ≡ true
+codes-allowed s = rw (sampling-code (s .sampling), range-code (s .range), matrix-code (s .matrix), transfer-code (s .transfer))
+
+sampling-said : (a : YuvChromaSubsampling) → getD samplingCodes (samplingCode a) Yuv420 ≡ a
+sampling-said Yuv420 = refl
+sampling-said Yuv422 = refl
+
 pub shift-files : ShiftFiles
 shift-files = record {
   some-list = some-list;
@@ -245,4 +285,5 @@ shift-files = record {
   frame = λ k f p is o.
       subst (λ (g : RecordFrame). RecordBytes k (recordMade g (k .y′) (k .u′) (k .v′))) (frame-is k f o)
       (of-frame k p is (f .form) (f .crossing) (f .settings) (o .sampling));
+  frame-codes = λ s. (codes-allowed s, sampling-said (s .sampling));
 }

@@ -27,6 +27,7 @@ use Rattle.sharp_gamma.specs.Curve.{curveOf, underCurve, underInverse}
 use Rattle.sharp_gamma.specs.declared.TableRounding.{TableRounding}
 use Rattle.sharp_gamma.specs.Entry.{place, linearEntry, gammaEntry}
 use Rattle.definitions.specs.declared.FrameDescription.{FrameDescription}
+use Rattle.definitions.specs.declared.YuvSettings.{YuvSettings}
 use Rattle.definitions.specs.Row.{pixelsOf}
 use Rattle.definitions.specs.Image.{Image, pixelSize, sourceRowSize, chromaSize, chromaRows, frameImage, lumaAt, cbAt, crAt}
 use Rattle.yuv_error.specs.Lent.{openingRules}
@@ -50,7 +51,8 @@ use Rattle.grey.specs.Grey.{greyOf, GreyRows, LumaOfGrey, GreyPlanes}
 use Rattle.little_endian.specs.Number.{Bytes}
 use Rattle.shift_file.specs.declared.ShiftForm.{ShiftForm}
 use Rattle.shift_file.specs.declared.ShiftForm.the-variants.{WithoutSettings, WithSettings}
-use Rattle.shift_file.specs.File.{ShiftRecord, Allowed, codesAllowed, recordsAt, bytesOf, fileOf, HasFile, IsFileOf}
+use Rattle.setting_codes.specs.Codes.{samplingCode, rangeCode, matrixCode, transferCode}
+use Rattle.shift_file.specs.File.{ShiftRecord, Allowed, codesAllowed, samplingOf, recordsAt, bytesOf, fileOf, HasFile, IsFileOf}
 use Rattle.shift_file.specs.Check.{formIn}
 use Rattle.shift_file.specs.Means.{SomeList, OneList, ReadBack, Rewritten, OneForm, FormOfFile, SomeForm}
 use Rattle.shift_reader.specs.declared.ShiftReading.{ShiftReading}
@@ -311,6 +313,10 @@ pub record OfFrame (k : FrameCall) (f : RecordFrame) : Type 0 where
   pub u-stride : f .«u_stride» ≡ k .frame .«u_stride»
   pub v-stride : f .«v_stride» ≡ k .frame .«v_stride»
 
+-- RULES 1.2, 11.7: the settings of a frame as a record has them: of a Custom matrix that it is one, and nothing of the rounding
+abbrev pub codesOf : YuvSettings → List ℕ
+codesOf s = samplingCode (s .sampling) ∷ rangeCode (s .range) ∷ matrixCode (s .matrix) ∷ transferCode (s .transfer) ∷ []
+
 -- RULES 2.5, 11.6: every byte of a record's planes is the one that the rules name
 pub record RecordBytes (k : FrameCall) (r : ShiftRecord) : Type 0 where
   pub y-size : length (r .y) ≡ k .frame .width * k .frame .height
@@ -357,6 +363,8 @@ pub record ShiftFiles : Type 0 where
   pub frame-accepted : (k : FrameCall) (f : RecordFrame) (before : List ℕ) (r : ShiftWritten) (after : List ℕ) → FramePost k → k .answer ≡ Finished
       → OfFrame k f → RecordPost f (k .y′) (k .u′) (k .v′) before r after → recordSize f ≤ length before → r .answer ≡ Finished
   pub frame : (k : FrameCall) (f : RecordFrame) → FramePost k → k .answer ≡ Finished → OfFrame k f → RecordBytes k (recordMade f (k .y′) (k .u′) (k .v′))
+  -- any settings of a frame may be recorded as they are, and say its sampling
+  pub frame-codes : (s : YuvSettings) → (codesAllowed WithSettings (codesOf s) ≡ true) × (samplingOf WithSettings (codesOf s) ≡ s .sampling)
 
 -- ---- A shift file moved to its other form: forward sets 4:2:0 and records nothing else, back drops just that, and there and back it is the same file,
 -- byte for byte. 15, 20 and 16 are answered exactly where they are due, and a reader of one form answers 15 to every file of the other.

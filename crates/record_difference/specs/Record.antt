@@ -23,11 +23,11 @@ use Rattle.record_difference.specs.declared.RecordDifference.the-variant
 
 -- ---- sizes
 
--- RULES 13.2: width and height; and the sampling, which is one only in the form that the rules have
+-- RULES 13.2: width, height and sampling
 unfoldable pub sizeOf : ShiftForm → ShiftRecord → FrameSize
 sizeOf form r = record { width = r .width; height = r .height; sampling = samplingOf form (r .settings) }
 
--- one only, until the rules have a form of the file with more
+-- RULES 13.2, 11.7: which a record of a file with settings says
 abbrev pub sameSampling : YuvChromaSubsampling → YuvChromaSubsampling → Bool
 sameSampling Yuv420 Yuv420 = true
 sameSampling Yuv420 Yuv422 = false
