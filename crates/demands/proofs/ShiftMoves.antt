@@ -24,10 +24,9 @@ use Rattle.shift_file.proofs.Record.{both, also}
 use Rattle.shift_file.proofs.File.{some-list, its-records, is-checked, checked-file, one-form}
 use Rattle.shift_reader.specs.Entry.{nth}
 use Rattle.shift_writer.specs.declared.ShiftWritten.{ShiftWritten}
-use Rattle.shift_writer.specs.Output.{outputRules}
 use Rattle.shift_move.specs.Move.{otherForm, isPlain, arePlain, mayMove, moved, movedFile}
 use Rattle.shift_move.specs.Moving.{MovePost}
-use Rattle.shift_move.proofs.Files.{moved-is-file, may-return, there-and-back, recorded-first}
+use Rattle.shift_move.proofs.Files.{moved-is-file, may-return, there-and-back, asked-in-order}
 use Rattle.demands.specs.Demands.{NoFile, NothingRecorded, ShiftMoves}
 use Rattle.demands.proofs.ShiftFiles.{by-test}
 
@@ -39,10 +38,7 @@ answerBy t m s = cond (not t) (numbers 15 0 0) (cond (not m) (numbers 20 0 0) (c
 
 answered-by : (from : ShiftForm) (file before : List ℕ) (r : ShiftWritten) (after : List ℕ) → MovePost from file before r after
     → numbersOf (r .answer) .number ≡ answerBy (isFile from file) (mayMove from (recordsIn from file)) (ltb (length before) (length (movedFile from file))) .number
-answered-by from file before r after p =
-    ap (λ (x : Numbers). x .number)
-    (p .answered
-    ∙ ap (cond (not (isFile from file)) (numbers 15 0 0)) (recorded-first from (recordsIn from file) (outputRules (length (movedFile from file)) (length before))))
+answered-by from file before r after p = ap (λ (x : Numbers). x .number) (p .answered ∙ asked-in-order from file (length before))
 
 later-is-not : (m s : Bool) → cond (not m) (numbers 20 0 0) (cond s (numbers 16 0 0) (numbers 0 0 0)) .number ≡ 15 → ⊥
 later-is-not true true e = omega arith

@@ -2,23 +2,25 @@
 use Prim.Native.Nat.{ℕ, suc, _+_, _*_, _^_, _≤_, _<_}
 use mathlib.Core.Path.{_≡_, refl, ap, sym, _∙_}
 use mathlib.Core.Bool.{Bool, true, cond, not}
-use mathlib.Core.List.{List, [], _∷_, _++_, map}
+use mathlib.Core.List.{List, [], _∷_, map}
 use native.Mathlib.Nat.{mul-zero, mul-suc}
 use native.Mathlib.Omega.{arith}
+use lib.Dec.{ltb}
 use lib.ListN.{length, length-append, length-map}
 use lib.Seq.{sets}
 use Rattle.little_endian.specs.Number.{lowBytes}
 use Rattle.yuv_error.specs.Numbers.{numbers}
-use Rattle.yuv_error.specs.Rules.{Rule, firstOf}
+use Rattle.yuv_error.specs.Rules.{firstOf}
 use Rattle.shift_file.specs.declared.ShiftForm.{ShiftForm}
 use Rattle.shift_file.specs.declared.ShiftForm.the-variants.{WithoutSettings, WithSettings}
 use Rattle.shift_file.specs.File.{ShiftRecord, EachAllowed, HasFile, IsFileOf, mark, markSize, settingsSize, recordsAt, bytesOf, pairsOf, recordBytes, fileOf}
 use Rattle.shift_file.specs.Read.{recordsIn}
+use Rattle.shift_file.specs.Check.{isFile}
 use Rattle.shift_file.proofs.Record.{both}
 use Rattle.shift_file.proofs.File.{its-records, length-file, file-most}
 use Rattle.shift_move.specs.Move.{otherForm, isPlain, arePlain, mayMove, movedRecord, moved, movedFile}
 use Rattle.shift_writer.proofs.Pairs.{parts-put}
-use Rattle.shift_move.specs.Moving.{recordedRules}
+use Rattle.shift_move.specs.Moving.{moveRules}
 use Rattle.shift_move.specs.Known.{HasRecords}
 use Rattle.shift_move.specs.Means.{MovedIsFile, MayReturn, ThereAndBack}
 use Rattle.shift_move.proofs.Moved.{Plain, length-moved, moved-allowed, moved-again}
@@ -144,9 +146,11 @@ module _ (from : ShiftForm) (file : List ℕ) (n : ℕ) (h : HasRecords from fil
   file-steps d out₁ out₂ out₃ out₄ form m ef e₁ em e₂ e₃ e₄ =
       rw (e₄, e₃, e₂, e₁, ef, em, h .count) (rw (length-map (recordsIn from file) (movedRecord to)) at (parts-put to ms d))
 
--- ---- 20, of moving back alone
+-- ---- 15, then 20, then 16
 
-pub recorded-first : (from : ShiftForm) (rs : List ShiftRecord) (rest : List Rule)
-    → firstOf (recordedRules from rs ++ rest) ≡ cond (not (mayMove from rs)) (numbers 20 0 0) (firstOf rest)
-recorded-first WithoutSettings rs rest = refl
-recorded-first WithSettings rs rest = refl
+pub asked-in-order : (from : ShiftForm) (file : List ℕ) (room : ℕ)
+    → firstOf (moveRules from file room)
+    ≡ cond (not (isFile from file)) (numbers 15 0 0)
+    (cond (not (mayMove from (recordsIn from file))) (numbers 20 0 0) (cond (ltb room (length (movedFile from file))) (numbers 16 0 0) (numbers 0 0 0)))
+asked-in-order WithoutSettings file room = refl
+asked-in-order WithSettings file room = refl

@@ -14,7 +14,7 @@ use Rattle.shift_reader.proofs.Places.{pairs-inside}
 use Rattle.shift_writer.proofs.Answers.{from-start}
 use Rattle.shift_move.specs.Move.{mayMove, movedFile}
 use Rattle.shift_move.specs.Known.{HasRecords}
-use Rattle.shift_move.proofs.Files.{moved-most, recorded-first}
+use Rattle.shift_move.proofs.Files.{moved-most, asked-in-order}
 use borrow.Author.Needs.{needs}
 use Rattle.shift_move.proofs.move_file.Statement.{statement}
 use Rattle.shift_move.proofs.move_file.Tie as tie
@@ -52,7 +52,7 @@ returns-2 c =
     let e = c .before .before .before in
     let a = Start e .args in
     let no : mayMove (a .from) (recordsIn (a .from) (now (a .file))) ≡ false = sym (c .before .may-move .ensures) ∙ not-true _ (c .if2 .taken) in
-    record { answered = rw (accepted e, recorded-first, no); size = refl; written = refl }
+    record { answered = rw (asked-in-order (a .from) (now (a .file)) (length (now (a .output))), accepted e, no); size = refl; written = refl }
 
 file-size-requires : tie.Need-file-size-requires
 file-size-requires c κs =
@@ -67,7 +67,7 @@ returns-3 c =
     let a = Start e .args in
     let n = z .file-size .ensures in
     record {
-      answered = rw (accepted e, recorded-first, moves (z .before), lt-ltb (length (now (a .output))) (length (movedFile (a .from) (now (a .file)))) (omega arith));
+      answered = rw (asked-in-order (a .from) (now (a .file)) (length (now (a .output))), accepted e, moves (z .before), lt-ltb (length (now (a .output))) (length (movedFile (a .from) (now (a .file)))) (omega arith));
       size = n;
       written = refl;
     }
@@ -85,7 +85,7 @@ returns-4 c =
     let n = z .file-size .ensures in
     let file = movedFile (a .from) (now (a .file)) in
     record {
-      answered = rw (accepted e, recorded-first, moves (z .before), le-ltb (length (now (a .output))) (length file) (omega arith));
+      answered = rw (asked-in-order (a .from) (now (a .file)) (length (now (a .output))), accepted e, moves (z .before), le-ltb (length (now (a .output))) (length file) (omega arith));
       size = n;
       written = from-start file (now (a .output)) _ (c .before .before .put-file .ensures) (omega arith);
     }
