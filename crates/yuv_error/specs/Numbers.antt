@@ -9,7 +9,7 @@ use Rattle.yuv_error.specs.declared.YuvError.the-variants.{MalformedRequ
 use Rattle.yuv_error.specs.declared.YuvError.the-variants.{DestinationSizeMismatch, MinimumStrideSizeMismatch, LumaPlaneMinimumSizeMismatch}
 use Rattle.yuv_error.specs.declared.YuvError.the-variants.{LumaPlaneSizeMismatch, UPlaneMinimumSizeMismatch, VPlaneMinimumSizeMismatch}
 use Rattle.yuv_error.specs.declared.YuvError.the-variants.{WholeRowsMismatch, CarriedRowSizeMismatch, WindowOutsideSource}
-use Rattle.yuv_error.specs.declared.YuvError.the-variants.{MalformedShiftFile, OutputTooShort, SummaryMismatch, SettingsRecorded}
+use Rattle.yuv_error.specs.declared.YuvError.the-variants.{MalformedShiftFile, OutputTooShort, SummaryMismatch, MalformedY4m, SettingsRecorded}
 use Rattle.yuv_error.specs.declared.YuvAnswer.{YuvAnswer}
 use Rattle.yuv_error.specs.declared.YuvAnswer.the-variants.{Finished, Refused}
 
@@ -46,6 +46,7 @@ errorNumbers WindowOutsideSource = numbers 14 0 0
 errorNumbers MalformedShiftFile = numbers 15 0 0
 errorNumbers OutputTooShort = numbers 16 0 0
 errorNumbers SummaryMismatch = numbers 17 0 0
+errorNumbers MalformedY4m = numbers 19 0 0
 errorNumbers SettingsRecorded = numbers 20 0 0
 
 -- RULES 7.1: finished work is number 0
@@ -53,7 +54,7 @@ abbrev pub numbersOf : YuvAnswer → Numbers
 numbersOf Finished = numbers 0 0 0
 numbersOf (Refused e) = errorNumbers e
 
--- RULES 7.1: the answers by number, each with the size m where it carries one; 18 and 19 are no answer's
+-- RULES 7.1: the answers by number, each with the size m where it carries one; 18 is no answer's
 abbrev pub answers : MismatchedSize → List YuvAnswer
 answers m =
     Finished ∷
@@ -75,7 +76,7 @@ answers m =
     Refused OutputTooShort ∷
     Refused SummaryMismatch ∷
     Finished ∷
-    Finished ∷
+    Refused MalformedY4m ∷
     Refused SettingsRecorded ∷ []
 
 -- RULES 7.1: the answer of these numbers, the other way round

@@ -41,6 +41,7 @@ pub enum YuvError {
     MalformedShiftFile,
     OutputTooShort,
     SummaryMismatch,
+    MalformedY4m,
     SettingsRecorded,
 }
 
