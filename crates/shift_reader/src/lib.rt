@@ -136,7 +136,7 @@ pub fn v_part(form: ShiftForm, file: &[u8], k: usize) -> &[u8]
 
 // ---- entries
 
-fn tell_numbers(entries: &mut [u64], at: usize, numbers: &[u64])
+pub fn tell_numbers(entries: &mut [u64], at: usize, numbers: &[u64])
     requires { ⌜ at + length (now numbers) ≤ length (now entries) ⌝ }
     ensures { λ _. ⌜ now (entries .exit) ≡ sets (now (entries .entry)) at (now (numbers .entry)) ⌝ }
 {
@@ -226,7 +226,7 @@ fn tell_entries(
     }
 }
 
-fn at_most(a: usize, b: usize) -> usize
+pub fn at_most(a: usize, b: usize) -> usize
     ensures { λ r. ⌜ r ≡ min a b ⌝ }
 {
     if a <= b { a } else { b }

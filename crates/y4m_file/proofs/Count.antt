@@ -48,16 +48,16 @@ module _ (n : ℕ) (l : List ℕ) (at : ℕ) where
       pub fewer-more : (j : ℕ) → j < k + 1 → pictures n j l ≡ false
       fewer-more j z = cases (leb k j) refl
         where
-        cases : (t : Bool) → leb k j ≡ t → pictures n j l ≡ false
-        cases true e = let m : j ≡ k = omega (arith, leb-true k j e) in rw m (here ∙ some-left h)
-        cases false e = g j (leb-false k j e)
+          cases : (t : Bool) → leb k j ≡ t → pictures n j l ≡ false
+          cases true e = let m : j ≡ k = omega (arith, leb-true k j e) in rw m (here ∙ some-left h)
+          cases false e = g j (leb-false k j e)
 
       pub count-none : pictureSize n (drop at l) ≡ 0 → (j : ℕ) → pictures n j l ≡ false
       count-none q j = cases (leb k j) refl
         where
-        cases : (t : Bool) → leb k j ≡ t → pictures n j l ≡ false
-        cases true e = let m : j ≡ k + (j - k) = omega (arith, leb-true k j e) in ap (λ i. pictures n i l) m ∙ f (j - k) ∙ none-here (j - k) h q
-        cases false e = g j (leb-false k j e)
+          cases : (t : Bool) → leb k j ≡ t → pictures n j l ≡ false
+          cases true e = let m : j ≡ k + (j - k) = omega (arith, leb-true k j e) in ap (λ i. pictures n i l) m ∙ f (j - k) ∙ none-here (j - k) h q
+          cases false e = g j (leb-false k j e)
 
 -- ---- the count
 

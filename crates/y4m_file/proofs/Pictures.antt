@@ -77,6 +77,10 @@ module _ (luma chroma : ℕ) where
     header : headerOf l ≡ textOf frame (p .tags)
     header = text-is frame (p .tags) frame-tag (a .line) _ l line-first
 
+    -- its line ends where its planes start
+    pub line-there : lineEnd l + 1 ≡ length (lineOf frame (p .tags))
+    line-there = omega (arith, end-is frame (p .tags) frame-tag (a .line) _ l line-first, length-line frame (p .tags))
+
     pub picture-is : pictureAt luma chroma l ≡ p
     unfolding pictureAt
     picture-is = λ i. record { tags = tags-are i; y = y-is i; u = u-is i; v = v-is i }
@@ -117,6 +121,19 @@ module _ (luma chroma : ℕ) where
     pub next-there : drop (pictureSize sum l) l ≡ t
     next-there = rw size-there (sym (drop-drop sum (lineEnd l + 1) l) ∙ past-v)
 
+  pub length-picture : (p : Y4mPicture) → PictureAllowed luma chroma p → length (pictureBytes p) ≡ length (lineOf frame (p .tags)) + sum
+  unfolding pictureBytes
+  length-picture p a =
+      omega (
+        arith,
+        length-append (lineOf frame (p .tags)) (p .y ++ (p .u ++ p .v)),
+        length-append (p .y) (p .u ++ p .v),
+        length-append (p .u) (p .v),
+        a .y-size,
+        a .u-size,
+        a .v-size,
+      )
+
   -- ---- pictures back to back
 
   pub pictures-are : (ps : List Y4mPicture) → EachAllowed luma chroma ps
@@ -127,9 +144,10 @@ module _ (luma chroma : ℕ) where
       let l = pictureBytes p ++ picturesBytes ps in
       let ih = pictures-are ps (e .1) in
       let size = size-there p (e .0) (picturesBytes ps) l refl in
-      let next = next-there p (e .0) (picturesBytes ps) l refl in
-      (also (ltb 0 (pictureSize sum l)) _ (lt-ltb 0 (pictureSize sum l) (omega (arith, size))) (rw next (ih .0)),
-      ap₂ (λ q qs. q ∷ qs) (picture-is p (e .0) (picturesBytes ps) l refl) (rw next (ih .1)))
+      let next = next-there p (e .0) (picturesBytes ps) l refl in (
+        also (ltb 0 (pictureSize sum l)) _ (lt-ltb 0 (pictureSize sum l) (omega (arith, size))) (rw next (ih .0)),
+        ap₂ (λ q qs. q ∷ qs) (picture-is p (e .0) (picturesBytes ps) l refl) (rw next (ih .1)),
+      )
 
   empty : (l : List ℕ) → length l ≡ 0 → [] ≡ l
   empty [] h = refl

@@ -84,9 +84,9 @@ size-ok (a ∷ t) h n e k = rw (ne-eqb a 48 n, e, le-leb (value 0 (a ∷ t)) 163
 size-case : (p q : Bool) (v : ℕ) → cond (p && (q && leb v 16384)) v 0 ≤ 16384
 size-case true true v = under (leb v 16384) refl
   where
-  under : (t : Bool) → leb v 16384 ≡ t → cond (leb v 16384) v 0 ≤ 16384
-  under true e = rw e (leb-true v 16384 e)
-  under false e = rw e (omega arith)
+    under : (t : Bool) → leb v 16384 ≡ t → cond (leb v 16384) v 0 ≤ 16384
+    under true e = rw e (leb-true v 16384 e)
+    under false e = rw e (omega arith)
 size-case true false v = omega arith
 size-case false q v = omega arith
 

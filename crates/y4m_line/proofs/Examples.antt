@@ -26,7 +26,7 @@ two-spaces : isHeader (89 ∷ 85 ∷ 86 ∷ 52 ∷ 77 ∷ 80 ∷ 69 ∷ 71 ∷ 5
 unfolding isHeader isLine widthOf heightOf samplingOf size isSize code upto words filled tagged same digit digits value
 two-spaces = refl
 
--- YUV4MPEG2 W4 H2 
+-- YUV4MPEG2 W4 H2
 space-at-end : isHeader (89 ∷ 85 ∷ 86 ∷ 52 ∷ 77 ∷ 80 ∷ 69 ∷ 71 ∷ 50 ∷ 32 ∷ 87 ∷ 52 ∷ 32 ∷ 72 ∷ 50 ∷ 32 ∷ []) ≡ false
 unfolding isHeader isLine widthOf heightOf samplingOf size isSize code upto words filled tagged same digit digits value
 space-at-end = refl

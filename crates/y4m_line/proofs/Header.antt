@@ -46,9 +46,9 @@ module _ (l : List ℕ) where
 front-same : (b : List ℕ) → take (length (take 256 b)) b ≡ take 256 b
 front-same b = cases (leb (length b) 256) refl
   where
-  cases : (t : Bool) → leb (length b) 256 ≡ t → take (length (take 256 b)) b ≡ take 256 b
-  cases true e = let k = take-all 256 b (leb-true (length b) 256 e) in rw (k, take-length b)
-  cases false e = let k : length (take 256 b) ≡ 256 = length-take-le 256 b (omega (arith, leb-false (length b) 256 e)) in rw k
+    cases : (t : Bool) → leb (length b) 256 ≡ t → take (length (take 256 b)) b ≡ take 256 b
+    cases true e = let k = take-all 256 b (leb-true (length b) 256 e) in rw (k, take-length b)
+    cases false e = let k : length (take 256 b) ≡ 256 = length-take-le 256 b (omega (arith, leb-false (length b) 256 e)) in rw k
 
 module _ (b f : List ℕ) (n e : ℕ) (hn : n ≡ length (take 256 b)) (hf : f ≡ span 0 n b) (he : e ≡ upto 10 f) where
   line-bytes : e ≡ lineBytes b

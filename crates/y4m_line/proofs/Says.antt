@@ -28,13 +28,14 @@ module _ (t : List ℕ) (h : 1 ≤ size t) where
   text-says =
       let i = is-size (isSize t) refl in
       let p = both (not (eqb (getD t 0 48) 48)) (digits t && leb (value 0 t) 16384) (i .0) in
-      let q = both (digits t) (leb (value 0 t) 16384) (p .1) in
-      (record {
-        all = q .0;
-        worth = sym (i .1);
-        lead = eqb-false (getD t 0 48) 48 (not-true (eqb (getD t 0 48) 48) (p .0));
-      },
-      rw (i .1) (leb-true (value 0 t) 16384 (q .1)))
+      let q = both (digits t) (leb (value 0 t) 16384) (p .1) in (
+        record {
+          all = q .0;
+          worth = sym (i .1);
+          lead = eqb-false (getD t 0 48) 48 (not-true (eqb (getD t 0 48) 48) (p .0));
+        },
+        rw (i .1) (leb-true (value 0 t) 16384 (q .1)),
+      )
 
 module _ (letter : ℕ) (tags : List (List ℕ)) where
   says-case : (ts : List (List ℕ)) → tagged letter tags ≡ ts → 1 ≤ oneSize ts → SaysSide letter tags (oneSize ts)

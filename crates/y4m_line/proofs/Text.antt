@@ -114,7 +114,7 @@ unfolding lineEnd
 line-end l t h k =
     let n : 256 ≡ length l + suc (255 - length l) = omega arith in
     let f : take 256 (l ++ (10 ∷ t)) ≡ l ++ (10 ∷ take (255 - length l) t)
-        = ap (λ m. take m (l ++ (10 ∷ t))) n ∙ take-append-add l (10 ∷ t) (suc (255 - length l)) in
+    = ap (λ m. take m (l ++ (10 ∷ t))) n ∙ take-append-add l (10 ∷ t) (suc (255 - length l)) in
     rw (
       f,
       upto-at 10 l (take (255 - length l) t) h,

@@ -140,9 +140,9 @@ module _ (l : List ℕ) (at e : ℕ) (h : at ≤ length l) (k : e ≤ length l) 
     inside-word : 0 < x → eqb (getD (take (e - at) (drop at l)) 0 0) x ≡ true → at < e
     inside-word p z = lt-cases (e - at) refl
       where
-      lt-cases : (n : ℕ) → e - at ≡ n → at < e
-      lt-cases zero d = absurd (omega (arith, eqb-true 0 x (rw d at z)))
-      lt-cases (suc n) d = omega arith
+        lt-cases : (n : ℕ) → e - at ≡ n → at < e
+        lt-cases zero d = absurd (omega (arith, eqb-true 0 x (rw d at z)))
+        lt-cases (suc n) d = omega arith
 
     rest-word : at < e → drop 1 (take (e - at) (drop at l)) ≡ take (e - (at + 1)) (drop (at + 1) l)
     rest-word z =

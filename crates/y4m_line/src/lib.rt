@@ -112,11 +112,7 @@ pub fn has_letter(l: &[u8], s: usize, e: usize, x: u8) -> bool
     requires { ⌜ (s ≤ e) × (e ≤ length (now l)) × (0 < x) ⌝ }
     ensures { λ r. ⌜ r ≡ eqb (getD (span s e (now (l .entry))) 0 0) x ⌝ }
 {
-    if s < e {
-        l[s] == x
-    } else {
-        false
-    }
+    if s < e { l[s] == x } else { false }
 }
 
 // The first word from a word's start on that has the first letter x; past the end where there is none.
@@ -267,11 +263,7 @@ pub fn at_most_256(b: &[u8]) -> usize
     ensures { λ r. ⌜ r ≡ length (take 256 (now (b .entry))) ⌝ }
     ensures { λ r. ⌜ (r ≤ 256) × (r ≤ length (now (b .entry))) ⌝ }
 {
-    if b.len() < 256 {
-        b.len()
-    } else {
-        256
-    }
+    if b.len() < 256 { b.len() } else { 256 }
 }
 
 // The place of the newline of the line at the front, or 256.
@@ -281,9 +273,5 @@ pub fn line_end(b: &[u8]) -> usize
 {
     let n = at_most_256(b);
     let e = index_of(part(b, 0, n), 10);
-    if e < n {
-        e
-    } else {
-        256
-    }
+    if e < n { e } else { 256 }
 }
