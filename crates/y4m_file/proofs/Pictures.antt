@@ -23,7 +23,7 @@ module _ (luma chroma : ℕ) where
   abbrev pub sum : ℕ
   sum = luma + 2 * chroma
 
-  cut : (r : List ℕ) → take luma r ++ (take chroma (drop luma r) ++ take chroma (drop (luma + chroma) r)) ≡ take sum r
+  pub cut : (r : List ℕ) → take luma r ++ (take chroma (drop luma r) ++ take chroma (drop (luma + chroma) r)) ≡ take sum r
   cut r =
       let n : sum ≡ luma + (chroma + chroma) = omega arith in
       sym (rw n (take-add luma (chroma + chroma) r ∙ ap (λ s. take luma r ++ s) (take-add chroma chroma (drop luma r) ∙ rw (drop-drop chroma luma r))))

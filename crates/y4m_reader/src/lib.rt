@@ -67,7 +67,14 @@ fn tell_entry(entries: &mut [u64], at: usize, y: usize, luma: usize, chroma: usi
 }
 
 // So many entries from a picture on.
-fn tell_entries(file: &[u8], luma: usize, chroma: usize, first: usize, count: usize, entries: &mut [u64])
+fn tell_entries(
+    file: &[u8],
+    luma: usize,
+    chroma: usize,
+    first: usize,
+    count: usize,
+    entries: &mut [u64],
+)
     requires { ⌜ EntriesFit (now file) luma chroma first count (length (now entries)) ⌝ }
     ensures { λ _. ⌜ now (entries .exit) ≡ sets (now (entries .entry)) 0 (entriesOf (fileIn (now (file .entry))) first count) ⌝ }
 {
