@@ -11,10 +11,11 @@ use Rattle.y4m_line.specs.Header.{lineEnd}
 use Rattle.y4m_line.proofs.Text.{magic-tag, length-line, end-is, rest-is}
 use Rattle.y4m_file.specs.File.{Y4mPicture, Y4mFile, PictureAllowed, EachAllowed, IsFileOf, fileBytes, pictureBytes, picturesBytes}
 use Rattle.y4m_file.specs.Check.{pictureSize}
-use Rattle.y4m_file.specs.Read.{fileIn}
-use Rattle.y4m_file.proofs.Pictures.{sum, line-there, size-there, next-there, length-picture}
+use Rattle.y4m_file.specs.Read.{pictureAt, fileIn}
+use Rattle.y4m_file.proofs.Pictures.{line-there, picture-is, size-there, next-there, length-picture}
 use Rattle.y4m_reader.specs.Entry.{noPicture, pictureOf, offsetOf, planeNumbers, entryOf}
-use Rattle.y4m_reader.specs.Known.{HasPictures, Stood}
+use Rattle.y4m_reader.specs.Known.{HasPicture, SizesAre, HasPictures, Stood}
+use Rattle.y4m_reader.specs.declared.PlaneSizes.{PlaneSizes}
 
 allowed-at : (luma chroma k : ℕ) (ps : List Y4mPicture) → EachAllowed luma chroma ps → k < length ps → PictureAllowed luma chroma (getD ps k noPicture)
 allowed-at luma chroma k [] e h = absurd (omega arith)
@@ -55,9 +56,6 @@ first-stood file i =
     }
 
 module _ (file : List ℕ) (luma chroma m : ℕ) (f : HasPictures file luma chroma m) (k at : ℕ) (h : k < m) (s : Stood file k at) where
-  p : Y4mPicture
-  p = pictureOf (fileIn file) k
-
   within-list : k < length (fileIn file .pictures)
   within-list = omega (arith, f .below)
 
@@ -73,6 +71,28 @@ module _ (file : List ℕ) (luma chroma m : ℕ) (f : HasPictures file luma chro
   pub entry-is : (y : ℕ) → y ≡ at + (lineEnd (drop at file) + 1) → planeNumbers y luma chroma ≡ entryOf (offsetOf (fileIn file) k) (pictureOf (fileIn file) k)
   entry-is y e = rw (e, line, s .place, allowed .y-size, allowed .u-size, allowed .v-size)
 
+  -- the planes, from the place past the line
+  module _ (y : ℕ) (e : y ≡ at + (lineEnd (drop at file) + 1)) where
+    read : pictureAt luma chroma (drop at file) ≡ pictureOf (fileIn file) k
+    read = picture-is luma chroma (pictureOf (fileIn file) k) allowed _ (drop at file) here
+
+    from-y : drop y file ≡ drop (lineEnd (drop at file) + 1) (drop at file)
+    from-y = rw e (sym (drop-drop (lineEnd (drop at file) + 1) at file))
+
+    pub y-there : take luma (drop y file) ≡ pictureOf (fileIn file) k .y
+    unfolding pictureAt
+    y-there = rw from-y (ap (λ (q : Y4mPicture). q .y) read)
+
+    pub u-there : take chroma (drop (y + luma) file) ≡ pictureOf (fileIn file) k .u
+    unfolding pictureAt
+    u-there = rw (← drop-drop luma y file, from-y) (ap (λ (q : Y4mPicture). q .u) read)
+
+    pub v-there : take chroma (drop (y + luma + chroma) file) ≡ pictureOf (fileIn file) k .v
+    unfolding pictureAt
+    v-there =
+        let sum : y + luma + chroma ≡ y + (luma + chroma) = omega arith in
+        rw (sum, ← drop-drop (luma + chroma) y file, from-y) (ap (λ (q : Y4mPicture). q .v) read)
+
   pub next-stood : (y : ℕ) → y ≡ at + (lineEnd (drop at file) + 1) → Stood file (k + 1) (y + luma + 2 * chroma)
   next-stood y e =
       let q = pictureOf (fileIn file) k in
@@ -86,3 +106,13 @@ module _ (file : List ℕ) (luma chroma m : ℕ) (f : HasPictures file luma chro
         rest = rw (past, one) (sym (drop-drop (pictureSize (luma + 2 * chroma) (drop at file)) at file) ∙ next-there luma chroma q allowed t (drop at file) here);
         within = omega (arith, line, whole, s .within, length-drop at file, ap length here, length-append (pictureBytes q) t);
       }
+
+pub has-pictures : (file : List ℕ) (k : ℕ) (p : PlaneSizes) → HasPicture file k → SizesAre file p → HasPictures file (p .luma) (p .chroma) (k + 1)
+has-pictures file k p h s = record {
+  is-file = h .is-file;
+  luma-is = s .luma-is;
+  chroma-is = s .chroma-is;
+  luma-most = s .luma-most;
+  chroma-most = s .chroma-most;
+  below = omega (arith, h .below);
+}

@@ -8,9 +8,10 @@ ghost use Prim.Native.Nat.{_+_, _≤_, _^_};
 ghost use lib.ListN.{length, drop};
 ghost use lib.Seq.{sets};
 ghost use Rattle.y4m_line.specs.Header.{lineEnd};
+ghost use Rattle.y4m_file.specs.File.{IsFileOf};
 ghost use Rattle.y4m_file.specs.Read.{fileIn};
-ghost use Rattle.y4m_reader.specs.Entry.{planeNumbers, offsetOf, entriesOf};
-ghost use Rattle.y4m_reader.specs.Known.{HasPictures, EntriesFit, Stood};
+ghost use Rattle.y4m_reader.specs.Entry.{pictureOf, planeNumbers, entriesOf};
+ghost use Rattle.y4m_reader.specs.Known.{HasPicture, HasPictures, SizesAre, EntriesFit, Stood};
 ghost use Rattle.y4m_reader.specs.Reading.{ReadPost};
 
 // The numbers of an entry.
@@ -24,6 +25,12 @@ pub struct Y4mReading {
     pub sampling: u32,
     pub count: usize,
     pub told: usize,
+}
+
+// The bytes of Y, and of U or V.
+struct PlaneSizes {
+    luma: usize,
+    chroma: usize,
 }
 
 // Where the line at a place ends, past its newline.
@@ -87,6 +94,52 @@ fn tell_entries(
         i += 1;
     }
 }
+
+// ---- parts
+
+// The bytes of a file's planes.
+fn plane_sizes(file: &[u8]) -> PlaneSizes
+    requires { ⌜ IsFileOf (now file) (fileIn (now file)) ⌝ }
+    ensures { λ p. ⌜ SizesAre (now (file .entry)) p ⌝ }
+{
+    let read = y4m_file::read_file(file);
+    match read {
+        Y4mRead::Refused => PlaneSizes { luma: 0, chroma: 0 },
+        Y4mRead::Read(width, height, code, _) => PlaneSizes {
+            luma: shift_file::luma_size(width, height),
+            chroma: shift_file::chroma_size(y4m_file::sampling_said(code), width, height),
+        },
+    }
+}
+
+pub fn y_part(file: &[u8], k: usize) -> &[u8]
+    requires { ⌜ HasPicture (now file) k ⌝ }
+    ensures { λ r. ⌜ now r ≡ pictureOf (fileIn (now (file .entry))) k .y ⌝ }
+{
+    let sizes = plane_sizes(file);
+    let y = past_line(file, place_of(file, sizes.luma, sizes.chroma, k));
+    shift_file::part_of(file, y, sizes.luma)
+}
+
+pub fn u_part(file: &[u8], k: usize) -> &[u8]
+    requires { ⌜ HasPicture (now file) k ⌝ }
+    ensures { λ r. ⌜ now r ≡ pictureOf (fileIn (now (file .entry))) k .u ⌝ }
+{
+    let sizes = plane_sizes(file);
+    let y = past_line(file, place_of(file, sizes.luma, sizes.chroma, k));
+    shift_file::part_of(file, y + sizes.luma, sizes.chroma)
+}
+
+pub fn v_part(file: &[u8], k: usize) -> &[u8]
+    requires { ⌜ HasPicture (now file) k ⌝ }
+    ensures { λ r. ⌜ now r ≡ pictureOf (fileIn (now (file .entry))) k .v ⌝ }
+{
+    let sizes = plane_sizes(file);
+    let y = past_line(file, place_of(file, sizes.luma, sizes.chroma, k));
+    shift_file::part_of(file, y + sizes.luma + sizes.chroma, sizes.chroma)
+}
+
+// ---- numbers
 
 // What a file's header says, how many pictures it has, and the entries of those from `first` on that have room; or 19 for bytes that are no Y4M file,
 // and nothing written.
