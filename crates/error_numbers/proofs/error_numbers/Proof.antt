@@ -60,10 +60,14 @@ returns-17 c = sym (ap errorNumbers (c .enum-told9 .given .1))
 returns-18 : tie.Need-returns-18
 returns-18 c = sym (ap errorNumbers (c .enum-told10 .given .1))
 
+returns-19 : tie.Need-returns-19
+returns-19 c = sym (ap errorNumbers (c .enum-told11 .given .1))
+
 pub error-numbers-spec : {M : Type 1} → statement M
 error-numbers-spec =
     tie.close
     (tie.spec
+    (λ c. search needs)
     (λ c. search needs)
     (λ c. search needs)
     (λ c. search needs)
@@ -99,4 +103,5 @@ error-numbers-spec =
     returns-15
     returns-16
     returns-17
-    returns-18)
+    returns-18
+    returns-19)
