@@ -43,7 +43,14 @@ fn sampling_of(frame: RecordFrame) -> YuvChromaSubsampling
 }
 
 // The first `size` bytes of each row of a plane, one row after the other.
-fn copy_rows(plane: &[u8], size: usize, stride: usize, rows: usize, output: &mut [u8], at: usize)
+pub fn copy_rows(
+    plane: &[u8],
+    size: usize,
+    stride: usize,
+    rows: usize,
+    output: &mut [u8],
+    at: usize,
+)
     requires { ⌜ (size ≤ stride) × (length (now plane) ≡ stride * rows) × (at + size * rows ≤ length (now output)) ⌝ }
     ensures { λ _. ⌜ now (output .exit) ≡ sets (now (output .entry)) at (unpadded size stride rows (now (plane .entry))) ⌝ }
 {

@@ -1,16 +1,13 @@
 -- What may be written, by the tests that look for it. Assumes nothing.
-use Prim.Native.Nat.{ℕ, _+_, _*_, _%_, _≤_, _<_}
+use Prim.Native.Nat.{ℕ, _*_, _%_, _≤_}
 use mathlib.Core.Path.{_≡_}
-use mathlib.Core.Bool.{Bool, true, false, _&&_}
+use mathlib.Core.Bool.{true, false, _&&_}
 use native.Mathlib.Nat.{mul-le-mul}
 use native.Mathlib.Omega.{arith}
-use lib.Dec.{ltb, eqb}
-use borrow.Author.Tests.{lt-ltb, le-ltb}
+use lib.Dec.{eqb}
 use Rattle.yuv_support.specs.declared.YuvChromaSubsampling.{YuvChromaSubsampling}
-use Rattle.shift_file.specs.File.{isSide}
-use Rattle.y4m_file.specs.File.{lumaBytes, chromaBytes}
 use Rattle.y4m_file.specs.Check.{planeBytes}
-use Rattle.y4m_writer.specs.Pictures.{samplingOf, canWrite}
+use Rattle.y4m_writer.specs.Pictures.{samplingOf, isShape, canWrite}
 
 -- a picture has a byte
 pub plane-some : (s : YuvChromaSubsampling) (w h : ℕ) → 1 ≤ w → 1 ≤ h → 1 ≤ planeBytes s w h
@@ -20,20 +17,10 @@ plane-some s w h hw hh =
     omega arith
 
 module _ (code w h size : ℕ) where
-  pub no-code : 2 ≤ code → canWrite code w h size ≡ false
+  pub no-shape : isShape code w h ≡ false → canWrite code w h size ≡ false
   unfolding canWrite
-  no-code k = rw (le-ltb code 2 k)
+  no-shape e = rw e
 
-  module _ (k : code < 2) where
-    pub no-width : isSide w ≡ false → canWrite code w h size ≡ false
-    unfolding canWrite
-    no-width e = rw (lt-ltb code 2 k, e)
-
-    module _ (ew : isSide w ≡ true) where
-      pub no-height : isSide h ≡ false → canWrite code w h size ≡ false
-      unfolding canWrite
-      no-height e = rw (lt-ltb code 2 k, ew, e)
-
-      pub by-size : isSide h ≡ true → canWrite code w h size ≡ eqb (size % planeBytes (samplingOf code) w h) 0
-      unfolding canWrite
-      by-size e = rw (lt-ltb code 2 k, ew, e)
+  pub by-size : isShape code w h ≡ true → canWrite code w h size ≡ eqb (size % planeBytes (samplingOf code) w h) 0
+  unfolding canWrite
+  by-size e = rw e

@@ -18,7 +18,7 @@ use Rattle.y4m_file.specs.Check.{planeBytes}
 use Rattle.y4m_file.specs.Read.{fileIn}
 use Rattle.y4m_file.proofs.File.{its-file}
 use Rattle.y4m_writer.specs.Text.{decimal, codeText, writtenTags}
-use Rattle.y4m_writer.specs.Pictures.{samplingOf, canWrite, picturesOf, fileFrom, fileMade, planesOf, framesOf}
+use Rattle.y4m_writer.specs.Pictures.{samplingOf, isShape, canWrite, picturesOf, fileFrom, fileMade, planesOf, framesOf}
 use Rattle.y4m_writer.specs.Known.{Exact}
 use Rattle.y4m_writer.specs.Means.{WrittenIsFile, WrittenReadBack}
 use Rattle.y4m_writer.proofs.Decimal.{Decimal, decimal-5}
@@ -82,6 +82,18 @@ sampled Yuv422 w h = record { which = 0; known = omega arith; said = refl }
 
 -- ---- what is let through
 
+pub record Shape (code w h : ℕ) : Type 0 where
+  pub code-is : code < 2
+  pub wide : (1 ≤ w) × (w ≤ 16384)
+  pub high : (1 ≤ h) × (h ≤ 16384)
+
+pub shape : (code w h : ℕ) → isShape code w h ≡ true → Shape code w h
+unfolding isShape
+shape code w h e =
+    let p = both (ltb code 2) _ e in
+    let q = both (isSide w) _ (p .1) in
+    record { code-is = ltb-true code 2 (p .0); wide = side-bounds w (q .0); high = side-bounds h (q .1) }
+
 pub record Written (code w h : ℕ) (b : List ℕ) : Type 0 where
   pub code-is : code < 2
   pub wide : (1 ≤ w) × (w ≤ 16384)
@@ -91,16 +103,10 @@ pub record Written (code w h : ℕ) (b : List ℕ) : Type 0 where
 pub written : (code w h : ℕ) (b : List ℕ) → canWrite code w h (length b) ≡ true → Written code w h b
 unfolding canWrite
 written code w h b e =
-    let p = both (ltb code 2) _ e in
-    let q = both (isSide w) _ (p .1) in
-    let r = both (isSide h) _ (q .1) in
+    let p = both (isShape code w h) _ e in
+    let s = shape code w h (p .0) in
     let n = planeBytes (samplingOf code) w h in
-    record {
-      code-is = ltb-true code 2 (p .0);
-      wide = side-bounds w (q .0);
-      high = side-bounds h (r .0);
-      exact = exact-whole n b (eqb-true (length b % n) 0 (r .1));
-    }
+    record { code-is = s .code-is; wide = s .wide; high = s .high; exact = exact-whole n b (eqb-true (length b % n) 0 (p .1)) }
 
 pub is-written : WrittenIsFile
 unfolding fileMade fileFrom planeBytes

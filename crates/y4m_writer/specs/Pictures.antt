@@ -18,9 +18,13 @@ use Rattle.y4m_writer.specs.Text.{writtenTags}
 abbrev pub samplingOf : (code : ℕ) → YuvChromaSubsampling
 samplingOf code = getD samplingCodes code Yuv420
 
--- RULES 14.6: the code and the sides are allowed, and so many bytes are whole pictures
+-- RULES 14.6: the code and the sides are allowed
+unfoldable pub isShape : (code w h : ℕ) → Bool
+isShape code w h = ltb code 2 && (isSide w && isSide h)
+
+-- RULES 14.6: and so many bytes are whole pictures
 unfoldable pub canWrite : (code w h size : ℕ) → Bool
-canWrite code w h size = ltb code 2 && (isSide w && (isSide h && eqb (size % planeBytes (samplingOf code) w h) 0))
+canWrite code w h size = isShape code w h && eqb (size % planeBytes (samplingOf code) w h) 0
 
 -- RULES 14.6: the picture at the front, without tags
 unfoldable pub pictureFrom : (luma chroma : ℕ) → List ℕ → Y4mPicture

@@ -10,7 +10,7 @@ ghost use lib.Seq.{sets};
 ghost use Rattle.y4m_line.specs.Line.{lineOf, magic};
 ghost use Rattle.shift_file.specs.File.{isSide};
 ghost use Rattle.y4m_writer.specs.Text.{decimal, codeLine, writtenTags};
-ghost use Rattle.y4m_writer.specs.Pictures.{canWrite, framesOf};
+ghost use Rattle.y4m_writer.specs.Pictures.{isShape, canWrite, framesOf};
 ghost use Rattle.y4m_writer.specs.Known.{FramesFit};
 ghost use Rattle.y4m_writer.specs.Writing.{inWord, WritePost};
 
@@ -123,17 +123,18 @@ fn is_side(side: usize) -> bool
     (1 <= side) & (side <= 16384)
 }
 
+// Whether a code is that of a sampling, and sides are those of a picture.
+pub fn is_shape(sampling: u32, width: usize, height: usize) -> bool
+    ensures { λ r. ⌜ r ≡ isShape sampling width height ⌝ }
+{
+    (sampling < 2) & (is_side(width) & is_side(height))
+}
+
 // Whether so many bytes are whole pictures of an allowed shape.
 fn can_write(sampling: u32, width: usize, height: usize, size: usize) -> bool
     ensures { λ r. ⌜ r ≡ canWrite sampling width height size ⌝ }
 {
-    if 2 <= sampling {
-        return false;
-    }
-    if !is_side(width) {
-        return false;
-    }
-    if !is_side(height) {
+    if !is_shape(sampling, width, height) {
         return false;
     }
     let n = y4m_file::plane_bytes(setting_codes::sampling_of(sampling), width, height);
