@@ -1,0 +1,3 @@
+-- The laws.
+pub mod Made
+pub mod Append
