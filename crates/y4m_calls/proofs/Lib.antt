@@ -1,0 +1,2 @@
+-- Laws of Y4M files by numbers.
+pub mod Told

@@ -1,0 +1,3 @@
+-- Y4M files by numbers.
+pub mod Calls
+pub mod Known
