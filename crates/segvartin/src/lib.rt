@@ -30,6 +30,7 @@ ghost use Rattle.segvartin.specs.Pairs.{exportedPairing, PairingKept};
 ghost use Rattle.yuv_error.specs.Lent.{taken};
 ghost use Rattle.segvartin.specs.Shift.{exportedReading, ReadingKept, formNumber, ReadingAnyKept, exportedWriting, WritingKept};
 ghost use Rattle.segvartin.specs.Shift.{exportedRecord, RecordKept, exportedMove, MoveKept};
+ghost use Rattle.y4m_calls.specs.Calls.{exportedY4mReading, Y4mReadingKept, exportedY4mWriting, Y4mWritingKept};
 
 // What stands before the description: the source's stride of a frame; the rows done, the rows and the source's stride of a band.
 const OF_FRAME: usize = 1;
@@ -552,4 +553,37 @@ pub extern "C" fn segvartin_call_shift_pairs(
     let pairing = shift_pairs::pair_files(our_form, ours, their_form, theirs);
     report_numbers::tell_pairing(pairing, report);
     tell_broken(pairing, told)
+}
+
+// ---- Y4M files. Their refusals 19 and 16 come without expected and received.
+
+// What a Y4M file's header says and how many pictures follow (0), or 19 where these bytes are none, with nothing written. Six numbers go to `entries` for
+// each picture from `first` on that has room: offset and length of Y, of U and of V in the file. told: width, height, the sampling's code, the
+// count, and how many pictures were told of; each 0 after 19.
+#[no_mangle]
+pub extern "C" fn segvartin_call_y4m_pictures(
+    file: &[u8],
+    first: usize,
+    entries: &mut [u64],
+    told: &mut [usize; 5],
+) -> u32
+    ensures { λ n. ⌜ Y4mReadingKept (exportedY4mReading (now (file .entry)) first (now (entries .entry)) n (now (told .exit)) (now (entries .exit))) ⌝ }
+{
+    y4m_calls::read_by_numbers(file, first, entries, told)
+}
+
+// Writes the Y4M file of pictures, each its Y, U and V without padding, back to back, at the front of `output` (0), a file of no picture too; or answers 19
+// where a side or the sampling's code is not allowed or the bytes are not whole pictures, 16 where `output` is shorter than the file, and writes nothing.
+// numbers: width, height, the sampling's code. told: the file's size, after 16 too; 0 after 19, and where the size is no number of 64 bits.
+#[no_mangle]
+pub extern "C" fn segvartin_call_y4m_write(
+    numbers: &[u32; 3],
+    pictures: &[u8],
+    output: &mut [u8],
+    told: &mut [usize; 1],
+) -> u32
+    ensures { λ n. ⌜ Y4mWritingKept (exportedY4mWriting (now (numbers .entry)) (now (pictures .entry)) (now (output .entry)) n (now (told .exit))
+        (now (output .exit))) ⌝ }
+{
+    y4m_calls::write_by_numbers(numbers, pictures, output, told)
 }
