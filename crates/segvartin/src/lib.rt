@@ -31,6 +31,7 @@ ghost use Rattle.yuv_error.specs.Lent.{taken};
 ghost use Rattle.segvartin.specs.Shift.{exportedReading, ReadingKept, formNumber, ReadingAnyKept, exportedWriting, WritingKept};
 ghost use Rattle.segvartin.specs.Shift.{exportedRecord, RecordKept, exportedMove, MoveKept};
 ghost use Rattle.y4m_calls.specs.Calls.{exportedY4mReading, Y4mReadingKept, exportedY4mWriting, Y4mWritingKept};
+ghost use Rattle.y4m_calls.specs.Calls.{exportedY4mPicture, Y4mPictureKept};
 
 // What stands before the description: the source's stride of a frame; the rows done, the rows and the source's stride of a band.
 const OF_FRAME: usize = 1;
@@ -586,4 +587,23 @@ pub extern "C" fn segvartin_call_y4m_write(
         (now (output .exit))) ⌝ }
 {
     y4m_calls::write_by_numbers(numbers, pictures, output, told)
+}
+
+// Writes one picture of a Y4M file from planes as a frame call leaves them, a line FRAME and then Y, U and V without padding, at the front of `output` (0); or
+// answers 19 where a side or the sampling's code is not allowed, a stride is shorter than its plane's row, or a plane is not stride × rows bytes, 16
+// where `output` is shorter than the picture, and writes nothing. A file with such pictures after it is the file with their planes: the file of no
+// picture begins one. numbers: width, height, the sampling's code, the strides of Y, U and V. told: the picture's size, after 16 too; 0 after 19.
+#[no_mangle]
+pub extern "C" fn segvartin_call_y4m_picture(
+    numbers: &[u32; 6],
+    y: &[u8],
+    u: &[u8],
+    v: &[u8],
+    output: &mut [u8],
+    told: &mut [usize; 1],
+) -> u32
+    ensures { λ n. ⌜ Y4mPictureKept (exportedY4mPicture (now (numbers .entry)) (now (y .entry)) (now (u .entry)) (now (v .entry)) (now (output .entry)) n
+        (now (told .exit)) (now (output .exit))) ⌝ }
+{
+    y4m_calls::picture_by_numbers(numbers, y, u, v, output, told)
 }

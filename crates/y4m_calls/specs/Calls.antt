@@ -1,5 +1,5 @@
--- Y4M files for C and Rust: what the calls `segvartin_call_y4m_pictures` and `_write` answer and leave, which is the promise of the call under each.
--- docs/RULES.md, 10.8.
+-- Y4M files for C and Rust: what the calls `segvartin_call_y4m_pictures`, `_write` and `_picture` answer and leave, which is the promise of the call
+-- under each. docs/RULES.md, 10.8.
 -- Assumes nothing.
 use Prim.Native.Nat.{ℕ}
 use mathlib.Core.Path.{_≡_}
@@ -11,6 +11,8 @@ use Rattle.y4m_reader.specs.declared.Y4mReading.{Y4mReading}
 use Rattle.y4m_reader.specs.Reading.{fileRules, ReadPost}
 use Rattle.y4m_writer.specs.declared.Y4mWritten.{Y4mWritten}
 use Rattle.y4m_writer.specs.Writing.{writeRules, WritePost}
+use Rattle.y4m_picture.specs.declared.PictureFrame.{PictureFrame}
+use Rattle.y4m_picture.specs.Picture.{pictureRules, PicturePost}
 
 -- ---- `segvartin_call_y4m_pictures`
 
@@ -76,3 +78,43 @@ pub record Y4mWritingKept (k : ExportedY4mWriting) : Type 0 where
   pub number : k .number ≡ numbersOf (written .answer) .number
   pub told : k .told ≡ written .size ∷ []
   pub wrote : WritePost (samplingGiven (k .numbers)) (widthGiven (k .numbers)) (heightGiven (k .numbers)) (k .pictures) (k .output) written (k .output′)
+
+-- ---- `segvartin_call_y4m_picture`
+
+-- RULES 10.8
+pub record ExportedY4mPicture : Type 0 where
+  pub numbers : List ℕ
+  pub y : List ℕ
+  pub u : List ℕ
+  pub v : List ℕ
+  pub output : List ℕ
+  pub number : ℕ
+  pub told : List ℕ
+  pub output′ : List ℕ
+
+-- RULES 10.8
+abbrev pub exportedY4mPicture : (numbers y u v output : List ℕ) (number : ℕ) (told output′ : List ℕ) → ExportedY4mPicture
+exportedY4mPicture numbers y u v output number told output′ =
+    record { numbers = numbers; y = y; u = u; v = v; output = output; number = number; told = told; output′ = output′ }
+
+-- RULES 10.8: width, height, the sampling's code, and the strides of Y, U and V
+abbrev pub frameOfPicture : (numbers : List ℕ) → PictureFrame
+frameOfPicture numbers = record {
+  width = widthGiven numbers;
+  height = heightGiven numbers;
+  sampling = samplingGiven numbers;
+  «y_stride» = getD numbers 3 0;
+  «u_stride» = getD numbers 4 0;
+  «v_stride» = getD numbers 5 0;
+}
+
+-- RULES 10.8: 19, 16
+abbrev pub rulesOfY4mPicture : ExportedY4mPicture → List Rule
+rulesOfY4mPicture k = pictureRules (frameOfPicture (k .numbers)) (k .y) (k .u) (k .v) (length (k .output))
+
+-- RULES 10.8: the promise of `write_picture`; told is the picture's size
+pub record Y4mPictureKept (k : ExportedY4mPicture) : Type 0 where
+  pub written : Y4mWritten
+  pub number : k .number ≡ numbersOf (written .answer) .number
+  pub told : k .told ≡ written .size ∷ []
+  pub wrote : PicturePost (frameOfPicture (k .numbers)) (k .y) (k .u) (k .v) (k .output) written (k .output′)

@@ -1,5 +1,6 @@
 // Y4M files by numbers, as C and Rust call them (RULES 10.8): each is one call of the reader or a writer, whose answer's number is returned and whose
 // other numbers go to the array `told`.
+use y4m_picture::PictureFrame;
 use y4m_reader::Y4mReading;
 use y4m_writer::Y4mWritten;
 use yuv_error::YuvAnswer;
@@ -9,6 +10,7 @@ ghost use lib.ListN.{length, set};
 ghost use Rattle.yuv_error.specs.Numbers.{numbersOf};
 ghost use Rattle.y4m_calls.specs.Known.{fiveTold};
 ghost use Rattle.y4m_calls.specs.Calls.{exportedY4mReading, Y4mReadingKept, exportedY4mWriting, Y4mWritingKept};
+ghost use Rattle.y4m_calls.specs.Calls.{exportedY4mPicture, Y4mPictureKept};
 
 fn number_of(answer: YuvAnswer) -> u32
     ensures { λ n. ⌜ n ≡ numbersOf answer .number ⌝ }
@@ -69,5 +71,31 @@ pub fn write_by_numbers(
     let width = wide(numbers[0]);
     let height = wide(numbers[1]);
     let written = y4m_writer::write_pictures(numbers[2], width, height, pictures, output);
+    tell_size(written, told)
+}
+
+// Writes one picture, a line FRAME and the planes without their padding (0); or answers 19 where a number is not allowed or a plane is not so many rows of
+// its stride, 16 where `output` is shorter than the picture, and writes nothing. numbers: width, height, the sampling's code, the strides of Y, U and
+// V. told: the picture's size, after 16 too.
+pub fn picture_by_numbers(
+    numbers: &[u32; 6],
+    y: &[u8],
+    u: &[u8],
+    v: &[u8],
+    output: &mut [u8],
+    told: &mut [usize; 1],
+) -> u32
+    ensures { λ n. ⌜ Y4mPictureKept (exportedY4mPicture (now (numbers .entry)) (now (y .entry)) (now (u .entry)) (now (v .entry)) (now (output .entry)) n
+        (now (told .exit)) (now (output .exit))) ⌝ }
+{
+    let frame = PictureFrame {
+        width: numbers[0],
+        height: numbers[1],
+        sampling: numbers[2],
+        y_stride: numbers[3],
+        u_stride: numbers[4],
+        v_stride: numbers[5],
+    };
+    let written = y4m_picture::write_picture(frame, y, u, v, output);
     tell_size(written, told)
 }
