@@ -54,7 +54,7 @@ use Rattle.segvartin.specs.Shift.{rulesOfReading, rulesOfReadingAny, rulesOfWri
 use Rattle.shift_pairs.specs.Pairing.{pairingRules}
 use Rattle.segvartin.specs.Pairs.{rulesOfPairing}
 use Rattle.segvartin.proofs.Pairs.{pairing-first, pairing-writes-nothing}
-use Rattle.segvartin.proofs.Shift.{unwritten, reading-first, reading-writes-nothing, reading-any-first, reading-any-writes-nothing}
+use Rattle.segvartin.proofs.Shift.{alone, unwritten, reading-first, reading-writes-nothing, reading-any-first, reading-any-writes-nothing}
 use Rattle.segvartin.proofs.Shift.{writing-first, writing-writes-nothing, record-first, record-writes-nothing, move-first, move-writes-nothing}
 use Rattle.shift_file.specs.declared.ShiftForm.{ShiftForm}
 use Rattle.shift_file.specs.declared.ShiftForm.the-variants.{WithoutSettings, WithSettings}
@@ -70,6 +70,12 @@ use Rattle.summary_calls.specs.Calls.{buildRules, CheckPost, findRules, foundTo
 use Rattle.summary_update.specs.Update.{updateRules}
 use Rattle.segvartin.specs.Summary.{asNumber, foundCount, foundPlace, rulesOfBuild, rulesOfCheck, rulesOfFind, rulesOfUpdate}
 use Rattle.segvartin.proofs.Summary.{build-first, build-writes-nothing, check-first, find-first, update-first, update-writes-nothing}
+use Rattle.y4m_reader.specs.declared.Y4mReading.{Y4mReading}
+use Rattle.y4m_reader.specs.Entry.{entriesOf}
+use Rattle.y4m_reader.specs.Reading.{fileRules as y4mFileRules, ReadPost as Y4mReadPost}
+use Rattle.y4m_writer.specs.Writing.{writeRules as y4mWriteRules}
+use Rattle.y4m_picture.specs.Picture.{pictureRules}
+use Rattle.y4m_calls.specs.Calls.{rulesOfY4mReading, rulesOfY4mWriting, rulesOfY4mPicture}
 use Rattle.demands.specs.Demands.{Replied, CountsReplied, Demand1, Demand2, Demand3, WholeFrame, FrameBytes}
 
 -- the promise's equation, read as the sentence of RULES 7.1
@@ -105,6 +111,23 @@ finds-nothing : (form : ShiftForm) (file summary : List ℕ) (crossing : ℕ) (r
     → 1 ≤ numbersOf (r .answer) .number → r .found ≡ Nowhere
 finds-nothing form file summary crossing r p l =
     p .found ∙ ap (λ (a : YuvAnswer). foundTold a (foundAmong crossing (recordsIn form file))) (refusal (r .answer) l .1)
+
+-- reading a Y4M file that is refused leaves the entries as they were
+y4m-unread : {file : List ℕ} {first : ℕ} {before after : List ℕ} {r : Y4mReading} {e : YuvError} → Y4mReadPost file first before r after
+    → r .answer ≡ Refused e → after ≡ before
+unfolding entriesOf
+y4m-unread {r = r} p is = let none : r .told ≡ 0 = rw is at (p .told) in p .entries ∙ rw none
+
+-- and tells 0 five times
+y4m-untold : {file : List ℕ} {first : ℕ} {before after : List ℕ} {r : Y4mReading} {e : YuvError} → Y4mReadPost file first before r after
+    → r .answer ≡ Refused e → r .width ∷ r .height ∷ r .sampling ∷ r .count ∷ r .told ∷ [] ≡ 0 ∷ 0 ∷ 0 ∷ 0 ∷ 0 ∷ []
+y4m-untold {r = r} p is =
+    let width : r .width ≡ 0 = rw is at (p .width) in
+    let height : r .height ≡ 0 = rw is at (p .height) in
+    let sampling : r .sampling ≡ 0 = rw is at (p .sampling) in
+    let count : r .count ≡ 0 = rw is at (p .count) in
+    let told : r .told ≡ 0 = rw is at (p .told) in
+    rw (width, height, sampling, count, told)
 
 -- what the first rule that holds says is the only right answer, and `reply` goes by its number
 replied : (input bytes : List ℕ) → bytes ≡ reply input → Replied input bytes
@@ -176,6 +199,18 @@ demand-1 = record {
   reply = λ input output n output′ p. replied input (take n output′) (p .written);
   counts-reply = λ input output n output′ p. counts-replied input (take n output′) (p .written);
   shift-pairing = λ our-form ours their-form theirs r p. lowest (pairingRules our-form ours their-form theirs) refl (p .answered);
+  y4m-reading = λ file first before r after p. record {
+    lowest = lowest (y4mFileRules file) refl (p .answered);
+    writes-nothing = λ l. y4m-unread p (refusal (r .answer) l .1);
+  };
+  y4m-writing = λ code w h pictures before r after p. record {
+    lowest = lowest (y4mWriteRules code w h pictures (length before)) refl (p .answered);
+    writes-nothing = λ l. unwritten (r .answer) _ l (p .written);
+  };
+  y4m-picture = λ f y u v before r after p. record {
+    lowest = lowest (pictureRules f y u v (length before)) refl (p .answered);
+    writes-nothing = λ l. unwritten (r .answer) _ l (p .written);
+  };
   request = λ input output r output′ p. record { lowest = lowest (requestRules input) refl (p .answered); writes-nothing = request-writes-nothing r p };
   linked-frame = λ k p. record { lowest = lowest (rulesOfFrame k) refl (frame-first p); writes-nothing = frame-writes-nothing p };
   linked-opening = λ k p. (lowest (rulesOfOpening k) refl (open-first p), open-done p);
@@ -201,6 +236,20 @@ demand-1 = record {
         (finds-nothing (formIn (k .file)) (k .file) (k .summary) (k .crossing) (p .finding) (p .found) (rw (p .number) at l)),
   );
   linked-summary-update = λ k p. record { lowest = lowest (rulesOfUpdate k) refl (update-first p); writes-nothing = update-writes-nothing p };
+  linked-y4m-reading = λ k p. record {
+    lowest = lowest (rulesOfY4mReading k) refl (alone (rulesOfY4mReading k) (p .reading .answer) (refl, tt) (p .number) (p .read .answered));
+    writes-nothing = λ l.
+        let no = refusal (p .reading .answer) (rw (p .number) at l) .1 in
+        (y4m-unread (p .read) no, p .told ∙ y4m-untold (p .read) no);
+  };
+  linked-y4m-writing = λ k p. record {
+    lowest = lowest (rulesOfY4mWriting k) refl (alone (rulesOfY4mWriting k) (p .written .answer) (refl, (refl, tt)) (p .number) (p .wrote .answered));
+    writes-nothing = λ l. unwritten (p .written .answer) _ (rw (p .number) at l) (p .wrote .written);
+  };
+  linked-y4m-picture = λ k p. record {
+    lowest = lowest (rulesOfY4mPicture k) refl (alone (rulesOfY4mPicture k) (p .written .answer) (refl, (refl, tt)) (p .number) (p .wrote .answered));
+    writes-nothing = λ l. unwritten (p .written .answer) _ (rw (p .number) at l) (p .wrote .written);
+  };
 }
 
 is-true : (b : Bool) → T b → b ≡ true

@@ -6,3 +6,5 @@ pub mod ShiftFiles
 pub mod ShiftSummaries
 pub mod ShiftPairs
 pub mod ShiftMoves
+pub mod Y4mParts
+pub mod Y4mFiles

@@ -126,14 +126,14 @@ module _ (f : RecordFrame) (y u v before : List ℕ) (r : ShiftWritten) (after :
 -- ---- the planes of a frame
 
 -- the rows of a plane without padding: so many bytes, and which is which
-plane-record : (n stride rows : ℕ) (plane : List ℕ) (byte : ℕ → ℕ → ℕ) → n ≤ stride → length plane ≡ stride * rows
+pub plane-record : (n stride rows : ℕ) (plane : List ℕ) (byte : ℕ → ℕ → ℕ) → n ≤ stride → length plane ≡ stride * rows
     → ((i x : ℕ) → i < rows → x < n → getD plane (i * stride + x) 0 ≡ byte i x)
     → (length (unpadded n stride rows plane) ≡ n * rows) × ((i x : ℕ) → i < rows → x < n → getD (unpadded n stride rows plane) (i * n + x) 0 ≡ byte i x)
 plane-record n stride rows plane byte wide size is =
     let all : stride * rows ≤ length plane = omega arith in
     (length-unpadded n stride wide rows plane all, λ i x k l. unpadded-at n stride wide rows plane all i x k l ∙ is i x k l)
 
-side : (x : ℕ) → 1 ≤ x → x ≤ 16384 → isSide x ≡ true
+pub side : (x : ℕ) → 1 ≤ x → x ≤ 16384 → isSide x ≡ true
 side x l m = also (leb 1 x) (leb x 16384) (le-leb 1 x l) (le-leb x 16384 m)
 
 -- the frame of a call, as that of a record in this form with these settings
@@ -227,7 +227,7 @@ frame-is k f o = λ i. record {
   «v_stride» = sym (o .v-stride) i;
 }
 
-sampling-code : (a : YuvChromaSubsampling) → ltb (samplingCode a) 2 ≡ true
+pub sampling-code : (a : YuvChromaSubsampling) → ltb (samplingCode a) 2 ≡ true
 sampling-code Yuv420 = refl
 sampling-code Yuv422 = refl
 
@@ -253,7 +253,7 @@ transfer-code Gamma2p8 = refl
 codes-allowed : (s : YuvSettings) → codesAllowed WithSettings (codesOf s) ≡ true
 codes-allowed s = rw (sampling-code (s .sampling), range-code (s .range), matrix-code (s .matrix), transfer-code (s .transfer))
 
-sampling-said : (a : YuvChromaSubsampling) → getD samplingCodes (samplingCode a) Yuv420 ≡ a
+pub sampling-said : (a : YuvChromaSubsampling) → getD samplingCodes (samplingCode a) Yuv420 ≡ a
 sampling-said Yuv420 = refl
 sampling-said Yuv422 = refl
 

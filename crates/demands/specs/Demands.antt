@@ -1,11 +1,12 @@
 -- The three demands, one after the other, and what else is claimed of all calls. Each cites definitions alone: the promises of the calls
 -- (`FramePost`, `OpenPost`, `BandPost`, `CountsPost`, `ReadPost`, `WritePost`, `RecordPost`, `MovePost`, `BuildPost`, `CheckPost`, `FindPost`,
--- `UpdatePost`, `PairingPost`, `RequestPost`, `Begins`, and `..Kept` of the calls that C and Rust link, the very predicates of their `ensures`), which hold of every
--- call whatever it is given, and the rules, rows, planes, curves, files, summaries and reports that they speak of. Their proofs are `demand-1`,
--- `demand-2` and `demand-3` of proofs/Demands.antt, `grey` of Grey.antt, `counts` of Counts.antt, `shift-files` of ShiftFiles.antt, `shift-moves`
--- of ShiftMoves.antt, `shift-summaries` of ShiftSummaries.antt and `shift-pairs` of ShiftPairs.antt.
+-- `UpdatePost`, `PairingPost`, `PicturePost`, `RequestPost`, `Begins`, and `..Kept` of the calls that C and Rust link, the very predicates of
+-- their `ensures`), which hold of every call whatever it is given, and the rules, rows, planes, curves, files, summaries and reports that they
+-- speak of. Their proofs are `demand-1`, `demand-2` and `demand-3` of proofs/Demands.antt, `grey` of Grey.antt, `counts` of Counts.antt,
+-- `shift-files` of ShiftFiles.antt, `shift-moves` of ShiftMoves.antt, `shift-summaries` of ShiftSummaries.antt, `shift-pairs` of
+-- ShiftPairs.antt and `y4m-files` of Y4mFiles.antt.
 -- Assumes nothing.
-use Prim.Native.Nat.{ℕ, _+_, _*_, _≤_, _<_}
+use Prim.Native.Nat.{ℕ, _+_, _*_, _-_, _/_, _^_, _≤_, _<_, min}
 use mathlib.Core.Path.{_≡_}
 use mathlib.Core.Bool.{true, false}
 use mathlib.Core.List.{List, [], _∷_, _++_}
@@ -89,6 +90,21 @@ use Rattle.shift_pairs.specs.Means.{OneOrNone, CountsAddUp, FirstOrNone}
 use Rattle.shift_pairs.specs.Pairing.{pairingRules, PairingPost}
 use Rattle.report_numbers.specs.Numbers.{reportNumbers}
 use Rattle.segvartin.specs.Pairs.{ExportedPairing, rulesOfPairing, PairingKept}
+use Rattle.yuv_support.specs.Sampling.{chromaWidth}
+use Rattle.y4m_file.specs.File.{Y4mPicture, Y4mFile, EachAllowed, lumaBytes, chromaBytes, pictureBytes, IsFileOf as IsY4mOf}
+use Rattle.y4m_file.specs.Means.{SomeFile, OneFile, ReadBack as Y4mReadBack, Rewritten as Y4mRewritten}
+use Rattle.y4m_reader.specs.declared.Y4mReading.{Y4mReading}
+use Rattle.y4m_reader.specs.Entry.{pictureOf}
+use Rattle.y4m_reader.specs.Reading.{fileRules as y4mFileRules, ReadPost as Y4mReadPost}
+use Rattle.y4m_writer.specs.declared.Y4mWritten.{Y4mWritten}
+use Rattle.y4m_writer.specs.Pictures.{samplingOf as y4mSampling, fileMade as y4mMade, planesOf}
+use Rattle.y4m_writer.specs.Writing.{writeRules as y4mWriteRules, WritePost as Y4mWritePost}
+use Rattle.y4m_picture.specs.declared.PictureFrame.{PictureFrame}
+use Rattle.y4m_picture.specs.Picture.{chromaRows as pictureRows, pictureMade, pictureRules, PicturePost}
+use Rattle.y4m_picture.specs.Means.{planesMade}
+use Rattle.y4m_calls.specs.Calls.{ExportedY4mReading, rulesOfY4mReading, Y4mReadingKept}
+use Rattle.y4m_calls.specs.Calls.{ExportedY4mWriting, widthGiven, heightGiven, samplingGiven, rulesOfY4mWriting, Y4mWritingKept}
+use Rattle.y4m_calls.specs.Calls.{ExportedY4mPicture, frameOfPicture, rulesOfY4mPicture, Y4mPictureKept}
 
 -- ---- 1. Every call answers finished work or one numbered refusal, for all sizes, strides, buffers and settings; a refusal writes no byte.
 
@@ -111,8 +127,8 @@ CountsReplied input bytes =
     → (x .number ≡ 0 → bytes ≡ lines (countOf (rangeOf input) (matrixOf input)) 256) × (1 ≤ x .number → bytes ≡ refusalLine (x .number))
 
 -- RULES 7.1, 7.2: of the calls of Rattle, which are frame, opening, band, a count of colours, reading and writing a shift file, one record of it,
--- moving a file to its other form, building, checking, asking and updating its summary, pairing two files, and a request of the program; then of those that C and Rust link, whose
--- numbers come first to be refused
+-- moving a file to its other form, building, checking, asking and updating its summary, pairing two files, reading and writing a Y4M file, one
+-- picture of it, and a request of the program; then of those that C and Rust link, whose numbers come first to be refused
 pub record Demand1 : Type 0 where
   pub frame : (k : FrameCall) → FramePost k → Answered (frameRules k) (numbersOf (k .answer)) (Unwritten k)
   pub opening : (d : FrameDescription) (r : FrameAnswer) → OpenPost d r → Lowest (openingRules d) (numbersOf (r .answer))
@@ -138,6 +154,12 @@ pub record Demand1 : Type 0 where
       → Answered (updateRules form file added before) (numbersOf a) (after ≡ before)
   pub shift-pairing : (our-form : ShiftForm) (ours : List ℕ) (their-form : ShiftForm) (theirs : List ℕ) (r : Pairing)
       → PairingPost our-form ours their-form theirs r → Lowest (pairingRules our-form ours their-form theirs) (numbersOf (r .answer))
+  pub y4m-reading : (file : List ℕ) (first : ℕ) (before : List ℕ) (r : Y4mReading) (after : List ℕ) → Y4mReadPost file first before r after
+      → Answered (y4mFileRules file) (numbersOf (r .answer)) (after ≡ before)
+  pub y4m-writing : (code w h : ℕ) (pictures before : List ℕ) (r : Y4mWritten) (after : List ℕ) → Y4mWritePost code w h pictures before r after
+      → Answered (y4mWriteRules code w h pictures (length before)) (numbersOf (r .answer)) (after ≡ before)
+  pub y4m-picture : (f : PictureFrame) (y u v before : List ℕ) (r : Y4mWritten) (after : List ℕ) → PicturePost f y u v before r after
+      → Answered (pictureRules f y u v (length before)) (numbersOf (r .answer)) (after ≡ before)
   pub request : (input output : List ℕ) (response : Response) (output′ : List ℕ) → RequestPost input output response output′
       → Answered (requestRules input) (responseNumbers response) (output′ ≡ output)
   -- and what the program writes for it: the planes where no condition holds, or the line of the first number whose condition holds
@@ -148,7 +170,8 @@ pub record Demand1 : Type 0 where
   pub linked-band : (k : ExportedBand) → BandKept k
       → Answered (rulesOfBand k) (numbersTold (k .number) (k .told)) (Kept k (doneTold (k .told)))
   pub linked-counts : (k : ExportedCounts) → CountsKept k → Answered (rulesOfCounts k) (numbersTold (k .number) (k .told)) (k .counts′ ≡ k .counts)
-  -- 15, 16, 17 and 20 come without expected and received, so the number alone tells the answer of these, of the summary's four, and of the pairing
+  -- 15, 16, 17, 19 and 20 come without expected and received, so the number alone tells the answer of these, of the summary's four, of the pairing,
+  -- and of the three of Y4M
   pub linked-shift-reading : (k : ExportedReading) → ReadingKept k → Answered (rulesOfReading k) (numbers (k .number) 0 0) (k .entries′ ≡ k .entries)
   pub linked-shift-reading-any : (k : ExportedReading) → ReadingAnyKept k
       → Answered (rulesOfReadingAny k) (numbers (k .number) 0 0) (k .entries′ ≡ k .entries)
@@ -165,6 +188,12 @@ pub record Demand1 : Type 0 where
   pub linked-summary-find : (k : ExportedFind) → FindKept k
       → Lowest (rulesOfFind k) (numbers (k .number) 0 0) × (1 ≤ k .number → k .told ≡ 0 ∷ 0 ∷ [])
   pub linked-summary-update : (k : ExportedUpdate) → UpdateKept k → Answered (rulesOfUpdate k) (numbers (k .number) 0 0) (k .summary′ ≡ k .summary)
+  pub linked-y4m-reading : (k : ExportedY4mReading) → Y4mReadingKept k
+      → Answered (rulesOfY4mReading k) (numbers (k .number) 0 0) ((k .entries′ ≡ k .entries) × (k .told ≡ 0 ∷ 0 ∷ 0 ∷ 0 ∷ 0 ∷ []))
+  pub linked-y4m-writing : (k : ExportedY4mWriting) → Y4mWritingKept k
+      → Answered (rulesOfY4mWriting k) (numbers (k .number) 0 0) (k .output′ ≡ k .output)
+  pub linked-y4m-picture : (k : ExportedY4mPicture) → Y4mPictureKept k
+      → Answered (rulesOfY4mPicture k) (numbers (k .number) 0 0) (k .output′ ≡ k .output)
 
 -- ---- 2. Frames of 1 to 16,384 pixels a side, anywhere in a source of at most 16,384 a side in whole rows, with any channel order, sampling, range,
 -- transfer, rounding and accepted matrix: every byte of the planes is the one that the rules name, which is that of the Rust over our stated curve
@@ -317,14 +346,20 @@ pub record OfFrame (k : FrameCall) (f : RecordFrame) : Type 0 where
 abbrev pub codesOf : YuvSettings → List ℕ
 codesOf s = samplingCode (s .sampling) ∷ rangeCode (s .range) ∷ matrixCode (s .matrix) ∷ transferCode (s .transfer) ∷ []
 
--- RULES 2.5, 11.6: every byte of a record's planes is the one that the rules name
-pub record RecordBytes (k : FrameCall) (r : ShiftRecord) : Type 0 where
-  pub y-size : length (r .y) ≡ k .frame .width * k .frame .height
-  pub u-size : length (r .u) ≡ chromaSize (k .frame) * chromaRows (k .frame)
-  pub v-size : length (r .v) ≡ chromaSize (k .frame) * chromaRows (k .frame)
-  pub luma : (i x : ℕ) → i < k .frame .height → x < k .frame .width → getD (r .y) (i * k .frame .width + x) 0 ≡ lumaAt (k .frame) (imageOf k) i x
-  pub cb : (i x : ℕ) → i < chromaRows (k .frame) → x < chromaSize (k .frame) → getD (r .u) (i * chromaSize (k .frame) + x) 0 ≡ cbAt (k .frame) (imageOf k) i x
-  pub cr : (i x : ℕ) → i < chromaRows (k .frame) → x < chromaSize (k .frame) → getD (r .v) (i * chromaSize (k .frame) + x) 0 ≡ crAt (k .frame) (imageOf k) i x
+-- RULES 2.5, 11.6: planes without padding whose every byte is the one that the rules name
+pub record PlaneBytes (k : FrameCall) (y u v : List ℕ) : Type 0 where
+  pub y-size : length y ≡ k .frame .width * k .frame .height
+  pub u-size : length u ≡ chromaSize (k .frame) * chromaRows (k .frame)
+  pub v-size : length v ≡ chromaSize (k .frame) * chromaRows (k .frame)
+  pub luma : (i x : ℕ) → i < k .frame .height → x < k .frame .width → getD y (i * k .frame .width + x) 0 ≡ lumaAt (k .frame) (imageOf k) i x
+  pub cb : (i x : ℕ) → i < chromaRows (k .frame) → x < chromaSize (k .frame)
+      → getD u (i * chromaSize (k .frame) + x) 0 ≡ cbAt (k .frame) (imageOf k) i x
+  pub cr : (i x : ℕ) → i < chromaRows (k .frame) → x < chromaSize (k .frame)
+      → getD v (i * chromaSize (k .frame) + x) 0 ≡ crAt (k .frame) (imageOf k) i x
+
+-- RULES 11.6
+abbrev pub RecordBytes : FrameCall → ShiftRecord → Type 0
+RecordBytes k r = PlaneBytes k (r .y) (r .u) (r .v)
 
 -- RULES 11.3, 11.4, 11.5, 11.6, 11.7
 pub record ShiftFiles : Type 0 where
@@ -519,3 +554,165 @@ pub record ShiftPairs : Type 0 where
   pub linked : (our-form their-form : ShiftForm) (k : ExportedPairing) (rs ss : List ShiftRecord) → IsFileOf our-form (k .ours) rs
       → IsFileOf their-form (k .theirs) ss → PairingKept k → (k .number ≡ 0) × (k .told ≡ 0 ∷ [])
       × (k .report′ ≡ reportNumbers (reportOf (record { our-form = our-form; ours = rs; their-form = their-form; theirs = ss })))
+
+-- ---- Y4M: bytes are one file at most, 19 is answered exactly where they are none, and what is told is what the header says and where the planes
+-- stand. Pictures written are a file that reads back with the same planes; 19 is answered exactly where they are no pictures of allowed sides and
+-- sampling, and then 16 exactly where they have no room. A file with pictures written after it, one by one, is the file of all their planes, and a
+-- picture made of the planes of a frame call is these planes without padding.
+
+-- RULES 14.4: no file has these bytes
+abbrev pub NoY4m : (file : List ℕ) → Type 0
+NoY4m file = (f : Y4mFile) → IsY4mOf file f → ⊥
+
+-- RULES 14.5: the parts of a file that an entry names, by offset and length of each, are the planes of a picture
+pub record NamesPlanes (file entry : List ℕ) (p : Y4mPicture) : Type 0 where
+  pub y : take (getD entry 1 0) (drop (getD entry 0 0) file) ≡ p .y
+  pub u : take (getD entry 3 0) (drop (getD entry 2 0) file) ≡ p .u
+  pub v : take (getD entry 5 0) (drop (getD entry 4 0) file) ≡ p .v
+
+-- RULES 14.5: everything that is told of a file
+pub record Y4mTold (file : List ℕ) (f : Y4mFile) (first : ℕ) (before : List ℕ) (r : Y4mReading) (after : List ℕ) : Type 0 where
+  pub width : r .width ≡ f .width
+  pub height : r .height ≡ f .height
+  pub sampling : r .sampling ≡ samplingCode (f .sampling)
+  pub count : r .count ≡ length (f .pictures)
+  pub told : r .told ≡ min (length (f .pictures) - first) (length before / 6)
+  pub planes : (i : ℕ) → i < r .told → NamesPlanes file (drop (6 * i) after) (pictureOf f (first + i))
+  pub others : drop (6 * r .told) after ≡ drop (6 * r .told) before
+
+-- RULES 14.6: the code of a sampling, and sides of 1 to 16,384
+pub record ShapeAllowed (code w h : ℕ) : Type 0 where
+  pub code-is : code < 2
+  pub width-least : 1 ≤ w
+  pub width-most : w ≤ 16384
+  pub height-least : 1 ≤ h
+  pub height-most : h ≤ 16384
+
+-- RULES 14.6: pictures of such a shape, whose planes back to back are these bytes
+pub record PicturesIn (code w h : ℕ) (bytes : List ℕ) (ps : List Y4mPicture) : Type 0 where
+  pub shape : ShapeAllowed code w h
+  pub each : EachAllowed (lumaBytes w h) (chromaBytes (y4mSampling code) w h) ps
+  pub same : planesOf ps ≡ bytes
+
+-- RULES 14.6: these bytes are none such
+abbrev pub NoPictures : (code w h : ℕ) → (bytes : List ℕ) → Type 0
+NoPictures code w h bytes = (ps : List Y4mPicture) → PicturesIn code w h bytes ps → ⊥
+
+-- RULES 14.6: these bytes are a file of these sides, this sampling and these planes
+pub record Y4mOf (code w h : ℕ) (pictures file : List ℕ) (f : Y4mFile) : Type 0 where
+  pub is-file : IsY4mOf file f
+  pub width : f .width ≡ w
+  pub height : f .height ≡ h
+  pub sampling : f .sampling ≡ y4mSampling code
+  pub planes : planesOf (f .pictures) ≡ pictures
+
+-- RULES 14.7: planes in whole rows, of such a shape
+pub record WholePicture (f : PictureFrame) (y u v : List ℕ) : Type 0 where
+  pub shape : ShapeAllowed (f .sampling) (f .width) (f .height)
+  pub y-rows : WholeRows (f .width) (f .height) (f .«y_stride») y
+  pub u-rows : WholeRows (chromaWidth (f .width)) (pictureRows f) (f .«u_stride») u
+  pub v-rows : WholeRows (chromaWidth (f .width)) (pictureRows f) (f .«v_stride») v
+
+-- RULES 14.7: a call that makes a picture, and what came of it
+pub record PictureCall : Type 0 where
+  pub frame : PictureFrame
+  pub y : List ℕ
+  pub u : List ℕ
+  pub v : List ℕ
+  pub output : List ℕ
+  pub result : Y4mWritten
+  pub output′ : List ℕ
+
+-- RULES 14.7: of these sides and this sampling, and finished
+pub record PictureWritten (code w h : ℕ) (k : PictureCall) : Type 0 where
+  pub sampling : k .frame .sampling ≡ code
+  pub width : k .frame .width ≡ w
+  pub height : k .frame .height ≡ h
+  pub met : PicturePost (k .frame) (k .y) (k .u) (k .v) (k .output) (k .result) (k .output′)
+  pub finished : k .result .answer ≡ Finished
+
+-- RULES 14.7
+abbrev pub AllWritten : (code w h : ℕ) → List PictureCall → Type 0
+AllWritten code w h [] = Unit {0}
+AllWritten code w h (k ∷ ks) = PictureWritten code w h k × AllWritten code w h ks
+
+-- RULES 14.7: what calls wrote, one after the other
+abbrev pub bytesWritten : List PictureCall → List ℕ
+bytesWritten [] = []
+bytesWritten (k ∷ ks) = take (k .result .size) (k .output′) ++ bytesWritten ks
+
+-- RULES 14.7: the planes that they were given, without padding
+abbrev pub planesGiven : List PictureCall → List ℕ
+planesGiven [] = []
+planesGiven (k ∷ ks) = planesMade (k .frame) (k .y) (k .u) (k .v) ++ planesGiven ks
+
+-- RULES 14.7: the frame of a call, with the strides of its planes, as that of a picture
+pub record PictureOfFrame (k : FrameCall) (f : PictureFrame) : Type 0 where
+  pub sampling : f .sampling ≡ samplingCode (k .frame .settings .sampling)
+  pub width : f .width ≡ k .frame .width
+  pub height : f .height ≡ k .frame .height
+  pub y-stride : f .«y_stride» ≡ k .frame .«y_stride»
+  pub u-stride : f .«u_stride» ≡ k .frame .«u_stride»
+  pub v-stride : f .«v_stride» ≡ k .frame .«v_stride»
+
+-- RULES 14.4, 14.5, 14.6, 14.7, 10.8
+pub record Y4mFiles : Type 0 where
+  -- of the definitions
+  pub some-file : SomeFile
+  pub one-file : OneFile
+  pub read-back : Y4mReadBack
+  pub rewritten : Y4mRewritten
+  -- the file of no picture of 4 × 2 is YUV4MPEG2 W4 H2 F25:1 Ip C420jpeg and a newline
+  pub line : y4mMade 0 4 2 []
+      ≡ 89 ∷ 85 ∷ 86 ∷ 52 ∷ 77 ∷ 80 ∷ 69 ∷ 71 ∷ 50 ∷ 32 ∷ 87 ∷ 52 ∷ 32 ∷ 72 ∷ 50 ∷ 32 ∷ 70 ∷ 50 ∷ 53 ∷ 58 ∷ 49 ∷ 32 ∷ 73 ∷ 112 ∷ 32 ∷ 67 ∷ 52 ∷ 50 ∷ 48
+      ∷ 106 ∷ 112 ∷ 101 ∷ 103 ∷ 10 ∷ []
+  -- of reading: 19, and otherwise everything that is told
+  pub refused : (file : List ℕ) (first : ℕ) (before : List ℕ) (r : Y4mReading) (after : List ℕ) → Y4mReadPost file first before r after
+      → (numbersOf (r .answer) .number ≡ 19) ↔ NoY4m file
+  pub read : (file : List ℕ) (first : ℕ) (before : List ℕ) (r : Y4mReading) (after : List ℕ) → Y4mReadPost file first before r after
+      → (f : Y4mFile) → IsY4mOf file f → (r .answer ≡ Finished) × Y4mTold file f first before r after
+  -- of writing: 19, then 16, and otherwise the file of these planes. No buffer has 2^64 bytes.
+  pub write-refused : (code w h : ℕ) (pictures before : List ℕ) (r : Y4mWritten) (after : List ℕ) → Y4mWritePost code w h pictures before r after
+      → (numbersOf (r .answer) .number ≡ 19) ↔ NoPictures code w h pictures
+  pub write-short : (code w h : ℕ) (pictures before : List ℕ) (r : Y4mWritten) (after : List ℕ) → Y4mWritePost code w h pictures before r after
+      → (ps : List Y4mPicture) → PicturesIn code w h pictures ps
+      → (numbersOf (r .answer) .number ≡ 16) ↔ (length before < length (y4mMade code w h pictures))
+  pub written : (code w h : ℕ) (pictures before : List ℕ) (r : Y4mWritten) (after : List ℕ) → Y4mWritePost code w h pictures before r after
+      → length before < 2 ^ 64 → r .answer ≡ Finished
+      → ((f : Y4mFile) × Y4mOf code w h pictures (take (r .size) after) f) × (drop (r .size) after ≡ drop (r .size) before)
+  -- read back, it tells the sides, the sampling and the planes that were given
+  pub written-read : (code w h : ℕ) (pictures before : List ℕ) (r : Y4mWritten) (after : List ℕ) → Y4mWritePost code w h pictures before r after
+      → length before < 2 ^ 64 → r .answer ≡ Finished
+      → (first : ℕ) (before₂ : List ℕ) (r₂ : Y4mReading) (after₂ : List ℕ) → Y4mReadPost (take (r .size) after) first before₂ r₂ after₂
+      → (r₂ .answer ≡ Finished)
+      × ((f : Y4mFile) × Y4mOf code w h pictures (take (r .size) after) f × Y4mTold (take (r .size) after) f first before₂ r₂ after₂)
+  -- of one picture: the same
+  pub picture-refused : (f : PictureFrame) (y u v before : List ℕ) (r : Y4mWritten) (after : List ℕ) → PicturePost f y u v before r after
+      → (numbersOf (r .answer) .number ≡ 19) ↔ (WholePicture f y u v → ⊥)
+  pub picture-short : (f : PictureFrame) (y u v before : List ℕ) (r : Y4mWritten) (after : List ℕ) → PicturePost f y u v before r after
+      → WholePicture f y u v → (numbersOf (r .answer) .number ≡ 16) ↔ (length before < length (pictureBytes (pictureMade f y u v)))
+  pub picture-written : (f : PictureFrame) (y u v before : List ℕ) (r : Y4mWritten) (after : List ℕ) → PicturePost f y u v before r after
+      → r .answer ≡ Finished
+      → (take (r .size) after ≡ pictureBytes (pictureMade f y u v)) × (drop (r .size) after ≡ drop (r .size) before)
+  -- a file, of no picture too, and pictures written after it one by one
+  pub one-by-one : (code w h : ℕ) (pictures before : List ℕ) (r : Y4mWritten) (after : List ℕ) → Y4mWritePost code w h pictures before r after
+      → length before < 2 ^ 64 → r .answer ≡ Finished → (ks : List PictureCall) → AllWritten code w h ks
+      → (f : Y4mFile) × Y4mOf code w h (pictures ++ planesGiven ks) (take (r .size) after ++ bytesWritten ks) f
+  -- of the planes of a frame: a picture is made wherever it has room, and its planes are the frame's without padding
+  pub frame-whole : (k : FrameCall) (f : PictureFrame) → FramePost k → k .answer ≡ Finished → PictureOfFrame k f
+      → WholePicture f (k .y′) (k .u′) (k .v′)
+  pub frame : (k : FrameCall) (f : PictureFrame) → FramePost k → k .answer ≡ Finished → PictureOfFrame k f
+      → let p = pictureMade f (k .y′) (k .u′) (k .v′) in PlaneBytes k (p .y) (p .u) (p .v)
+  -- for who links the library: the number and what is told say the same
+  pub linked-refused : (k : ExportedY4mReading) → Y4mReadingKept k → (k .number ≡ 19) ↔ NoY4m (k .file)
+  pub linked-read : (k : ExportedY4mReading) (p : Y4mReadingKept k) (f : Y4mFile) → IsY4mOf (k .file) f
+      → (k .number ≡ 0) × (k .told ≡ f .width ∷ f .height ∷ samplingCode (f .sampling) ∷ length (f .pictures) ∷ p .reading .told ∷ [])
+      × Y4mTold (k .file) f (k .first) (k .entries) (p .reading) (k .entries′)
+  pub linked-write-refused : (k : ExportedY4mWriting) → Y4mWritingKept k
+      → (k .number ≡ 19) ↔ NoPictures (samplingGiven (k .numbers)) (widthGiven (k .numbers)) (heightGiven (k .numbers)) (k .pictures)
+  pub linked-written : (k : ExportedY4mWriting) (p : Y4mWritingKept k) → k .number ≡ 0
+      → (p .written .answer ≡ Finished) × (k .told ≡ p .written .size ∷ [])
+  pub linked-picture-refused : (k : ExportedY4mPicture) → Y4mPictureKept k
+      → (k .number ≡ 19) ↔ (WholePicture (frameOfPicture (k .numbers)) (k .y) (k .u) (k .v) → ⊥)
+  pub linked-picture-written : (k : ExportedY4mPicture) (p : Y4mPictureKept k) → k .number ≡ 0
+      → (p .written .answer ≡ Finished) × (k .told ≡ p .written .size ∷ [])
