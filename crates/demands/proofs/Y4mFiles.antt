@@ -117,7 +117,7 @@ shape-test : (code w h : ℕ) → ShapeAllowed code w h → isShape code w h ≡
 unfolding isShape
 shape-test code w h s =
     also (ltb code 2) _ (lt-ltb code 2 (s .code-is))
-    (also (isSide w) (isSide h) (side w (s .width-least) (s .width-most)) (side h (s .height-least) (s .height-most)))
+    (also (isSide w) (isSide h) (side w (s .width-least) (omega (arith, s .width-most))) (side h (s .height-least) (omega (arith, s .height-most))))
 
 shape-is : (code w h : ℕ) → isShape code w h ≡ true → ShapeAllowed code w h
 shape-is code w h e =
