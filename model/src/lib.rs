@@ -1,6 +1,6 @@
 //! A model of docs/RULES.md, to compare converters with. It was written from the scope document
-//! that the rules come from, without a look at the proved code; `pairs` and `shift` say what was read for
-//! them.
+//! that the rules come from, without a look at the proved code; `pairs`, `shift` and `y4m` say what was read
+//! for them.
 //!
 //! It is meant to be read: each item names the rules that it states. Two things that the rules take
 //! from the Rust are copied as numbers: the ten stored sets and the kr and kb of Fcc (`matrix`).
@@ -24,6 +24,7 @@ pub mod shift;
 pub mod summary;
 mod whole;
 mod window;
+pub mod y4m;
 
 pub use bands::{FrameState, open};
 pub use counts::{luma_counts, luma_counts_by_numbers, luma_counts_program};
