@@ -35,6 +35,11 @@ pub trait Case: Clone {
         None
     }
 
+    /// Why it is refused, where that is to be counted.
+    fn wrong(&self) -> Option<&'static str> {
+        None
+    }
+
     /// Whether the frame is not all of its source.
     fn is_inside(&self) -> bool {
         false

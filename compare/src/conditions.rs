@@ -11,8 +11,8 @@ use model::{Answer, FrameState, Refusal, Settings, Window, YuvStandardMatrix};
 type Condition = (u8, bool, u128, u128);
 
 /// The order in which they are asked.
-const ORDER: [u8; 18] = [
-    15, 17, 1, 2, 3, 4, 14, 5, 6, 7, 8, 9, 10, 11, 12, 13, 20, 16,
+const ORDER: [u8; 19] = [
+    15, 17, 19, 1, 2, 3, 4, 14, 5, 6, 7, 8, 9, 10, 11, 12, 13, 20, 16,
 ];
 
 /// A mistake in a condition that a window brings, so that a list of calls can be held to catch it.
@@ -336,6 +336,202 @@ pub fn of_summary(ask: &Ask, records: usize, added: usize, yes: bool, buffer: &[
         Ask::Update(_) => (added != 1 || records > 4_096, short || !yes),
     };
     first(Without, vec![(17, mismatch, 0, 0), (15, broken, 0, 0)])
+}
+
+/// What a Y4M file says.
+#[derive(Clone, Debug, PartialEq)]
+pub struct Y4m {
+    /// Width, height and the code of the sampling.
+    pub numbers: [u32; 3],
+    /// Where Y, U and V of each picture start, and how long they are.
+    pub pictures: Vec<[u64; 6]>,
+}
+
+/// Why bytes are no Y4M file, by the first place that shows it.
+pub type NoY4m = &'static str;
+
+/// What the first line of a file, and a picture's, can have wrong: first word, end, length, and a tag.
+const HEADER_WRONG: [NoY4m; 4] = [
+    "another first word",
+    "no end of the first line",
+    "257 bytes or more in it",
+    "an empty tag in it",
+];
+const PICTURE_WRONG: [NoY4m; 4] = [
+    "another word for FRAME",
+    "no end of a picture's line",
+    "257 bytes or more in that",
+    "an empty tag in that",
+];
+
+/// A Y4M file gone through byte by byte.
+struct Y4mBytes<'a> {
+    file: &'a [u8],
+    at: usize,
+}
+
+impl<'a> Y4mBytes<'a> {
+    /// A line that starts with this word: its tags. The place is then behind its newline.
+    fn line(&mut self, word: &[u8], wrong: [NoY4m; 4]) -> Result<Vec<&'a [u8]>, NoY4m> {
+        let [another, endless, long, empty] = wrong;
+        let start = self.at;
+        let (mut tags, mut tag_start) = (Vec::new(), None);
+        for column in 0..256 {
+            let at = start + column;
+            let byte = *self.file.get(at).ok_or(endless)?;
+            if column < word.len() {
+                if byte != word[column] {
+                    return Err(another);
+                }
+                continue;
+            }
+            match (byte, tag_start) {
+                (b' ' | b'\n', None) => {}
+                (b' ' | b'\n', Some(from)) if from == at => return Err(empty),
+                (b' ' | b'\n', Some(from)) => tags.push(&self.file[from..at]),
+                (_, None) => return Err(another),
+                (_, Some(_)) => continue,
+            }
+            if byte == b'\n' {
+                self.at = at + 1;
+                return Ok(tags);
+            }
+            tag_start = Some(at + 1);
+        }
+        Err(long)
+    }
+}
+
+/// The number from 1 to 16,384 that these digits are, the first of them not 0.
+fn y4m_side(digits: &[u8]) -> Option<u32> {
+    let mut side = 0;
+    for digit in digits {
+        let least = if side == 0 { b'1' } else { b'0' };
+        if !(least..=b'9').contains(digit) || side > 16_384 {
+            return None;
+        }
+        side = 10 * side + u32::from(digit - b'0');
+    }
+    (1..=16_384).contains(&side).then_some(side)
+}
+
+/// Width, height and the code of the sampling by the tags of the first line.
+fn y4m_numbers(tags: &[&[u8]]) -> Result<[u32; 3], NoY4m> {
+    let [mut w, mut h, mut sampling] = [None; 3];
+    for tag in tags {
+        let (name, twice, value) = match tag[0] {
+            b'W' => (&mut w, "W twice", y4m_side(&tag[1..]).ok_or("another W")),
+            b'H' => (&mut h, "H twice", y4m_side(&tag[1..]).ok_or("another H")),
+            b'C' => {
+                const KNOWN: [(&str, u32); 4] =
+                    [("C422", 1), ("C420", 0), ("C420mpeg2", 0), ("C420jpeg", 0)];
+                let known = KNOWN.iter().find(|(known, _)| known.as_bytes() == *tag);
+                let code = known.map(|(_, code)| *code);
+                (&mut sampling, "C twice", code.ok_or("another C"))
+            }
+            _ => continue,
+        };
+        if name.replace(value?).is_some() {
+            return Err(twice);
+        }
+    }
+    Ok([w.ok_or("no W")?, h.ok_or("no H")?, sampling.unwrap_or(0)])
+}
+
+/// Row and rows of Y, U and V by width, height and the code of the sampling.
+pub fn y4m_shapes([w, h, sampling]: [u32; 3]) -> [Shape; 3] {
+    let shape = |row: u32, rows: u32| Shape {
+        row: row.into(),
+        rows: rows.into(),
+    };
+    let [cw, ch] = chroma_sides(sampling as u8, w, h);
+    [shape(w, h), shape(cw, ch), shape(cw, ch)]
+}
+
+/// The bytes of Y, U and V.
+pub fn y4m_lengths(numbers: [u32; 3]) -> [u64; 3] {
+    y4m_shapes(numbers).map(|shape| shape.row * shape.rows)
+}
+
+/// What these bytes say as a Y4M file.
+pub fn y4m_of(file: &[u8]) -> Result<Y4m, NoY4m> {
+    let mut bytes = Y4mBytes { file, at: 0 };
+    let numbers = y4m_numbers(&bytes.line(b"YUV4MPEG2", HEADER_WRONG)?)?;
+    let [y, u, v] = y4m_lengths(numbers);
+    let mut pictures = Vec::new();
+    while bytes.at < file.len() {
+        bytes.line(b"FRAME", PICTURE_WRONG)?;
+        let at = bytes.at as u64;
+        pictures.push([at, y, at + y, u, at + y + u, v]);
+        bytes.at += (y + u + v) as usize;
+    }
+    match bytes.at == file.len() {
+        true => Ok(Y4m { numbers, pictures }),
+        false => Err("planes that are cut"),
+    }
+}
+
+/// The Y4M file of pictures that stand back to back, by numbers that a file may have.
+pub fn y4m_file(numbers: [u32; 3], pictures: &[u8]) -> Vec<u8> {
+    let [w, h] = [0, 1].map(|k| numbers[k].to_string());
+    let sampling = ["C420jpeg", "C422"][numbers[2] as usize];
+    let words = [
+        "YUV4MPEG2",
+        " W",
+        &w,
+        " H",
+        &h,
+        " F25:1 Ip ",
+        sampling,
+        "\n",
+    ];
+    let mut file = words.concat().into_bytes();
+    let picture: u64 = y4m_lengths(numbers).iter().sum();
+    for planes in pictures.chunks_exact(picture as usize) {
+        file = [&file, &b"FRAME\n"[..], planes].concat();
+    }
+    file
+}
+
+/// Whether a Y4M file may have these as width, height and the code of the sampling.
+pub fn are_y4m_numbers([w, h, sampling]: [u32; 3]) -> bool {
+    [w, h].iter().all(|side| (1..=16_384).contains(side)) && sampling <= 1
+}
+
+/// The file's size too, where there is one.
+pub fn of_y4m_write(numbers: [u32; 3], pictures: &[u8], output: usize) -> (Answer, u64) {
+    let is_whole = are_y4m_numbers(numbers) && {
+        let picture: u64 = y4m_lengths(numbers).iter().sum();
+        pictures.len() as u64 % picture == 0
+    };
+    let size = match is_whole {
+        true => y4m_file(numbers, pictures).len() as u64,
+        false => 0,
+    };
+    let all = vec![(16, (output as u64) < size, 0, 0), (19, !is_whole, 0, 0)];
+    (first(Without, all), size)
+}
+
+/// The picture's size too, where there is one.
+pub fn of_y4m_picture(numbers: [u32; 6], planes: &[Vec<u8>; 3], output: usize) -> (Answer, u64) {
+    let [w, h, sampling, strides @ ..] = numbers;
+    let outside = !are_y4m_numbers([w, h, sampling]);
+    let shapes = match outside {
+        true => y4m_shapes([1, 1, 0]),
+        false => y4m_shapes([w, h, sampling]),
+    };
+    let mut all = Vec::new();
+    let mut size = 6;
+    for i in 0..3 {
+        let (stride, rows) = (u128::from(strides[i]), u128::from(shapes[i].rows));
+        all.push((19, strides[i] < shapes[i].row as u32, 0, 0));
+        all.push((19, planes[i].len() as u128 != stride * rows, 0, 0));
+        size += shapes[i].row * shapes[i].rows;
+    }
+    all.push((16, (output as u64) < size, 0, 0));
+    all.push((19, outside, 0, 0));
+    let answer = first(Without, all);
+    (answer, if is_told(&answer) { size } else { 0 })
 }
 
 /// 8 to 12 of planes that come without a source.

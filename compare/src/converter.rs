@@ -108,6 +108,32 @@ pub trait Converter {
     fn shift_pairs(&self, _: &[u8], _theirs: &[u8], _report: &mut [u64; 18]) -> (Answer, u64) {
         unreachable!("has_shift_files() says so")
     }
+
+    /// Whether it has the three calls on Y4M files.
+    fn has_y4m(&self) -> bool {
+        false
+    }
+
+    /// Reads a Y4M file: the answer, and width, height, code of the sampling, how many pictures it has, and how many
+    /// entries were written.
+    fn y4m_pictures(&self, _: &[u8], _first: u64, _entries: &mut [u64]) -> (Answer, [u64; 5]) {
+        unreachable!("has_y4m() says so")
+    }
+
+    /// Writes a Y4M file, by width, height and the code of the sampling: the answer and the size.
+    fn y4m_write(&self, _: [u32; 3], _pictures: &[u8], _output: &mut [u8]) -> (Answer, u64) {
+        unreachable!("has_y4m() says so")
+    }
+
+    /// Writes one picture, by these numbers and the strides of Y, U, V: the answer and the size.
+    fn y4m_picture(
+        &self,
+        _: [u32; 6],
+        _planes: &[Vec<u8>; 3],
+        _output: &mut [u8],
+    ) -> (Answer, u64) {
+        unreachable!("has_y4m() says so")
+    }
 }
 
 /// The model stands first and the oracle second: frames of all others are held to the model's,
@@ -237,6 +263,28 @@ impl Converter for Model {
             Some(model::pairs::Side::Theirs) => 2,
         };
         (answer, broken)
+    }
+
+    fn has_y4m(&self) -> bool {
+        true
+    }
+
+    fn y4m_pictures(&self, file: &[u8], first: u64, entries: &mut [u64]) -> (Answer, [u64; 5]) {
+        model::y4m::read_pictures(file, first, entries)
+    }
+
+    fn y4m_write(&self, numbers: [u32; 3], pictures: &[u8], output: &mut [u8]) -> (Answer, u64) {
+        model::y4m::write_pictures(numbers, pictures, output)
+    }
+
+    fn y4m_picture(
+        &self,
+        numbers: [u32; 6],
+        planes: &[Vec<u8>; 3],
+        output: &mut [u8],
+    ) -> (Answer, u64) {
+        let planes = planes.each_ref().map(Vec::as_slice);
+        model::y4m::write_picture(numbers, planes, output)
     }
 }
 

@@ -373,6 +373,68 @@ impl Converter for Library {
         }
         (answer, told[0] as u64)
     }
+
+    fn has_y4m(&self) -> bool {
+        true
+    }
+
+    fn y4m_pictures(&self, file: &[u8], first: u64, entries: &mut [u64]) -> (Answer, [u64; 5]) {
+        // What stands there before is not looked at.
+        let mut told = [7; 5];
+        // SAFETY: as above.
+        let number = unsafe {
+            segvartin_call_y4m_pictures(
+                file.as_ptr(),
+                file.len(),
+                first as usize,
+                entries.as_mut_ptr(),
+                entries.len(),
+                &mut told,
+            )
+        };
+        (answered(number, [0, 0]), told.map(|number| number as u64))
+    }
+
+    fn y4m_write(&self, numbers: [u32; 3], pictures: &[u8], output: &mut [u8]) -> (Answer, u64) {
+        let mut told = [7; 1];
+        // SAFETY: as above.
+        let number = unsafe {
+            segvartin_call_y4m_write(
+                &numbers,
+                pictures.as_ptr(),
+                pictures.len(),
+                output.as_mut_ptr(),
+                output.len(),
+                &mut told,
+            )
+        };
+        (answered(number, [0, 0]), told[0] as u64)
+    }
+
+    fn y4m_picture(
+        &self,
+        numbers: [u32; 6],
+        [y, u, v]: &[Vec<u8>; 3],
+        output: &mut [u8],
+    ) -> (Answer, u64) {
+        let mut told = [7; 1];
+        // SAFETY: as above.
+        let number = unsafe {
+            segvartin_call_y4m_picture(
+                &numbers,
+                y.as_ptr(),
+                y.len(),
+                u.as_ptr(),
+                u.len(),
+                v.as_ptr(),
+                v.len(),
+                output.as_mut_ptr(),
+                output.len(),
+                &mut told,
+            )
+        };
+        (answered(number, [0, 0]), told[0] as u64)
+    }
 }
 
 /// The answer of an exported call.
@@ -692,6 +754,37 @@ unsafe extern "C" {
     fn segvartin_call_shift_back(
         file: *const u8,
         file_len: usize,
+        output: *mut u8,
+        output_len: usize,
+        told: &mut [usize; 1],
+    ) -> u32;
+
+    fn segvartin_call_y4m_pictures(
+        file: *const u8,
+        file_len: usize,
+        first: usize,
+        entries: *mut u64,
+        entries_len: usize,
+        told: &mut [usize; 5],
+    ) -> u32;
+
+    fn segvartin_call_y4m_write(
+        numbers: &[u32; 3],
+        pictures: *const u8,
+        pictures_len: usize,
+        output: *mut u8,
+        output_len: usize,
+        told: &mut [usize; 1],
+    ) -> u32;
+
+    fn segvartin_call_y4m_picture(
+        numbers: &[u32; 6],
+        y: *const u8,
+        y_len: usize,
+        u: *const u8,
+        u_len: usize,
+        v: *const u8,
+        v_len: usize,
         output: *mut u8,
         output_len: usize,
         told: &mut [usize; 1],

@@ -25,6 +25,7 @@ mod summaries;
 mod summary;
 mod vectors;
 mod worked;
+mod y4m;
 
 use check::{CATCHING, Case, Converters, band_of, checked, frame_of, smallest};
 use grey::{GreyFrame, GreyInput, GreyRun};
@@ -39,6 +40,7 @@ use std::process::exit;
 use std::sync::atomic::Ordering;
 use std::time::Instant;
 use summary::Summing;
+use y4m::{Film, Picture};
 
 const USAGE: &str = "compare [--quick] [OPTION NUMBER]..
 compare --vectors ROOT | --check ROOT | --mistakes | --flat
@@ -64,6 +66,9 @@ compare --vectors ROOT | --check ROOT | --mistakes | --flat
   --paired N     shift files that are paired with one like them (100000), as many frames with bits flipped, half
                  as many files good and broken, a thousandth as many of 4,096 records; and every bit of small frames;
                  as many of each with files of either form
+  --y4m N        Y4M files that are read, good and broken (200000); half as many written, half as many pictures
+                 written from planes, a hundredth as many lists of frames that are converted, written and read
+                 back; and every byte of small files changed, left out and added
   --side N       sizes to N by N (64); some are 1,920 by 1,080, some up to 16,384 long and thin;
                  four of five lie in a source that is larger by up to 18 each way, or all it may be
   --seed N       seed of all of these (1)
@@ -104,6 +109,7 @@ struct Options {
     shifts: u64,
     summaries: u64,
     paired: u64,
+    y4m: u64,
     side: u64,
     seed: u64,
     list: u64,
@@ -123,6 +129,7 @@ fn options() -> Option<Options> {
         shifts: 100_000,
         summaries: 100_000,
         paired: 100_000,
+        y4m: 200_000,
         side: 64,
         seed: 1,
         list: 0,
@@ -143,6 +150,7 @@ fn options() -> Option<Options> {
                 options.shifts /= 10;
                 options.summaries /= 10;
                 options.paired /= 10;
+                options.y4m /= 10;
                 continue;
             }
             "--frames" => &mut options.frames,
@@ -157,6 +165,7 @@ fn options() -> Option<Options> {
             "--shifts" => &mut options.shifts,
             "--summaries" => &mut options.summaries,
             "--paired" => &mut options.paired,
+            "--y4m" => &mut options.y4m,
             "--side" => &mut options.side,
             "--seed" => &mut options.seed,
             "--list" => &mut options.list,
@@ -231,6 +240,7 @@ fn main() {
     shifts(&options, &converters);
     summaries(&options, &converters);
     paired(&options, &converters);
+    y4m(&options, &converters);
     let input = |case| random::input(&mut Random::new(seed, 4, case), side);
     let grey_input = |case| GreyInput::random(&mut Random::new(seed, 13, case));
     compare("program inputs", options.programs, &converters, input);
@@ -352,6 +362,27 @@ fn paired(options: &Options, converters: &Converters) {
     }
 }
 
+/// Y4M files: read, written at once and picture by picture, and all of it after frame calls.
+fn y4m(options: &Options, converters: &Converters) {
+    let (seed, side, files) = (options.seed, options.side as u32, options.y4m);
+    compare("Y4M files read", files, converters, |case| {
+        y4m::Reading::random(&mut Random::new(seed, 60, case))
+    });
+    compare("Y4M files written", files / 2, converters, |case| {
+        y4m::Writing::random(&mut Random::new(seed, 61, case))
+    });
+    compare("pictures from planes", files / 2, converters, |case| {
+        Picture::random(&mut Random::new(seed, 62, case), side)
+    });
+    let kind = "lists of frames in Y4M files";
+    compare(kind, files / 100, converters, |case| {
+        Film::random(&mut Random::new(seed, 63, case), side)
+    });
+    if files > 0 {
+        timed(|| y4m::every_byte(converters));
+    }
+}
+
 /// The program that counts colours.
 const COUNTING: &str = "luma_counts";
 
@@ -426,6 +457,7 @@ fn compare<C: Case>(kind: &str, cases: u64, converters: &Converters, make: impl 
     let mut answers: BTreeMap<u8, u64> = BTreeMap::new();
     let mut combinations = BTreeSet::new();
     let mut told: BTreeMap<&str, u64> = BTreeMap::new();
+    let mut wrong: BTreeMap<&str, u64> = BTreeMap::new();
     let (mut large, mut long, mut inside) = (0, 0, 0);
     for case in 0..cases {
         let request = make(case);
@@ -435,6 +467,9 @@ fn compare<C: Case>(kind: &str, cases: u64, converters: &Converters, make: impl 
                 combinations.extend(request.combination().filter(|_| number == 0));
                 if let Some(said) = request.told() {
                     *told.entry(said).or_default() += 1;
+                }
+                if let Some(said) = request.wrong() {
+                    *wrong.entry(said).or_default() += 1;
                 }
                 let (w, h) = request.size().filter(|_| number == 0).unwrap_or((0, 0));
                 large += u64::from((w, h) == (1_920, 1_080));
@@ -458,19 +493,24 @@ fn compare<C: Case>(kind: &str, cases: u64, converters: &Converters, make: impl 
         );
     }
     if !told.is_empty() {
-        let told = told.iter().map(|(said, count)| format!("{said}: {count}"));
-        text += &format!(" ({})", told.collect::<Vec<_>>().join(", "));
+        text += &format!(" ({})", counted(&told));
     }
     if inside > 0 {
         text += &format!(", {inside} of them inside a larger source");
     }
     if !answers.is_empty() {
-        let refused = answers
-            .iter()
-            .map(|(number, count)| format!("{number}: {count}"));
-        text += &format!(", refused {}", refused.collect::<Vec<_>>().join(", "));
+        text += &format!(", refused {}", counted(&answers));
+    }
+    if !wrong.is_empty() {
+        text += &format!(" ({})", counted(&wrong));
     }
     println!("{text}, {:.1} s", start.elapsed().as_secs_f64());
+}
+
+/// `4:2:0: 7, 4:2:2: 9`.
+fn counted<T: std::fmt::Display>(counts: &BTreeMap<T, u64>) -> String {
+    let each = |(said, count): (&T, &u64)| format!("{said}: {count}");
+    counts.iter().map(each).collect::<Vec<_>>().join(", ")
 }
 
 /// The nine weights of Custom pairs in the model and in the Rust, both ranges.

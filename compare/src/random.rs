@@ -252,10 +252,25 @@ pub fn frame_in(
     side: u32,
     sampling: Option<YuvChromaSubsampling>,
 ) -> FrameRequest {
+    let settings = settings_in(random, sampling);
+    let size = size(random, side);
+    frame_with(random, settings, size)
+}
+
+/// Another of the same size and sampling.
+pub fn frame_like(random: &mut Random, frame: &Frame) -> FrameRequest {
+    let settings = settings_in(random, Some(frame.settings.sampling));
+    frame_with(random, settings, (frame.w, frame.h))
+}
+
+fn settings_in(random: &mut Random, sampling: Option<YuvChromaSubsampling>) -> Settings {
     let mut settings = settings(random);
     settings.sampling = sampling.unwrap_or(settings.sampling);
     settings.rounding = coded(random, 2, rounding_of);
-    let size = size(random, side);
+    settings
+}
+
+fn frame_with(random: &mut Random, settings: Settings, size: (u32, u32)) -> FrameRequest {
     let mut request = frame_of_size(random, settings, size);
     if !random.one_in(5) {
         put_in_source(random, &mut request);
