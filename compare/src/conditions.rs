@@ -338,7 +338,7 @@ pub fn of_summary(ask: &Ask, records: usize, added: usize, yes: bool, buffer: &[
     first(Without, vec![(17, mismatch, 0, 0), (15, broken, 0, 0)])
 }
 
-/// What a Y4M file says.
+/// RULES 14.3: what a Y4M file says.
 #[derive(Clone, Debug, PartialEq)]
 pub struct Y4m {
     /// Width, height and the code of the sampling.
@@ -347,7 +347,7 @@ pub struct Y4m {
     pub pictures: Vec<[u64; 6]>,
 }
 
-/// Why bytes are no Y4M file, by the first place that shows it.
+/// RULES 14.4: why bytes are no Y4M file, by the first place that shows it.
 pub type NoY4m = &'static str;
 
 /// What the first line of a file, and a picture's, can have wrong: first word, end, length, and a tag.
@@ -364,6 +364,27 @@ const PICTURE_WRONG: [NoY4m; 4] = [
     "an empty tag in that",
 ];
 
+/// All of them that a list of files is to have.
+pub const NO_Y4M: [NoY4m; 17] = [
+    HEADER_WRONG[0],
+    HEADER_WRONG[1],
+    HEADER_WRONG[2],
+    HEADER_WRONG[3],
+    PICTURE_WRONG[0],
+    PICTURE_WRONG[1],
+    PICTURE_WRONG[2],
+    PICTURE_WRONG[3],
+    "W twice",
+    "H twice",
+    "C twice",
+    "another W",
+    "another H",
+    "another C",
+    "no W",
+    "no H",
+    "planes that are cut",
+];
+
 /// A Y4M file gone through byte by byte.
 struct Y4mBytes<'a> {
     file: &'a [u8],
@@ -371,7 +392,7 @@ struct Y4mBytes<'a> {
 }
 
 impl<'a> Y4mBytes<'a> {
-    /// A line that starts with this word: its tags. The place is then behind its newline.
+    /// RULES 14.1: a line that starts with this word: its tags. The place is then behind its newline.
     fn line(&mut self, word: &[u8], wrong: [NoY4m; 4]) -> Result<Vec<&'a [u8]>, NoY4m> {
         let [another, endless, long, empty] = wrong;
         let start = self.at;
@@ -402,7 +423,7 @@ impl<'a> Y4mBytes<'a> {
     }
 }
 
-/// The number from 1 to 16,384 that these digits are, the first of them not 0.
+/// RULES 14.2: the number from 1 to 16,384 that these digits are, the first of them not 0.
 fn y4m_side(digits: &[u8]) -> Option<u32> {
     let mut side = 0;
     for digit in digits {
@@ -415,7 +436,7 @@ fn y4m_side(digits: &[u8]) -> Option<u32> {
     (1..=16_384).contains(&side).then_some(side)
 }
 
-/// Width, height and the code of the sampling by the tags of the first line.
+/// RULES 14.2: width, height and the code of the sampling by the tags of the first line.
 fn y4m_numbers(tags: &[&[u8]]) -> Result<[u32; 3], NoY4m> {
     let [mut w, mut h, mut sampling] = [None; 3];
     for tag in tags {
@@ -438,7 +459,7 @@ fn y4m_numbers(tags: &[&[u8]]) -> Result<[u32; 3], NoY4m> {
     Ok([w.ok_or("no W")?, h.ok_or("no H")?, sampling.unwrap_or(0)])
 }
 
-/// Row and rows of Y, U and V by width, height and the code of the sampling.
+/// RULES 14.3: row and rows of Y, U and V by width, height and the code of the sampling.
 pub fn y4m_shapes([w, h, sampling]: [u32; 3]) -> [Shape; 3] {
     let shape = |row: u32, rows: u32| Shape {
         row: row.into(),
@@ -453,7 +474,7 @@ pub fn y4m_lengths(numbers: [u32; 3]) -> [u64; 3] {
     y4m_shapes(numbers).map(|shape| shape.row * shape.rows)
 }
 
-/// What these bytes say as a Y4M file.
+/// RULES 14.4: what these bytes say as a Y4M file.
 pub fn y4m_of(file: &[u8]) -> Result<Y4m, NoY4m> {
     let mut bytes = Y4mBytes { file, at: 0 };
     let numbers = y4m_numbers(&bytes.line(b"YUV4MPEG2", HEADER_WRONG)?)?;
@@ -471,7 +492,7 @@ pub fn y4m_of(file: &[u8]) -> Result<Y4m, NoY4m> {
     }
 }
 
-/// The Y4M file of pictures that stand back to back, by numbers that a file may have.
+/// RULES 14.6: the Y4M file of pictures that stand back to back, by numbers that a file may have.
 pub fn y4m_file(numbers: [u32; 3], pictures: &[u8]) -> Vec<u8> {
     let [w, h] = [0, 1].map(|k| numbers[k].to_string());
     let sampling = ["C420jpeg", "C422"][numbers[2] as usize];
@@ -493,12 +514,12 @@ pub fn y4m_file(numbers: [u32; 3], pictures: &[u8]) -> Vec<u8> {
     file
 }
 
-/// Whether a Y4M file may have these as width, height and the code of the sampling.
+/// RULES 14.6, 14.7: whether a Y4M file may have these as width, height and the code of the sampling.
 pub fn are_y4m_numbers([w, h, sampling]: [u32; 3]) -> bool {
     [w, h].iter().all(|side| (1..=16_384).contains(side)) && sampling <= 1
 }
 
-/// The file's size too, where there is one.
+/// RULES 14.6: the file's size too, where there is one.
 pub fn of_y4m_write(numbers: [u32; 3], pictures: &[u8], output: usize) -> (Answer, u64) {
     let is_whole = are_y4m_numbers(numbers) && {
         let picture: u64 = y4m_lengths(numbers).iter().sum();
@@ -512,7 +533,7 @@ pub fn of_y4m_write(numbers: [u32; 3], pictures: &[u8], output: usize) -> (Answe
     (first(Without, all), size)
 }
 
-/// The picture's size too, where there is one.
+/// RULES 14.7: the picture's size too, where there is one.
 pub fn of_y4m_picture(numbers: [u32; 6], planes: &[Vec<u8>; 3], output: usize) -> (Answer, u64) {
     let [w, h, sampling, strides @ ..] = numbers;
     let outside = !are_y4m_numbers([w, h, sampling]);

@@ -114,8 +114,8 @@ pub trait Converter {
         false
     }
 
-    /// Reads a Y4M file: the answer, and width, height, code of the sampling, how many pictures it has, and how many
-    /// entries were written.
+    /// Reads a Y4M file by the numbers of RULES 10.8: the answer, and width, height, code of the sampling, how many
+    /// pictures it has, and how many entries were written.
     fn y4m_pictures(&self, _: &[u8], _first: u64, _entries: &mut [u64]) -> (Answer, [u64; 5]) {
         unreachable!("has_y4m() says so")
     }

@@ -26,6 +26,8 @@ mod summary;
 mod vectors;
 mod worked;
 mod y4m;
+mod y4m_list;
+mod y4m_mistakes;
 
 use check::{CATCHING, Case, Converters, band_of, checked, frame_of, smallest};
 use grey::{GreyFrame, GreyInput, GreyRun};
@@ -77,13 +79,13 @@ compare --vectors ROOT | --check ROOT | --mistakes | --flat
 A mismatch is printed as the smallest request found that shows it, in the form of --list.
 
   --vectors ROOT   write the stored lists of frame calls, band sequences, calls on shift files and on
-                   summaries, and pairings into the repository ROOT
+                   summaries, pairings, and calls on Y4M files into the repository ROOT
   --check ROOT     say whether the lists in ROOT are what --vectors writes
   --mistakes       for each mistake near at hand the call made for it, and how many calls catch it;
                    for each way to lose tables or window between calls, and for each mistake in a
                    condition of bands, the first sequence that catches it, and how many do; the same
-                   of mistakes in a reader or a writer of shift files, in a call on summaries, and in a
-                   pairing
+                   of mistakes in a reader or a writer of shift files, in a call on summaries, in a
+                   pairing, and in a reader or a writer of Y4M files
   --flat           for each transfer and rounding, how many of the 256 values of a flat channel
                    come back through both tables, and how far off the others are at most";
 
@@ -400,9 +402,9 @@ fn timed(check: impl Fn() -> Result<String, String>) {
 
 type OnList = fn(&Path, &Converters) -> Result<String, String>;
 
-/// The lists of frame calls, of band sequences, of calls on shift files, of calls on summaries and of
-/// pairings: what is said of all, an error where one is wrong.
-fn each(root: &Path, converters: &Converters, lists: [OnList; 5]) -> Result<String, String> {
+/// The lists of frame calls, of band sequences, of calls on shift files, of calls on summaries, of
+/// pairings and of calls on Y4M files: what is said of all, an error where one is wrong.
+fn each(root: &Path, converters: &Converters, lists: [OnList; 6]) -> Result<String, String> {
     let said = lists.map(|list| list(root, converters));
     let wrong = said.iter().any(Result::is_err);
     let all = said.map(|said| said.unwrap_or_else(|wrong| wrong));
@@ -427,6 +429,7 @@ fn told(converters: &Converters) -> Option<Result<String, String>> {
                 shifts::write,
                 summaries::write,
                 pairings::write,
+                y4m_list::write,
             ],
         )),
         ["--check", root] => Some(each(
@@ -438,6 +441,7 @@ fn told(converters: &Converters) -> Option<Result<String, String>> {
                 shifts::check,
                 summaries::check,
                 pairings::check,
+                y4m_list::check,
             ],
         )),
         ["--mistakes"] => Some(vectors::report(converters).and_then(|frames| {
@@ -445,7 +449,8 @@ fn told(converters: &Converters) -> Option<Result<String, String>> {
             let shifts = shifts::report(converters)?;
             let summaries = summaries::report(converters)?;
             let pairings = pairings::report(converters)?;
-            Ok([frames, sequences, shifts, summaries, pairings].join("\n\n"))
+            let y4m = y4m_list::report(converters)?;
+            Ok([frames, sequences, shifts, summaries, pairings, y4m].join("\n\n"))
         })),
         ["--flat"] => Some(Ok(worked::flat_colours())),
         _ => None,

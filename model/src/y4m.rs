@@ -9,14 +9,14 @@ use crate::settings::{YuvChromaSubsampling, chroma_width, plane_rows, sampling_o
 use crate::shift::Part;
 use YuvChromaSubsampling::{Yuv420, Yuv422};
 
-/// The most bytes of a line, its newline counted.
+/// RULES 14.1: the most bytes of a line, its newline counted.
 const LONGEST_LINE: usize = 256;
 
-/// The first words of the two kinds of lines.
+/// RULES 14.1: the first words of the two kinds of lines.
 const HEADER: &[u8] = b"YUV4MPEG2";
 const FRAME: &[u8] = b"FRAME";
 
-/// What the pictures of a file share.
+/// RULES 14.2: what the pictures of a file share.
 #[derive(Clone, Copy, Debug, PartialEq)]
 pub struct Format {
     pub w: u32,
@@ -38,7 +38,7 @@ impl Shape {
 }
 
 impl Format {
-    /// By numbers. None: a file has no such sides or no such sampling.
+    /// RULES 14.6, 14.7: by numbers. None: a file has no such sides or no such sampling.
     fn of(w: u32, h: u32, sampling: u32) -> Option<Format> {
         let code = u8::try_from(sampling).ok()?;
         let sampling = sampling_of(code)?;
@@ -46,7 +46,7 @@ impl Format {
         sides.then_some(Format { w, h, sampling })
     }
 
-    /// Of Y, U and V.
+    /// RULES 14.3: of Y, U and V.
     fn shapes(self) -> [Shape; 3] {
         let (rows, chroma_rows) = plane_rows(self.sampling, self.h);
         let row = u64::from(self.w);
@@ -63,7 +63,7 @@ impl Format {
         self.shapes().map(Shape::size).iter().sum()
     }
 
-    /// The line that a written file starts with.
+    /// RULES 14.6: the line that a written file starts with.
     fn header(self) -> String {
         let sampling = match self.sampling {
             Yuv420 => "420jpeg",
@@ -73,6 +73,7 @@ impl Format {
         format!("YUV4MPEG2 W{w} H{h} F25:1 Ip C{sampling}\n")
     }
 
+    /// RULES 1.2.
     fn code(self) -> u64 {
         match self.sampling {
             Yuv420 => 0,
@@ -81,19 +82,20 @@ impl Format {
     }
 }
 
+/// RULES 14.2.
 fn is_side(side: u64) -> bool {
     (1..=16_384).contains(&side)
 }
 
-/// A file, and where Y, U and V of each picture stand in it.
+/// RULES 14.3: a file, and where Y, U and V of each picture stand in it.
 #[derive(Clone, Debug, PartialEq)]
 pub struct Y4m {
     pub format: Format,
     pub pictures: Vec<[Part; 3]>,
 }
 
-/// The line that these bytes start with: its first word, its tags, and the bytes behind its newline. None: it
-/// is too long, does not end, or has an empty tag.
+/// RULES 14.1: the line that these bytes start with: its first word, its tags, and the bytes behind its newline.
+/// None: it is too long, does not end, or has an empty tag.
 fn line(bytes: &[u8]) -> Option<(&[u8], Vec<&[u8]>, &[u8])> {
     let most = bytes.len().min(LONGEST_LINE);
     let end = bytes[..most].iter().position(|byte| *byte == b'\n')?;
@@ -104,20 +106,20 @@ fn line(bytes: &[u8]) -> Option<(&[u8], Vec<&[u8]>, &[u8])> {
     (!empty).then_some((first, tags, &bytes[end + 1..]))
 }
 
-/// What stands behind this letter in each tag that starts with it.
+/// RULES 14.2: what stands behind this letter in each tag that starts with it.
 fn values<'a>(tags: &[&'a [u8]], letter: u8) -> Vec<&'a [u8]> {
     let value = |tag: &&'a [u8]| tag.strip_prefix(&[letter]);
     tags.iter().filter_map(value).collect()
 }
 
-/// A side by its decimal. A number has one without a leading zero, and none that is not a number has it.
+/// RULES 14.2: a side by its decimal. Each number has one without a leading zero, which is the one that is printed.
 fn side(text: &[u8]) -> Option<u32> {
     let text = std::str::from_utf8(text).ok()?;
     let side: u32 = text.parse().ok()?;
     (is_side(side.into()) && side.to_string() == text).then_some(side)
 }
 
-/// The side that exactly one tag of this letter has.
+/// RULES 14.2: the side that exactly one tag of this letter has.
 fn only_side(tags: &[&[u8]], letter: u8) -> Option<u32> {
     match values(tags, letter)[..] {
         [text] => side(text),
@@ -125,6 +127,7 @@ fn only_side(tags: &[&[u8]], letter: u8) -> Option<u32> {
     }
 }
 
+/// RULES 14.2.
 fn format_of(tags: &[&[u8]]) -> Option<Format> {
     let sampling = match values(tags, b'C')[..] {
         [] => Yuv420,
@@ -139,7 +142,7 @@ fn format_of(tags: &[&[u8]]) -> Option<Format> {
     })
 }
 
-/// None: these bytes are no file.
+/// RULES 14.4. None: these bytes are no file.
 pub fn y4m_of(file: &[u8]) -> Option<Y4m> {
     let (first, tags, mut rest) = line(file)?;
     if first != HEADER {
@@ -166,8 +169,8 @@ pub fn y4m_of(file: &[u8]) -> Option<Y4m> {
     Some(Y4m { format, pictures })
 }
 
-/// The answer, and width, height, code of the sampling, how many pictures the file has and how many of them were
-/// put in the room, six numbers each, from picture `first` on.
+/// RULES 14.5, 10.8: the answer, and width, height, code of the sampling, how many pictures the file has and how
+/// many of them were put in the room, six numbers each, from picture `first` on.
 pub fn read_pictures(file: &[u8], first: u64, room: &mut [u64]) -> (Answer, [u64; 5]) {
     let Some(Y4m { format, pictures }) = y4m_of(file) else {
         return (refuse_if(true, 19), [0; 5]);
@@ -183,8 +186,8 @@ pub fn read_pictures(file: &[u8], first: u64, room: &mut [u64]) -> (Answer, [u64
     (Ok(()), [w, h, format.code(), count, told])
 }
 
-/// The answer and the file's size, by width, height and the code of the sampling. The pictures are Y, U, V of one
-/// after the other, without padding.
+/// RULES 14.6, 10.8: the answer and the file's size, by width, height and the code of the sampling. The pictures are
+/// Y, U, V of one after the other, without padding.
 pub fn write_pictures(
     [w, h, sampling]: [u32; 3],
     pictures: &[u8],
@@ -203,8 +206,8 @@ pub fn write_pictures(
     put(&file, output)
 }
 
-/// The answer and the size of one picture for the end of a file, by width, height, the code of the sampling and
-/// the strides of Y, U and V.
+/// RULES 14.7, 10.8: the answer and the size of one picture for the end of a file, by width, height, the code of the
+/// sampling and the strides of Y, U and V.
 pub fn write_picture(
     [w, h, sampling, strides @ ..]: [u32; 6],
     planes: [&[u8]; 3],
@@ -226,7 +229,7 @@ pub fn write_picture(
     put(&picture, output)
 }
 
-/// 16, or the bytes at the start of the output; and how many they are.
+/// RULES 14.6, 14.7: 16, or the bytes at the start of the output; and how many they are.
 fn put(bytes: &[u8], output: &mut [u8]) -> (Answer, u64) {
     let answer = refuse_if(output.len() < bytes.len(), 16);
     if answer.is_ok() {
