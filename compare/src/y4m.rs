@@ -792,7 +792,7 @@ fn slip(random: &mut Random, draft: &mut Draft, numbers: [u32; 3]) {
                 let length = planes.len();
                 let few = random.from(1, 9) as usize;
                 let length = match random.below(8) {
-                    0 => length - 1,
+                    0 => length.saturating_sub(1),
                     1 => length + 1,
                     2 => length.saturating_sub(few),
                     3 => length + few,
