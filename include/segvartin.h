@@ -1,6 +1,6 @@
 /*
- * Segvartin: strided 8-bit RGB frames to planar YUV 4:2:0 and 4:2:2 ("sharp YUV", chroma interpolated over linear light), and shift files, which
- * hold the planes of many frames.
+ * Segvartin: strided 8-bit RGB frames to planar YUV 4:2:0 and 4:2:2 ("sharp YUV", chroma interpolated over linear light), and files which hold the
+ * planes of many frames: shift files, and Y4M files, which players and encoders take.
  *
  * Link libsegvartin.a (x86-64, System V ABI). It has no state, no heap, no threads, no input and no output, and of libc it calls memset and memcpy
  * alone; calls on separate buffers may run on separate threads. A call takes less than 96 KiB of stack, segvartin_pair_shift_files less than 128.
@@ -13,23 +13,24 @@
  * The same with records that say how their planes were made: segvartin_write_settings_record, segvartin_write_settings_file, and for files of either
  * form segvartin_read_any_shift_file; from one form to the other: segvartin_move_forward, segvartin_move_back. The summary of a file, by which the
  * record of a crossing is found: segvartin_build_summary, segvartin_check_summary, segvartin_find_record, segvartin_find_any_record,
- * segvartin_update_summary. Two files of one day held against each other: segvartin_pair_shift_files. All only pass numbers on to the library's
+ * segvartin_update_summary. Two files of one day held against each other: segvartin_pair_shift_files. A Y4M file from planes: segvartin_y4m_write, or
+ * picture by picture segvartin_y4m_write_picture; its pictures where they stand in it: segvartin_y4m_read. All only pass numbers on to the library's
  * segvartin_call_ functions below.
  *
- * docs/RULES.md has the rules that fix each byte and each answer; RULES 7.1 below names one of them. The library's seventeen functions are the
+ * docs/RULES.md has the rules that fix each byte and each answer; RULES 7.1 below names one of them. The library's twenty functions are the
  * calls of its chapter 10.
  *
  * Every function answers finished work (0) or the number of one refusal, and a refusal writes no byte of a plane, of the carried row, of a record,
- * of a file or of a summary, no entry, no count of colours and no report. This holds for all values of all numbers: sizes, strides, lengths, codes,
- * kr, kb, and all bytes of a file and of a summary. What no function can check, and the caller must see to:
+ * of a picture, of a file or of a summary, no entry, no count of colours and no report. This holds for all values of all numbers: sizes, strides,
+ * lengths, codes, kr, kb, and all bytes of a file and of a summary. What no function can check, and the caller must see to:
  *   - a pointer is not NULL, also where its length is 0, and points to as many bytes as the length beside it says; counts to 256 numbers;
  *   - of what a call is lent (source, y, u, v, carried, counts, done, expected, received; records, file, output, size, count, read, form; summary,
- *     record, yes, found; report, broken) nothing that it may write overlaps anything else. What is only read may overlap: one file may be ours and
- *     theirs.
+ *     record, yes, found; report, broken; pictures, told) nothing that it may write overlaps anything else. What is only read may overlap: one file
+ *     may be ours and theirs.
  *
  * The caller's floating-point mode (rounding, denormals, trapped exceptions) does not matter: each call is made in the default mode, and the
- * caller's mode and exception flags are put back as they were. Only SEGVARTIN_FCC and SEGVARTIN_CUSTOM use floats at all; the calls on shift
- * files and summaries take the mode as it is.
+ * caller's mode and exception flags are put back as they were. Only SEGVARTIN_FCC and SEGVARTIN_CUSTOM use floats at all; the calls on files
+ * and summaries take the mode as it is.
  *
  * Write w, h for width and height; W, H for those of the source, which are w, h where no window says otherwise; c for the bytes of a pixel,
  * 3 (RGB, BGR) or 4; cw for w / 2 rounded up; ch for h in 4:2:2, and for h / 2 rounded up in 4:2:0. Strides are in bytes, from the start of a
@@ -80,8 +81,8 @@ enum { SEGVARTIN_SRGB = 0, SEGVARTIN_REC709 = 1, SEGVARTIN_GAMMA2P2 = 2, SEGVART
 enum { SEGVARTIN_TRUNCATED = 0, SEGVARTIN_NEAREST = 1 };
 
 /*
- * What a call answers (RULES 7.1). Where several conditions hold, the first in the order below is answered: 15, 17, 1, 2, 3, 4, 14, 5, 6 and so on
- * to 13, 20, 16. In parentheses: what *expected and *received get; where nothing stands there, and after finished work, both get 0.
+ * What a call answers (RULES 7.1). Where several conditions hold, the first in the order below is answered: 15, 17, 19, 1, 2, 3, 4, 14, 5, 6 and so
+ * on to 13, 20, 16. In parentheses: what *expected and *received get; where nothing stands there, and after finished work, both get 0.
  */
 enum {
     SEGVARTIN_FINISHED = 0,
@@ -91,6 +92,9 @@ enum {
     SEGVARTIN_MALFORMED_SHIFT_FILE = 15,
     /* summaries only: the summary lent is too short; in a lookup or an update also: it is not the file's */
     SEGVARTIN_SUMMARY_MISMATCH = 17,
+    /* Y4M files only: the text or the planes of a file break their rules; of what is to be written, w or h is not from 1 to 16384, the sampling is no
+     * code, the bytes are not whole pictures, a stride is below its row, or a plane is not exactly its stride times its rows long */
+    SEGVARTIN_MALFORMED_Y4M = 19,
     /* a code of channels, sampling, range, matrix, transfer or rounding without a meaning; of segvartin_call_ also another count of numbers */
     SEGVARTIN_MALFORMED_REQUEST = 1,
     /* w or h is 0 */
@@ -121,7 +125,7 @@ enum {
     SEGVARTIN_CARRIED_ROW_MISMATCH = 13,
     /* moving a shift file back only: a record has 4:2:2, or a range, matrix or transfer that is recorded */
     SEGVARTIN_SETTINGS_RECORDED = 20,
-    /* shift files only: the memory lent for a file or a record is too short; the call tells its size beside */
+    /* files only: the memory lent for a file, a record or a picture is too short; the call tells its size beside */
     SEGVARTIN_OUTPUT_TOO_SHORT = 16
 };
 
@@ -145,18 +149,22 @@ enum {
  *                    count is refusal 1. A later version may take further numbers; a call that does not give them stays the call that it is
  *                    today
  *                    shift_record: crossing, width, height, y_stride, u_stride, v_stride. shift_record_settings: these, and sampling, range, matrix,
- *                    transfer, the last three 255 where they are not recorded
+ *                    transfer, the last three 255 where they are not recorded. y4m_write: width, height, sampling. y4m_picture: these, and y_stride,
+ *                    u_stride, v_stride
  *   custom           kr, kb
  *   first, entries   the record to begin with, and eleven numbers for each record from there on, as many as there are and as whole elevens fit:
- *                    the fields of segvartin_shift_record, in their order. shift_records_any: fifteen, those of segvartin_settings_record
+ *                    the fields of segvartin_shift_record, in their order. shift_records_any: fifteen, those of segvartin_settings_record.
+ *                    y4m_pictures: six for each picture, those of segvartin_y4m_picture
  *   told             gets expected, received, and in open and band the rows done: 0, and what they are after the band. shift_records: how many
  *                    records the file has, and how many entries were written; shift_records_any: then its form too, 1 with settings, else 0.
  *                    shift_write, shift_write_settings, shift_forward, shift_back: the size of the file that is written. shift_record,
  *                    shift_record_settings: expected, received, the record's size. summary_check: 1 for yes, 0 for no. summary_find: 1 and the
- *                    record's number, from 0; or 0 and 0. shift_pairs: the file that is none, 1 for ours and 2 for theirs; or 0
+ *                    record's number, from 0; or 0 and 0. shift_pairs: the file that is none, 1 for ours and 2 for theirs; or 0.
+ *                    y4m_pictures: width, height, sampling, how many pictures the file has, and how many entries were written. y4m_write,
+ *                    y4m_picture: the size of the file or of the picture
  *   report           the fields of segvartin_pair_report, in their order
- *   the others       as below; numbers, custom, entries, report and told overlap nothing either. The nine shift_ calls and the four summary_ calls
- *                    need no mode
+ *   the others       as below; numbers, custom, entries, report and told overlap nothing either. The nine shift_ calls, the four summary_ calls and
+ *                    the three y4m_ calls need no mode
  */
 /* Made by tools/declarations.py from the library's source: change that, and run it. */
 uint32_t segvartin_call_frame(const uint32_t *numbers, size_t numbers_len, const float custom[2], const uint8_t *source, size_t source_len,
@@ -203,6 +211,15 @@ uint32_t segvartin_call_summary_update(const uint8_t *file, size_t file_len, con
 
 uint32_t segvartin_call_shift_pairs(const uint8_t *ours, size_t ours_len, const uint8_t *theirs, size_t theirs_len, uint64_t report[18],
                                     size_t told[1]);
+
+uint32_t segvartin_call_y4m_pictures(const uint8_t *file, size_t file_len, size_t first, uint64_t *entries, size_t entries_len,
+                                     size_t told[5]);
+
+uint32_t segvartin_call_y4m_write(const uint32_t numbers[3], const uint8_t *pictures, size_t pictures_len, uint8_t *output,
+                                  size_t output_len, size_t told[1]);
+
+uint32_t segvartin_call_y4m_picture(const uint32_t numbers[6], const uint8_t *y, size_t y_len, const uint8_t *u, size_t u_len,
+                                    const uint8_t *v, size_t v_len, uint8_t *output, size_t output_len, size_t told[1]);
 /* End of what tools/declarations.py makes. */
 
 /* MXCSR: the floating-point mode and the exception flags. */
@@ -920,6 +937,119 @@ static inline segvartin_answer segvartin_pair_shift_files(segvartin_bytes ours, 
     a.number = segvartin_call_shift_pairs(ours.at, ours.len, theirs.at, theirs.len, (uint64_t *)(void *)report, told); /* eighteen numbers */
     a.expected = a.received = 0;
     *broken = (int)told[0];
+    return a;
+}
+
+/*
+ * Y4M files (RULES 14.1 to 14.7): YUV4MPEG2, which players and encoders take, ffmpeg and mjpegtools among them. A file is a line of text, then for
+ * each picture a line FRAME and its Y, U and V without padding. The line that is written has the size and the sampling,
+ *
+ *     YUV4MPEG2 W1920 H1080 F25:1 Ip C420jpeg
+ *
+ * or C422 in 4:2:2. Of a line that is read the tags may stand in any order, each after one space: W and H once each, decimals from 1 to 16384 without
+ * a leading zero; C at most once, C420, C420jpeg, C420mpeg2 or C422, and 4:2:0 where it is missing; any others are passed over, as are those behind
+ * FRAME. No line is longer than 256 bytes, its newline counted. A file may have no picture.
+ *
+ * U and V of an odd side are rounded up, as everywhere here and in ffmpeg. The programs of mjpegtools round down, and do not read a file of such
+ * pictures: for them let the width be even, and in 4:2:0 the height too.
+ *
+ * A file says nothing of range, matrix and transfer. The page of the format has its planes as CCIR 601: SEGVARTIN_LIMITED and SEGVARTIN_BT601.
+ */
+
+/* A picture of a file that was read: where its planes stand. Offsets are in bytes from the start of the file. */
+typedef struct segvartin_y4m_picture {
+    uint64_t y_offset, y_length;
+    uint64_t u_offset, u_length;
+    uint64_t v_offset, v_length;
+} segvartin_y4m_picture;
+
+/* What is told of a file that was read. */
+typedef struct segvartin_y4m_file {
+    uint32_t width, height; /* of each picture */
+    uint32_t sampling;      /* SEGVARTIN_YUV420 or SEGVARTIN_YUV422: by it U and V have their rows */
+    size_t count;           /* how many pictures it has */
+} segvartin_y4m_file;
+
+/*
+ * Reads a Y4M file (RULES 14.5). Answers 0, or a refusal: 19, exactly where the bytes are no such file; then no picture is written. Its time is that
+ * of the lines: planes are not looked at.
+ *
+ *   file             the whole file, and nothing behind it
+ *   first            the picture to begin with; they count from 0. At or past the last there is none to tell of
+ *   pictures         gets pictures first, first + 1 and so on, as many as there are and as room allows; those behind stay as they are
+ *   room             how many pictures it has room for. 0 where only the size, the sampling and the count are wanted
+ *   told             gets these; all 0 after a refusal
+ *   read             gets how many pictures were written, 0 after a refusal
+ *
+ * Each call goes through the whole file, so it is asked for many pictures at once.
+ */
+static inline segvartin_answer segvartin_y4m_read(segvartin_bytes file, size_t first, segvartin_y4m_picture *pictures, size_t room,
+                                                  segvartin_y4m_file *told, size_t *read) {
+    size_t numbers[5];
+    segvartin_answer a;
+    a.number = segvartin_call_y4m_pictures(file.at, file.len, first, (uint64_t *)(void *)pictures, 6 * room, numbers); /* six numbers each */
+    a.expected = a.received = 0;
+    told->width = (uint32_t)numbers[0];
+    told->height = (uint32_t)numbers[1];
+    told->sampling = (uint32_t)numbers[2];
+    told->count = numbers[3];
+    *read = numbers[4];
+    return a;
+}
+
+/* The planes of a picture that segvartin_y4m_read told of this file: h rows of w bytes, and twice ch rows of cw bytes. */
+static inline segvartin_bytes segvartin_y4m_y(segvartin_bytes file, const segvartin_y4m_picture *p) {
+    return segvartin_shift_part(file, p->y_offset, p->y_length);
+}
+
+static inline segvartin_bytes segvartin_y4m_u(segvartin_bytes file, const segvartin_y4m_picture *p) {
+    return segvartin_shift_part(file, p->u_offset, p->u_length);
+}
+
+static inline segvartin_bytes segvartin_y4m_v(segvartin_bytes file, const segvartin_y4m_picture *p) {
+    return segvartin_shift_part(file, p->v_offset, p->v_length);
+}
+
+/*
+ * Writes a Y4M file (RULES 14.6). Answers 0, or a refusal: 19, 16.
+ *
+ *   d                its width, height and sampling are looked at. 19 where w or h is not from 1 to 16384 or the sampling is no code
+ *   pictures         Y, U and V of each picture without padding, all back to back: w * h + 2 * cw * ch bytes for each. 19 where these are not whole
+ *                    pictures. No bytes for a file without pictures, the line alone: segvartin_y4m_write_picture makes what comes behind it
+ *   output           gets the file at its start; what lies past it is left as it is. 16 where the file does not fit, and then no byte is written
+ *   size             gets the file's size, also after 16; 0 after 19, and where it is no number of 64 bits
+ */
+static inline segvartin_answer segvartin_y4m_write(const segvartin_description *d, segvartin_bytes pictures, segvartin_bytes_mut output,
+                                                   size_t *size) {
+    const uint32_t numbers[3] = {d->width, d->height, d->sampling};
+    size_t told[1];
+    segvartin_answer a;
+    a.number = segvartin_call_y4m_write(numbers, pictures.at, pictures.len, output.at, output.len, told);
+    a.expected = a.received = 0;
+    *size = told[0];
+    return a;
+}
+
+/*
+ * Makes one picture of a Y4M file of planes (RULES 14.7), as a frame call or the bands of a frame left them: FRAME, a newline, Y, U, V. Answers 0, or
+ * a refusal: 19, 16. Put behind a file of segvartin_y4m_write of the same width, height and sampling, it makes the file with this picture at its end,
+ * byte for byte what that call makes of all planes. So a file of any length is made with the memory of one picture.
+ *
+ *   d                that of the frame call: width, height, sampling, y_stride, u_stride and v_stride are looked at. 19 where w or h is not from 1 to
+ *                    16384 or the sampling is no code
+ *   y, u, v          as in segvartin_frame: of each row its first w or cw bytes are taken. 19 where a stride is below its row, or a plane is not
+ *                    exactly its stride times its rows long. They are only read: segvartin_read_only makes them of what a frame call took
+ *   output           gets the picture at its start; what lies past it is left as it is. 16 where it does not fit, and then no byte is written
+ *   size             gets the picture's size, 6 + w * h + 2 * cw * ch, also after 16; 0 after 19
+ */
+static inline segvartin_answer segvartin_y4m_write_picture(const segvartin_description *d, segvartin_bytes y, segvartin_bytes u, segvartin_bytes v,
+                                                           segvartin_bytes_mut output, size_t *size) {
+    const uint32_t numbers[6] = {d->width, d->height, d->sampling, d->y_stride, d->u_stride, d->v_stride};
+    size_t told[1];
+    segvartin_answer a;
+    a.number = segvartin_call_y4m_picture(numbers, y.at, y.len, u.at, u.len, v.at, v.len, output.at, output.len, told);
+    a.expected = a.received = 0;
+    *size = told[0];
     return a;
 }
 

@@ -28,7 +28,7 @@ SUMMARIES = ROOT / 'rust' / 'src' / 'summary.rs'
 # The header's names of refusals, by the library's; those of settings are the library's in capitals.
 REFUSALS = {
     'MalformedShiftFile': 'MALFORMED_SHIFT_FILE', 'OutputTooShort': 'OUTPUT_TOO_SHORT', 'SummaryMismatch': 'SUMMARY_MISMATCH',
-    'SettingsRecorded': 'SETTINGS_RECORDED',
+    'MalformedY4m': 'MALFORMED_Y4M', 'SettingsRecorded': 'SETTINGS_RECORDED',
     'MalformedRequest': 'MALFORMED_REQUEST', 'ZeroBaseSize': 'ZERO_BASE_SIZE', 'SizeTooLarge': 'SIZE_TOO_LARGE',
     'MatrixNotAccepted': 'MATRIX_NOT_ACCEPTED', 'WindowOutsideSource': 'WINDOW_OUTSIDE_SOURCE',
     'BandRowsMismatch': 'BAND_ROWS_MISMATCH',

@@ -20,6 +20,9 @@ pub enum YuvError {
     MalformedShiftFile,
     /// 17: the memory lent for a summary is too short; or, in a lookup or an update, it is not the file's summary.
     SummaryMismatch,
+    /// 19: the text or the planes of a Y4M file break its rules; or, of what is to be written, width or height is not from 1 to 16,384, the bytes are not
+    /// whole pictures, a stride is below its row, or a plane is not exactly its stride times its rows long.
+    MalformedY4m,
     /// 1: a setting without a meaning. The enums of this crate have none, so no call here answers it.
     MalformedRequest,
     /// 2: width or height is 0.
@@ -50,7 +53,7 @@ pub enum YuvError {
     CarriedRowSizeMismatch(MismatchedSize),
     /// 20: a shift file to be moved back has a record in 4:2:2, or one with a range, matrix or transfer that is recorded.
     SettingsRecorded,
-    /// 16: the memory lent for a shift file or a record is too short.
+    /// 16: the memory lent for a file, a record or a picture is too short.
     OutputTooShort,
 }
 
@@ -61,6 +64,7 @@ impl YuvError {
         match self {
             YuvError::MalformedShiftFile => 15,
             YuvError::SummaryMismatch => 17,
+            YuvError::MalformedY4m => 19,
             YuvError::MalformedRequest => 1,
             YuvError::ZeroBaseSize => 2,
             YuvError::SizeTooLarge => 3,
@@ -86,6 +90,7 @@ impl YuvError {
         match *self {
             YuvError::MalformedShiftFile
             | YuvError::SummaryMismatch
+            | YuvError::MalformedY4m
             | YuvError::MalformedRequest
             | YuvError::ZeroBaseSize
             | YuvError::SizeTooLarge
@@ -112,6 +117,7 @@ impl YuvError {
             0 => return Ok(()),
             15 => YuvError::MalformedShiftFile,
             17 => YuvError::SummaryMismatch,
+            19 => YuvError::MalformedY4m,
             2 => YuvError::ZeroBaseSize,
             3 => YuvError::SizeTooLarge,
             4 => YuvError::MatrixNotAccepted,
@@ -137,6 +143,7 @@ impl Display for YuvError {
         let what = match self {
             YuvError::MalformedShiftFile => "the layout of a shift file is broken",
             YuvError::SummaryMismatch => "the summary is too short, or not the shift file's",
+            YuvError::MalformedY4m => "the text or the planes of a Y4M file break its rules",
             YuvError::MalformedRequest => "a setting has no meaning",
             YuvError::ZeroBaseSize => "width or height is 0",
             YuvError::SizeTooLarge => {

@@ -166,4 +166,35 @@ unsafe extern "C" {
         report: &mut [u64; 18],
         told: &mut [usize; 1],
     ) -> u32;
+
+    pub(crate) fn segvartin_call_y4m_pictures(
+        file: *const u8,
+        file_len: usize,
+        first: usize,
+        entries: *mut u64,
+        entries_len: usize,
+        told: &mut [usize; 5],
+    ) -> u32;
+
+    pub(crate) fn segvartin_call_y4m_write(
+        numbers: &[u32; 3],
+        pictures: *const u8,
+        pictures_len: usize,
+        output: *mut u8,
+        output_len: usize,
+        told: &mut [usize; 1],
+    ) -> u32;
+
+    pub(crate) fn segvartin_call_y4m_picture(
+        numbers: &[u32; 6],
+        y: *const u8,
+        y_len: usize,
+        u: *const u8,
+        u_len: usize,
+        v: *const u8,
+        v_len: usize,
+        output: *mut u8,
+        output_len: usize,
+        told: &mut [usize; 1],
+    ) -> u32;
 }

@@ -1,15 +1,16 @@
 //! RGB frames to planar YUV 4:2:0 and 4:2:2 over the proved library, under the names and with the argument order of yuvutils-rs's sharp path; and
 //! [shift files](ShiftFile), which hold the planes of many frames, with [settings](RecordSettings) or without, with
-//! [summaries](ShiftFile::build_summary) by which a frame is found in one, and [two of which](pair_shift_files) are held against each other.
+//! [summaries](ShiftFile::build_summary) by which a frame is found in one, and [two of which](pair_shift_files) are held against each other; and
+//! [Y4M files](Y4mFile), which players and encoders take.
 //!
 //! Every call answers finished work or one numbered refusal ([`YuvError`]), for all sizes, strides, lengths and settings; a refusal writes no
 //! byte. The rules that fix each byte and each answer are docs/RULES.md of the repository; RULES 7.1 in a comment is one of them.
 //!
-//! No frame or band call panics, and neither does [`luma_counts`], which tells how many colours share a luma, nor a call on shift files or summaries.
+//! No frame or band call panics, and neither does [`luma_counts`], which tells how many colours share a luma, nor a call on files or summaries.
 //! [`YuvPlanarImageMut::alloc`] makes the planes as [`Vec`]s, and ends as those do where memory does not suffice.
 //!
 //! The caller's floating-point mode (rounding, denormals, trapped exceptions) does not matter: each call is made in the default mode, and the
-//! caller's mode and exception flags are put back as they were; calls on shift files use no floats.
+//! caller's mode and exception flags are put back as they were; calls on files use no floats.
 //!
 //! ```
 //! use segvartin::*;
@@ -32,6 +33,7 @@ mod recorded;
 mod settings;
 mod shift;
 mod summary;
+mod y4m;
 
 pub use bands::{FrameState, FrameStateWith};
 pub use counts::luma_counts;
@@ -52,3 +54,6 @@ pub use shift::{
     shift_record, shift_record_size, write_settings_file, write_shift_file,
 };
 pub use summary::SUMMARY_ENTRY;
+pub use y4m::{
+    Y4mFile, Y4mPicture, Y4mPictures, write_y4m, y4m_picture, y4m_picture_size, y4m_size,
+};

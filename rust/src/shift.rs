@@ -543,7 +543,7 @@ fn record_of<const N: usize>(
 }
 
 /// The size that was told of what does not fit into no bytes.
-fn size_of(answer: Result<(), YuvError>, size: usize) -> Result<usize, YuvError> {
+pub(crate) fn size_of(answer: Result<(), YuvError>, size: usize) -> Result<usize, YuvError> {
     match answer {
         Ok(()) | Err(YuvError::OutputTooShort) => Ok(size),
         Err(refusal) => Err(refusal),
