@@ -50,6 +50,9 @@ static float of_bits(uint32_t bits) {
 
 enum { W = 5, H = 3, CW = 3, STRIDE = 3 * W, RECORD = 8 + W * H + 2 * CW * 2, SET_RECORD = 12 + W * H + 2 * CW * H };
 
+/* A Y4M file of that frame in 4:2:2: its line, YUV4MPEG2 W5 H3 F25:1 Ip C422, and a picture. */
+enum { Y4M_LINE = 30, Y4M_PICTURE = 6 + W * H + 2 * CW * H };
+
 static uint8_t source[STRIDE * H];
 
 /* All that a call leaves; memory for it is cleared first, so that two can be compared as bytes. */
@@ -66,6 +69,9 @@ typedef struct outcome {
     int broken;
     uint8_t set_record[SET_RECORD], set_file[20 + SET_RECORD], forward[24 + RECORD], back[16 + RECORD];
     segvartin_settings_record any;
+    uint8_t y4m[Y4M_LINE + Y4M_PICTURE], y4m_whole[Y4M_LINE + Y4M_PICTURE];
+    segvartin_y4m_picture picture;
+    segvartin_y4m_file y4m_told;
 } outcome;
 
 typedef void call(const segvartin_description *d, outcome *o);
@@ -243,6 +249,21 @@ static void settings(const segvartin_description *d, outcome *o) {
     if (o->number == SEGVARTIN_FINISHED) told(o, segvartin_pair_shift_files(old, segvartin_read_only(file), &o->report, &o->broken));
 }
 
+/* A Y4M file of one picture in 4:2:2, made of its planes, and what is read there; and the same of all planes at once. */
+static void y4m(const segvartin_description *d, outcome *o) {
+    segvartin_description tall = *d;
+    segvartin_bytes y = {source, (size_t)d->y_stride * d->height}, u = {source + y.len, d->u_stride * (size_t)d->height}, v = {u.at + u.len, u.len};
+    segvartin_bytes planes = {source, y.len + u.len + v.len}, none = {source, 0};
+    segvartin_bytes_mut line = {o->y4m, Y4M_LINE}, picture = {o->y4m + Y4M_LINE, Y4M_PICTURE}, file = {o->y4m, sizeof o->y4m};
+    segvartin_bytes_mut whole = {o->y4m_whole, sizeof o->y4m_whole};
+    size_t size, read;
+    tall.sampling = SEGVARTIN_YUV422;
+    told(o, segvartin_y4m_write(&tall, none, line, &size));
+    if (o->number == SEGVARTIN_FINISHED) told(o, segvartin_y4m_write_picture(&tall, y, u, v, picture, &size));
+    if (o->number == SEGVARTIN_FINISHED) told(o, segvartin_y4m_read(segvartin_read_only(file), 0, &o->picture, 1, &o->y4m_told, &read));
+    if (o->number == SEGVARTIN_FINISHED) told(o, segvartin_y4m_write(&tall, planes, whole, &size));
+}
+
 /* As colours, by the exported function alone. */
 static void bare_colours(const segvartin_description *d, outcome *o) {
     const uint32_t numbers[2] = {d->range, d->matrix};
@@ -405,8 +426,8 @@ static void counts_of_colours(void) {
     }
 }
 
-/* Shift files, with settings and moved too, summaries and pairs are made of whole numbers: no mode is set for them, and none matters. */
-static void shift_files(void) {
+/* Shift files, with settings and moved too, summaries, pairs and Y4M files are made of whole numbers: no mode is set for them, none matters. */
+static void files(void) {
     segvartin_description d = description(W, H, SEGVARTIN_YUV420, SEGVARTIN_LIMITED, SEGVARTIN_FCC);
     outcome usual;
     unsigned mxcsr[2];
@@ -424,7 +445,14 @@ static void shift_files(void) {
     EXPECT(usual.number == SEGVARTIN_FINISHED && usual.set_file[0] == 255 && usual.any.sampling == SEGVARTIN_YUV422 && usual.any.matrix == SEGVARTIN_FCC);
     EXPECT(memcmp(usual.back, usual.file, sizeof usual.file) == 0 && usual.report.their_sampling == SEGVARTIN_YUV422 && usual.report.differing == 1);
     as_usual(settings, &d, &usual);
+    in_mode(0, y4m, &d, &usual, mxcsr);
+    EXPECT(usual.number == SEGVARTIN_FINISHED && usual.y4m_told.count == 1 && usual.y4m_told.sampling == SEGVARTIN_YUV422);
+    EXPECT(usual.picture.v_offset == sizeof usual.y4m - CW * H && memcmp(usual.y4m, usual.y4m_whole, sizeof usual.y4m) == 0);
+    as_usual(y4m, &d, &usual);
     d.width = 0;
+    in_mode(0, y4m, &d, &usual, mxcsr);
+    EXPECT(usual.number == SEGVARTIN_MALFORMED_Y4M && usual.y4m[0] == 0);
+    as_usual(y4m, &d, &usual);
     in_mode(0, shift_file, &d, &usual, mxcsr);
     EXPECT(usual.number == SEGVARTIN_MALFORMED_SHIFT_FILE && usual.record[0] == 0);
     as_usual(shift_file, &d, &usual);
@@ -470,7 +498,7 @@ static void another_end(void) {
     segvartin_description d = description(W, H, SEGVARTIN_YUV420, SEGVARTIN_FULL, SEGVARTIN_FCC);
     EXPECT(!ends(frame, &d) && !ends(bands, &d) && !ends(frame_with, &d) && !ends(bands_with, &d) && ends(bare, &d));
     EXPECT(!ends(frame_in_window, &d) && !ends(bands_in_window, &d));
-    EXPECT(!ends(colours, &d) && ends(bare_colours, &d) && !ends(summary, &d) && !ends(pairs, &d) && !ends(settings, &d));
+    EXPECT(!ends(colours, &d) && ends(bare_colours, &d) && !ends(summary, &d) && !ends(pairs, &d) && !ends(settings, &d) && !ends(y4m, &d));
     d.matrix = SEGVARTIN_BT709;
     EXPECT(!ends(bare, &d) && !ends(bare_colours, &d));
 }
@@ -487,7 +515,7 @@ int main(void) {
     matrices();
     another_rounding();
     counts_of_colours();
-    shift_files();
+    files();
     another_answer();
     another_end();
     return finish("modes");

@@ -1,8 +1,9 @@
 /*
  * The stack that a call takes, for every setting, without options and with: nearest tables, and a window onto a larger source; that of a count of
- * colours, for every range and matrix; that of the calls on shift files, with settings and moved too; that of the calls on summaries, of a file with as
- * many records as there may be; and that of pairing two such files. Each call runs on a thread whose stack is filled with one byte first; from where the
- * call is made down to the lowest byte that changed is what it took. Bytes that a call reserves and never writes are not seen.
+ * colours, for every range and matrix; that of the calls on shift files, with settings and moved too; that of the calls on summaries, of a file with
+ * as many records as there may be; that of the calls on Y4M files; and that of pairing two shift files. Each call runs on a thread whose stack is
+ * filled with one byte first; from where the call is made down to the lowest byte that changed is what it took. Bytes that a call reserves and never
+ * writes are not seen.
  */
 #include <pthread.h>
 #include <stdint.h>
@@ -196,6 +197,34 @@ static void *pairs(void *unused) {
     return a.number == SEGVARTIN_FINISHED && report.equal == MANY ? unused : &description;
 }
 
+/* A Y4M file of SEVERAL pictures, made picture by picture and at once, and what is read of it. */
+static void *y4m(void *unused) {
+    enum { SEVERAL = 3, PLANES = W * H + 2 * CW * H, LINE = 31 };
+    static uint8_t plane_bytes[SEVERAL * PLANES], file_bytes[LINE + SEVERAL * (6 + PLANES)];
+    static segvartin_y4m_picture pictures[SEVERAL];
+    static segvartin_y4m_file told;
+    static size_t size, used, read;
+    segvartin_description d = description;
+    segvartin_bytes from = {plane_bytes, 0}, y_plane = {y_bytes, sizeof y_bytes};
+    segvartin_bytes u_plane = {u_bytes, sizeof u_bytes}, v_plane = {v_bytes, sizeof v_bytes};
+    segvartin_bytes_mut file = {file_bytes, sizeof file_bytes};
+    segvartin_answer a;
+    uint32_t k;
+    d.sampling = SEGVARTIN_YUV422;
+    called_from = __builtin_frame_address(0);
+    a = segvartin_y4m_write(&d, from, file, &used);
+    for (k = 0; k < SEVERAL && a.number == SEGVARTIN_FINISHED; k++) {
+        segvartin_bytes_mut rest = {file_bytes + used, sizeof file_bytes - used};
+        a = segvartin_y4m_write_picture(&d, y_plane, u_plane, v_plane, rest, &size);
+        used += size;
+    }
+    if (a.number == SEGVARTIN_FINISHED) a = segvartin_y4m_read(segvartin_read_only(file), 0, pictures, SEVERAL, &told, &read);
+    if (a.number != SEGVARTIN_FINISHED || read != SEVERAL) return &description;
+    from.len = sizeof plane_bytes;
+    a = segvartin_y4m_write(&d, from, file, &size);
+    return a.number == SEGVARTIN_FINISHED && size == sizeof file_bytes ? unused : &description;
+}
+
 static size_t taken(void *(*call)(void *)) {
     pthread_attr_t attributes;
     pthread_t thread;
@@ -217,7 +246,7 @@ static size_t taken(void *(*call)(void *)) {
 }
 
 int main(void) {
-    size_t most[7] = {0, 0, 0, 0, 0, 0, 0};
+    size_t most[8] = {0, 0, 0, 0, 0, 0, 0, 0};
     uint32_t code;
     description.width = W, description.height = H, description.kr = 0.25f, description.kb = 0.125f;
     description.y_stride = W, description.u_stride = description.v_stride = CW;
@@ -244,10 +273,12 @@ int main(void) {
     most[3] = taken(shift_files);
     most[4] = taken(settings);
     most[5] = taken(summaries);
-    most[6] = taken(pairs);
-    printf("stack, at most: a frame call %zu bytes, a band call %zu, a count of colours %zu, shift files %zu, with settings and moved %zu, summaries %zu, two files paired %zu\n",
-           most[0], most[1], most[2], most[3], most[4], most[5], most[6]);
-    for (code = 0; code < 6; code++)
+    most[6] = taken(y4m);
+    most[7] = taken(pairs);
+    printf("stack, at most: a frame call %zu bytes, a band call %zu, a count of colours %zu, shift files %zu, with settings and moved %zu, "
+           "summaries %zu, Y4M files %zu, two files paired %zu\n",
+           most[0], most[1], most[2], most[3], most[4], most[5], most[6], most[7]);
+    for (code = 0; code < 7; code++)
         if (most[code] >= PROMISED) return 1;
-    return most[6] < PROMISED_OF_PAIRS ? 0 : 1;
+    return most[7] < PROMISED_OF_PAIRS ? 0 : 1;
 }
