@@ -336,6 +336,37 @@ fn the_export_takes_denormals_as_its_caller() {
     }
 }
 
+/// Y4M files are made of whole numbers: no mode is set for them, and none matters.
+#[test]
+fn the_same_y4m_file_in_every_mode() {
+    let sampling = YuvChromaSubsampling::Yuv422;
+    let mut image = YuvPlanarImageMut::<u8>::alloc(5, 3, sampling);
+    for (byte, i) in image.y_plane.borrow_mut().iter_mut().zip(0..) {
+        *byte = i * 7;
+    }
+    let call = || {
+        let mut file = vec![0; y4m_size(5, 3, sampling, &[])?];
+        write_y4m(5, 3, sampling, &[], &mut file)?;
+        let start = file.len();
+        file.resize(start + y4m_picture_size(sampling, &image)?, 0);
+        y4m_picture(sampling, &image, &mut file[start..])?;
+        let read = Y4mFile::open(&file)?;
+        let picture = read.picture(0).unwrap();
+        assert_eq!((read.len(), picture.y), (1, image.y_plane.borrow()));
+        let planes = [picture.y, picture.u, picture.v].concat();
+        let mut again = vec![0; y4m_size(5, 3, sampling, &planes)?];
+        write_y4m(5, 3, sampling, &planes, &mut again)?;
+        assert_eq!(again, file);
+        assert_eq!(Y4mFile::open(&file[1..]), Err(YuvError::MalformedY4m));
+        Ok::<_, YuvError>(file)
+    };
+    let usual = call().unwrap();
+    for mode in modes() {
+        let (before, after, file) = in_mode(mode, call);
+        assert_eq!((file.as_ref(), after), (Ok(&usual), before));
+    }
+}
+
 /// Shift files, with settings and moved too, summaries and pairs are made of whole numbers: no mode is set for them, and none matters.
 #[test]
 fn the_same_shift_file_in_every_mode() {
