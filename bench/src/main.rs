@@ -1,11 +1,12 @@
 //! Times this converter and the unaltered Rust on the same frames, in one run, on one thread; a count of colours beside a loop in C; shift files
-//! beside memcpy; their summaries beside a sum in C; and two of them paired beside memcmp.
+//! beside memcpy; their summaries beside a sum in C; two of them paired beside memcmp; and Y4M files beside memcpy.
 //!
 //! Each figure is the least of many turns. The two, or a frame's forms, take turns, so that a busy
 //! moment of the machine falls on both alike.
 mod pairs;
 mod shift;
 mod summary;
+mod y4m;
 
 use segvartin::{FrameDescription, FrameOptions, FrameState, TableRounding, Window, YuvChromaSubsampling, YuvSourceChannels};
 use std::time::Instant;
@@ -296,12 +297,15 @@ fn main() {
     if asked("pairs") {
         pairs::report(&mut bars);
     }
+    if asked("y4m") {
+        y4m::report(&mut bars);
+    }
     if !bars.0 {
         std::process::exit(1);
     }
 }
 
-/// All but shift files, summaries and pairs.
+/// All but shift files, summaries, pairs and Y4M files.
 fn frames(bars: &mut Bars) {
     println!("\n1,920 x 1,080, ms; bar: {LEAST_RATIO} times the Rust");
     println!("{:<8}{:<6}{:<7}{:>8}{:>8}{:>8}{:>24}", "content", "order", "chroma", "Rust", "ours", "times", "U, V bytes that differ");

@@ -32,13 +32,17 @@ pub fn least<S, const N: usize>(on: &mut S, turns: usize, forms: [&dyn Fn(&mut S
 }
 
 /// Planes of noise, their rows so many bytes further apart than they must be.
-fn planes(width: u32, height: u32, padding: u32) -> YuvPlanarImageMut<'static, u8> {
-    let mut image = YuvPlanarImageMut::<u8>::alloc(width, height, YuvChromaSubsampling::Yuv420);
+pub fn planes(width: u32, height: u32, sampling: YuvChromaSubsampling, padding: u32) -> YuvPlanarImageMut<'static, u8> {
+    let mut image = YuvPlanarImageMut::<u8>::alloc(width, height, sampling);
     let mut state = 12345u32;
+    let chroma_rows = match sampling {
+        YuvChromaSubsampling::Yuv420 => height.div_ceil(2),
+        YuvChromaSubsampling::Yuv422 => height,
+    };
     for (plane, stride, rows) in [
         (&mut image.y_plane, &mut image.y_stride, height),
-        (&mut image.u_plane, &mut image.u_stride, height.div_ceil(2)),
-        (&mut image.v_plane, &mut image.v_stride, height.div_ceil(2)),
+        (&mut image.u_plane, &mut image.u_stride, chroma_rows),
+        (&mut image.v_plane, &mut image.v_stride, chroma_rows),
     ] {
         *stride += padding;
         let bytes = (0..*stride as usize * rows as usize).map(|_| {
@@ -58,7 +62,7 @@ struct Record {
 
 impl Record {
     fn new(width: u32, height: u32, padding: u32) -> Record {
-        let image = planes(width, height, padding);
+        let image = planes(width, height, YuvChromaSubsampling::Yuv420, padding);
         let record = vec![0; shift_record_size(&image).unwrap()];
         Record { image, record }
     }

@@ -7,7 +7,8 @@
 //! byte. The rules that fix each byte and each answer are docs/RULES.md of the repository; RULES 7.1 in a comment is one of them.
 //!
 //! No frame or band call panics, and neither does [`luma_counts`], which tells how many colours share a luma, nor a call on files or summaries.
-//! [`YuvPlanarImageMut::alloc`] makes the planes as [`Vec`]s, and ends as those do where memory does not suffice.
+//! [`YuvPlanarImageMut::alloc`] makes the planes as [`Vec`]s, and [`Y4mFile::pictures`] the places of all pictures; both end as a [`Vec`] does where
+//! memory does not suffice.
 //!
 //! The caller's floating-point mode (rounding, denormals, trapped exceptions) does not matter: each call is made in the default mode, and the
 //! caller's mode and exception flags are put back as they were; calls on files use no floats.

@@ -2,8 +2,8 @@
  * The lines of C that README.md shows, one block after another, on a frame of flat green 10 with the rear of a truck in it, flat white. tests/run
  * takes them out of it. The last call but one is that with nearest tables: V of green is 124, and 125 by truncated ones (RULES 5.2, Bt601 Limited: of
  * green 10 and of green 9). The last is the window onto the rear, which is white alone; behind its planes there is still what the call before left.
- * Behind the frames come the counts of colours, the shift file of the rear, its summary, which at the end is that of the file with its record twice, the
- * file held against itself, the same with settings, and the first moved forward.
+ * Behind the frames come the counts of colours, the shift file of the rear, its summary, which at the end is that of the file with its record twice,
+ * the file held against itself, the same with settings, and the first moved forward; last the Y4M file of the rear.
  */
 #include "expect.h"
 
@@ -37,6 +37,10 @@ int main(void) {
     EXPECT(form == SEGVARTIN_WITH_SETTINGS && any.sampling == 0 && any.range == 0 && any.matrix == 0 && any.transfer == 0 && any.shift.y_offset == 32);
     EXPECT(set_size == sizeof moved_bytes && memcmp(moved_bytes + 28, "\0\377\377\377", 4) == 0 && memcmp(set_file_bytes + 28, "\0\0\0\0", 4) == 0);
     EXPECT(memcmp(moved_bytes, set_file_bytes, 28) == 0 && memcmp(moved_bytes + 32, set_file_bytes + 32, sizeof moved_bytes - 32) == 0);
+    EXPECT(memcmp(y4m_bytes, "YUV4MPEG2 W640 H480 F25:1 Ip C420jpeg\nFRAME\n", 44) == 0 && line_size == 38);
+    EXPECT(y4m_read.len == 44 + 640 * 480 + 2 * 320 * 240 && all_are(y4m_bytes, 44, 44 + 640 * 480, 235));
+    EXPECT(all_are(y4m_bytes, 44 + 640 * 480, y4m_read.len, 128) && shown_luma.at == y4m_bytes + 44 && shown_luma.len == 640 * 480);
+    EXPECT(of_file.width == 640 && of_file.height == 480 && of_file.sampling == SEGVARTIN_YUV420 && of_file.count == 1 && pictures_read == 1);
     EXPECT(a.number == SEGVARTIN_FINISHED);
     EXPECT(all_are(luma, 0, y.len, 235) && all_are(cb, 0, u.len, 128) && all_are(cr, 0, v.len, 128));
     EXPECT(y.len == 640 * 480 && u.len == 320 * 240 && v.len == u.len);
