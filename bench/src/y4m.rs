@@ -142,7 +142,7 @@ pub fn report(bars: &mut Bars) {
         );
     }
 
-    println!("\na picture of 1,920 x 1,080 from planes, ms, beside memcpy of each row; least of {TURNS_OF_PICTURES} turns; bar: {MOST_OVER_COPY} times");
+    println!("\na picture of 1,920 x 1,080 from planes, ms, beside memcpy of each row; least of {TURNS_OF_PICTURES}; bar: {MOST_OVER_COPY} times");
     println!("{:<24}{:<8}{:>9}{:>9}{:>8}", "", "chroma", "memcpy", "picture", "times");
     for (padded, padding) in [("no padding", 0), ("64 bytes behind a row", 64)] {
         for sampling in [Yuv420, Yuv422] {
