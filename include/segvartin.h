@@ -618,7 +618,7 @@ static inline segvartin_answer segvartin_read_shift_file(segvartin_bytes file, s
     return a;
 }
 
-/* Bytes of a file, where they stand in it. offset and length are those of a record that segvartin_read_shift_file told of this file. */
+/* Bytes of a file, where they stand in it. offset and length are those of a record or a picture that a call told of this file. */
 static inline segvartin_bytes segvartin_shift_part(segvartin_bytes file, uint64_t offset, uint64_t length) {
     segvartin_bytes part;
     part.at = file.at + offset;
