@@ -2,7 +2,8 @@
 """Work out the examples of docs/RULES.md: every block of it that starts with the word Example.
 
 It is a second reading of the rules, in plain Python and exact numbers, that shares nothing with the proved code. The constants are
-read out of the tables of docs/RULES.md itself (rules 1.2 to 1.4, 3.1, 4.1, 4.3), so that an example follows from the text and from nothing else.
+read out of the tables of docs/RULES.md itself (rules 1.2 to 1.4, 3.1, 4.1, 4.3,
+                                                14.2), so that an example follows from the text and from nothing else.
 
     tools/rules_examples.py           write the blocks
     tools/rules_examples.py --check   say which blocks are not what the rules give, and which rules have none; fail if any
@@ -701,6 +702,109 @@ def report_numbers(report):
         (w, h, sampling), (other_w, other_h, other_sampling) = difference
         return [*counts, 1, crossing, i, j, w, h, other_w, other_h, 0, 0, 0, sampling, other_sampling, 0]
     return [*counts, 2, crossing, i, j, 0, 0, 0, 0, *difference, 0, 0, 0]
+
+
+# ---- chapter 14
+
+HEADER_WORD, PICTURE_WORD = b'YUV4MPEG2', b'FRAME'
+MOST_OF_A_LINE = 256
+C_TAGS = {row[0].strip('`').encode(): CODES['sampling'].index(row[1]) for row in table('14.2')}
+Y4m = namedtuple('Y4m', 'w h sampling pictures')  # a picture: its tags, and offset and length of Y, U and V
+
+
+def y4m_line(word, *tags):
+    return word + b''.join(b' ' + tag for tag in tags) + b'\n'
+
+
+def tags_of(data, word):
+    """14.1: the tags of bytes that are a line of this word, or None."""
+    if len(data) > MOST_OF_A_LINE or not re.fullmatch(re.escape(word) + rb'( [^ \n]+)*\n', data):
+        return None
+    return data[:-1].split(b' ')[1:]
+
+
+def decimal_in(text):
+    """14.2: the number of a decimal, or None."""
+    number = int(text) if re.fullmatch(rb'[1-9][0-9]*', text) else 0
+    return number if 1 <= number <= 16384 else None
+
+
+def header_in(data):
+    """14.2: w, h and the code of the sampling of bytes that are a header, or None."""
+    tags = tags_of(data, HEADER_WORD)
+    if tags is None:
+        return None
+    widths, heights, samplings = ([tag for tag in tags if tag[:1] == letter] for letter in (b'W', b'H', b'C'))
+    if len(widths) != 1 or len(heights) != 1 or len(samplings) > 1:
+        return None
+    found = decimal_in(widths[0][1:]), decimal_in(heights[0][1:]), C_TAGS.get(samplings[0]) if samplings else 0
+    return None if None in found else found
+
+
+def y4m_in(data):
+    """14.3, 14.4: the one Y4M file of these bytes, or None."""
+    at = data.find(b'\n') + 1
+    header = header_in(data[:at])
+    if header is None:
+        return None
+    pictures, sizes = [], plane_sizes(*header)
+    while at < len(data):
+        end = data.find(b'\n', at) + 1
+        tags = tags_of(data[at:end], PICTURE_WORD)
+        if tags is None or end + sum(sizes) > len(data):
+            return None
+        y, u, v = sizes
+        pictures.append((tags, (end, y, end + y, u, end + y + u, v)))
+        at = end + sum(sizes)
+    return Y4m(*header, pictures)
+
+
+def y4m_read_call(data, first, room):
+    """14.5: the answer; w, h, sampling, how many pictures; and the entries written."""
+    found = y4m_in(data)
+    if found is None:
+        return 19, (0, 0, 0, 0), []
+    return 0, (*found[:3], len(found.pictures)), [entry for _, entry in found.pictures[first:first + room]]
+
+
+def is_shape(w, h, sampling):
+    """What 14.6 and 14.7 ask of w, h and the number for the sampling."""
+    return 1 <= w <= 16384 and 1 <= h <= 16384 and sampling in (0, 1)
+
+
+def written_header(w, h, sampling):
+    """14.6."""
+    return y4m_line(HEADER_WORD, b'W%d' % w, b'H%d' % h, b'F25:1', b'Ip', (b'C420jpeg', b'C422')[sampling])
+
+
+def written_size(w, h, sampling, length):
+    """14.6: the size of the file of so many bytes of pictures, or None where that is 19."""
+    if not is_shape(w, h, sampling) or length % sum(plane_sizes(w, h, sampling)):
+        return None
+    return len(written_header(w, h, sampling)) + (length // sum(plane_sizes(w, h, sampling))) * len(y4m_line(PICTURE_WORD)) + length
+
+
+def y4m_write_call(w, h, sampling, pictures, output):
+    """14.6: the answer and the size."""
+    if written_size(w, h, sampling, len(pictures)) is None:
+        return 19, 0
+    p = sum(plane_sizes(w, h, sampling))
+    made = written_header(w, h, sampling) + b''.join(y4m_line(PICTURE_WORD) + pictures[at:at + p] for at in range(0, len(pictures), p))
+    assert len(made) == written_size(w, h, sampling, len(pictures))
+    return put(output, made), len(made)
+
+
+def y4m_picture_call(w, h, sampling, strides, planes, output):
+    """14.7: the answer and the size."""
+    if not is_shape(w, h, sampling):
+        return 19, 0
+    cw, ch = chroma_size(Settings(sampling=CODES['sampling'][sampling]), w, h)
+    made = y4m_line(PICTURE_WORD)
+    for plane, stride, width, rows in zip(planes, strides, (w, cw, cw), (h, ch, ch)):
+        if stride < width or len(plane) != stride * rows:
+            return 19, 0
+        made += b''.join(plane[r * stride:r * stride + width] for r in range(rows))
+    return put(output, made), len(made)
 
 
 # ---- the examples, by the number of their rule
@@ -1752,6 +1856,30 @@ def _():
         yield f'{said}: {told(number, broken)}; {numbers([9] * 18 if report is None else report_numbers(report))}'
 
 
+@example('10.8')
+def _():
+    data = Y4M_TWO
+    for said, given, first, room in (('the file of 14.3', data, 0, 12), ('the file of 14.3', data, 0, 11), ('the file of 14.3', data, 1, 40),
+                                     ('the file of 14.3', data, 2, 12),
+                                     ('the file of 14.3', data, 18446744073709551615, 12), ('the file of 14.3', data, 0, 0),
+                                     ('YUV4MPEG2 C422 H2 W3<0A>', b'YUV4MPEG2 C422 H2 W3\n', 0, 12),
+                                     ('the file of 14.3 without its last byte', data[:-1], 0, 12)):
+        number, found, entries = y4m_read_call(given, first, room // 6)
+        written = f'{6 * len(entries)} of the numbers are written' if number == 0 else 'none is written'
+        yield f'y4m_pictures, {said}, first {first}, {room} numbers: {told(number, *found, len(entries))}; {written}'
+    for given, length, room in (((3, 2, 0), 20, 66), ((3, 2, 0), 20, 65), ((3, 2, 0), 0, 34), ((3, 2, 0), 21, 100), ((3, 2, 1), 28, 70),
+                                ((3, 2, 2), 20, 100), ((0, 2, 0), 0, 100),
+                                ((3, 16385, 0), 0, 100), ((4294967295, 4294967295, 4294967295), 0, 0)):
+        answer = y4m_write_call(*given, bytes(length), filled(room))
+        yield f'y4m_write, numbers {numbers(given)}, pictures of {length} bytes, output of {room} bytes: {told(*answer)}'
+    for given, lengths, room in (((3, 2, 0, 4, 3, 2), (8, 3, 2), 16), ((3, 2, 0, 4, 3, 2), (8, 3, 2), 15), ((3, 2, 0, 4, 3, 2), (7, 3, 2), 16),
+                                 ((3, 2, 0, 2, 3, 2), (4, 3, 2), 16),
+                                 ((3, 2, 1, 4, 3, 2), (8, 6, 4), 20), ((3, 2, 1, 4, 3, 2), (8, 3, 2), 20), ((3, 2, 2, 4, 3, 2), (8, 3, 2), 16),
+                                 ((0, 0, 0, 0, 0, 0), (0, 0, 0), 0)):
+        answer = y4m_picture_call(*given[:3], given[3:], [bytes(length) for length in lengths], filled(room))
+        yield f'y4m_picture, numbers {numbers(given)}, planes of {", ".join(map(str, lengths))}, output of {room} bytes: {told(*answer)}'
+
+
 # ---- chapter 11
 
 TWO = [record_of(1400, 3, 2, [bytes([0x10, 0x11, 0x12, 0x20, 0x21, 0x22]), bytes([0x30, 0x31]), bytes([0x40, 0x41])]),
@@ -2240,6 +2368,253 @@ def _():
     yield line('the files of 13.1, ours moved forward', moved(ours), theirs)
     yield line('the files of 13.1, both moved forward', moved(ours), moved(theirs))
     yield line('ours moved forward, without its last byte', moved(ours)[:-1], theirs)
+
+
+# ---- chapter 14
+
+# the planes of two pictures of 3 × 2 in 4:2:0; in the second bytes that a line may have too
+PLANES = [[bytes([0x10, 0x11, 0x12, 0x20, 0x21, 0x22]), bytes([0x30, 0x31]), bytes([0x40, 0x41])],
+          [b'\nFRAME', b'\n\n', b'  ']]
+PICTURES = [b''.join(planes) for planes in PLANES]
+Y4M_TWO = written_header(3, 2, 0) + y4m_line(PICTURE_WORD) + PICTURES[0] + y4m_line(PICTURE_WORD, b'Ip', b'W9') + PICTURES[1]
+WRITTEN_TEXT = 'in text a byte below 32 or above 126 stands as its two hexadecimal digits in < >: <0A> is a newline; a space stands as it is'
+
+
+def in_text(data):
+    return ''.join(chr(byte) if 32 <= byte <= 126 else f'<{byte:02X}>' for byte in data) or 'no bytes'
+
+
+def header_text(data):
+    found = header_in(data)
+    return 'no header' if found is None else f'w {found[0]}, h {found[1]}, {CODES["sampling"][found[2]]}'
+
+
+@example('14.1')
+def _():
+    yield WRITTEN_TEXT
+    for data in (b'FRAME\n', b'FRAME Ip\n', y4m_line(HEADER_WORD, b'W4', b'H2', b'F25:1', b'Ip', b'C420jpeg')):
+        yield f'{in_text(data)} is {hexes(data)}'
+
+    def line(data, said):
+        word = next((word for word in (HEADER_WORD, PICTURE_WORD) if tags_of(data, word) is not None), None)
+        if word is None:
+            return f'{said}: no line'
+        tags = tags_of(data, word)
+        listed = ', '.join(in_text(tag) for tag in tags) if sum(map(len, tags)) < 40 else 'one'
+        return f'{said}: a line of {word.decode()}, ' + (f'tags: {listed}' if tags else 'no tags')
+    for data in (b'FRAME\n', b'YUV4MPEG2\n', b'FRAME Ip\n', b'FRAME Ip Ip XA=1 :\n', b'FRAME X\r\n', b'FRAME \x00\t\xff\n', b'FRAME FRAME\n',
+                 b'FRAME YUV4MPEG2\n', b'YUV4MPEG2 FRAME\n',
+                 b'FRAME  Ip\n', b'FRAME Ip  Ip\n', b'FRAME Ip \n', b'FRAME \n', b' FRAME\n', b'FRAME\r\n', b'FRAME\tIp\n', b'frame\n', b'FRAMES\n',
+                 b'FRAM\n', b'YUV4MPEG\n', b'YUV4MPEG21\n',
+                 b'FRAME', b'FRAME Ip', b'\n', b'', b'FRAME\n\n', b'FRAME Ip\nIp\n'):
+        yield line(data, in_text(data))
+    for count in (249, 250):
+        data = y4m_line(PICTURE_WORD, b'X' * count)
+        yield line(data, f'FRAME, a space, {count} times X, <0A>, {len(data)} bytes')
+
+
+@example('14.2')
+def _():
+    yield 'in text as in 14.1'
+
+    def line(text):
+        return f'{in_text(text)}: {header_text(text)}'
+    for tags in (b'W4 H2 F25:1 Ip C420jpeg', b'W4 H2', b'H2 W4', b'C422 XW5 H2 A1:1 W4', b'W4 H2 C420', b'W4 H2 C420mpeg2', b'W4 H2 C422',
+                 b'W1 H16384', b'W4 H2 F25:1 F30:1 F F', b'W4 H2 w5 h6 c444',
+                 b'W4 H2 X\r', b'W4 H2 \x00', b'W4 H2 W', b'W4 H2 H2', b'W4 W4 H2', b'W4', b'H2', b'', b'W H2', b'W04 H2', b'W0 H2', b'W+4 H2',
+                 b'W-4 H2', b'W4. H2', b'W0x4 H2', b'W4a H2',
+                 b'W4\r H2', b'W4 H2\r', b'W16385 H2', b'W65540 H2', b'W4294967300 H2', b'W18446744073709551620 H2', b'Wide4 W4 H2', b'W4 H2 Hello',
+                 b'W4 H2 C', b'W4 H2 C420 C420', b'W4 H2 C420 Cx',
+                 b'W4 H2 C420paldv', b'W4 H2 C420jpe', b'W4 H2 C420jpegs', b'W4 H2 C420p10', b'W4 H2 C422p10', b'W4 H2 C444', b'W4 H2 C411',
+                 b'W4 H2 Cmono', b'W4 H2 c420 C422', b'W4 H2 C0420',
+                 b'W4 H2 C420\r', b'W4 H2 X C422', b'W4,H2', b'W4\tH2'):
+        yield line(y4m_line(HEADER_WORD, *(tags.split(b' ') if tags else [])))
+    for data in (b'YUV4MPEG2 W4  H2\n', b'YUV4MPEG2 W4 H2 \n', b'FRAME W4 H2\n'):
+        yield line(data)
+    side = 10 ** 240
+    data = y4m_line(HEADER_WORD, b'W%d' % side, b'H2')
+    yield (f'W, 1 and 240 times 0, H2, {len(data)} bytes: {header_text(data)}; the number has {len(str(side))} digits, '
+           f'the largest of so many {(10 * side - 1).bit_length()} bits')
+    data = y4m_line(HEADER_WORD, b'W4', b'H2', b'X' * 239)
+    yield f'W4, H2, 239 times X, {len(data)} bytes: {header_text(data)}'
+    data = y4m_line(HEADER_WORD, b'W4', b'H2', b'X' * 240)
+    yield f'W4, H2, 240 times X, {len(data)} bytes: {header_text(data)}'
+
+
+@example('14.3')
+def _():
+    yield f'a file of two pictures, {len(Y4M_TWO)} bytes in hexadecimal, its lines also in text as in 14.1:'
+    lines = [(written_header(3, 2, 0), None)]
+    for tags, planes in zip(([], [b'Ip', b'W9']), PLANES):
+        lines += [(y4m_line(PICTURE_WORD, *tags), None)] + list(zip(planes, 'YUV'))
+    assert b''.join(part for part, _ in lines) == Y4M_TWO
+    for part, said in lines:
+        yield f'{hexes(part)}   {said or in_text(part)}'
+    yield 'no pictures: the header alone, here 34 bytes'
+    for w, h, sampling in ((1, 1, 0), (1, 1, 1), (3, 2, 0), (3, 2, 1), (3, 3, 0), (3, 3, 1), (1920, 1080, 0), (16384, 16384, 0), (16384, 16384, 1)):
+        y, u, v = plane_sizes(w, h, sampling)
+        bits_said = f', of {(y + u + v).bit_length()} bits' if w == 16384 else ''
+        yield f'{w} × {h}, {CODES["sampling"][sampling]}: {y} + {u} + {v} = {y + u + v} bytes of planes{bits_said}'
+
+
+def broken(data):
+    return '19' if y4m_in(data) is None else 'not 19'
+
+
+@example('14.4')
+def _():
+    header, first = written_header(3, 2, 0), y4m_line(PICTURE_WORD) + PICTURES[0]
+    second = Y4M_TWO[len(header) + len(first):]
+    yield f'the file of 14.3, {len(Y4M_TWO)} bytes, with one thing changed; in text as in 14.1'
+
+    def with_header(line):
+        return line + first + second
+
+    def with_frame(line):
+        return header + line + PICTURES[0] + second
+    for said, given in (
+            ('nothing', Y4M_TWO), ('no last byte', Y4M_TWO[:-1]), ('a byte 00 behind', Y4M_TWO + b'\0'), ('a newline behind', Y4M_TWO + b'\n'),
+                        ('FRAME<0A> behind', Y4M_TWO + b'FRAME\n'),
+            ('FRAME<0A> and 9 bytes behind', Y4M_TWO + b'FRAME\n' + bytes(9)), ('FRAME<0A> and 10 bytes behind', Y4M_TWO + b'FRAME\n' + bytes(10)),
+            ('its first picture alone', header + first), ('its second picture alone', header + second),
+                        ('the second picture before the first', header + second + first),
+            ('no pictures', header), ('no header', first + second), ('the header twice', header + Y4M_TWO),
+                        ('a newline before the header', b'\n' + Y4M_TWO),
+            ('a newline behind the header', with_header(header + b'\n')), ('a newline behind the first picture', header + first + b'\n' + second),
+            ('the line of the first picture left out', header + PICTURES[0] + second), ('a byte of the first Y left out',
+                                                                                        header + first[:6] + first[7:] + second),
+            ('the last byte of the first V left out', header + first[:-1] + second), ('a byte behind the first V', header + first + b'\0' + second),
+            ('the first byte of the first Y 0A', with_byte(Y4M_TWO, 40, 10)), ('the last byte 0A', with_byte(Y4M_TWO, len(Y4M_TWO) - 1, 10)),
+            ('each byte of a plane 0A', header + y4m_line(PICTURE_WORD) + b'\n' * 10 + y4m_line(PICTURE_WORD) + b'\n' * 10)):
+        yield f'{said}: {broken(given)}'
+    yield 'with another line for the header'
+    for line in (b'YUV4MPEG2 W3 H2\n', b'YUV4MPEG2 H2 W3\n', b'YUV4MPEG2 H2 W3 C420mpeg2\n', b'YUV4MPEG2 W2 H3\n', b'YUV4MPEG2 W4 H2\n',
+                 b'YUV4MPEG2 W3 H2 C422\n', b'YUV4MPEG2 W10 H1\n', b'YUV4MPEG2 W3 H2 C420jpeg\r\n',
+                 b'YUV4MPEG2 W3 H2 C420jpeg X\r\n', b'YUV4MPEG W3 H2\n', b'FRAME\n'):
+        yield f'{in_text(line)}: {broken(with_header(line))}'
+    yield 'with another line for the first FRAME'
+    for line in (b'FRAME Ip\n', b'FRAME X=1 X=1\n', b'FRAME W4\n', b'FRAME W\n', b'FRAME W4 W5 H0 C444\n', b'FRAME X\r\n', b'FRAME \n',
+                 b'FRAME  Ip\n', b'FRAME Ip \n', b'FRAME\r\n', b'FRAMEIp\n', b'FRAME\tIp\n',
+                 b'frame\n', b'FRAME', b'\n', b' FRAME\n', b'FRAME\n\n', b'YUV4MPEG2 W3 H2\n'):
+        yield f'{in_text(line)}: {broken(with_frame(line))}'
+    long = with_frame(b'FRAME Ip')
+    assert len(y4m_in(long).pictures) == 1
+    yield 'FRAME Ip and no newline, so that the line ends with the newline of the next one, and there is one picture: ' + broken(long)
+    for count in (249, 250):
+        line = y4m_line(PICTURE_WORD, b'X' * count)
+        yield f'FRAME, a space, {count} times X, <0A>, {len(line)} bytes: {broken(with_frame(line))}'
+    yield 'other bytes'
+    for given in (b'', b'\n', b'YUV4MPEG2', b'YUV4MPEG2\n', b'YUV4MPEG2 W3 H2', b'YUV4MPEG2 W3 H2\n', b'YUV4MPEG2 W1 H1\nFRAME\n123',
+                  b'YUV4MPEG2 W1 H1\nFRAME\n12', b'YUV4MPEG2 W1 H1\nFRAME\n1234',
+                  b'YUV4MPEG2 W1 H1\nFRAME\n123FRAME\n456', b'YUV4MPEG2 W1 H1\nFRAME\n123FRAME', b'YUV4MPEG2 W1 H1\nFRAME\n123\nFRAME\n456',
+                  b'YUV4MPEG2 W16384 H16384\nFRAME\n',
+                  b'YUV4MPEG2 W16385 H1\n', b'YUV4MPEG2 W1 H1 C422\nFRAME\n123', b'yuv4mpeg2 W1 H1\n'):
+        yield f'{in_text(given)}: {broken(given)}'
+
+
+def count_pictures(count):
+    return '1 picture' if count == 1 else f'{count} pictures'
+
+
+@example('14.5')
+def _():
+    def line(said, data, first, room):
+        number, (w, h, sampling, count), entries = y4m_read_call(data, first, room)
+        what = f'{w} × {h}, {CODES["sampling"][sampling]}' if number == 0 else 'w 0, h 0'
+        return f'{said}, first {first}, room for {room}: {number}, {what}, {count_pictures(count)}, {count_of(entries)}', entries
+    said, entries = line('the file of 14.3', Y4M_TWO, 0, 2)
+    yield said
+    for entry in entries:
+        yield '  ' + numbers(entry)
+    for first, room in ((0, 1), (1, 5), (2, 5), (18446744073709551615, 5), (0, 0)):
+        said, entries = line('the same', Y4M_TWO, first, room)
+        yield said + ''.join(f': {numbers(entry)}' for entry in entries)
+    said, entries = line('YUV4MPEG2 C422 H2 W3<0A>FRAME<0A> and 14 bytes', b'YUV4MPEG2 C422 H2 W3\nFRAME\n' + bytes(14), 0, 2)
+    yield said + f': {numbers(entries[0])}'
+    yield line('YUV4MPEG2 W3 H2<0A>', b'YUV4MPEG2 W3 H2\n', 0, 2)[0]
+    yield line('the file of 14.3 with a byte behind', Y4M_TWO + b'\0', 0, 2)[0]
+    yield line('no bytes', b'', 0, 2)[0]
+    y, u, v = plane_sizes(16384, 16384, 0)
+    start = len(written_header(16384, 16384, 0))
+    size = 6 + y + u + v
+    yield f'12 pictures of 16384 × 16384 in 4:2:0, as 14.6 writes them: Y of the last starts at byte {start} + 11 × {size} + 6 = {start + 11 * size + 6}'
+
+
+@example('14.6')
+def _():
+    yield 'in text as in 14.1; all bytes of the output EE before'
+    for w, h, sampling in ((4, 2, 0), (4, 2, 1), (1, 1, 1), (16384, 16384, 0)):
+        data = written_header(w, h, sampling)
+        yield f'{w} × {h}, {CODES["sampling"][sampling]}: the header is {in_text(data)}, {len(data)} bytes'
+    one = PICTURES[0]
+    output = filled(52)
+    number, size = y4m_write_call(3, 2, 0, one, output)
+    yield f'3 2 0, pictures {hexes(one)}, output of 52 bytes: {number}, size {size}; the output is'
+    for at, end in ((0, 34), (34, 40), (40, 50), (50, 52)):
+        yield f'  {hexes(output[at:end])}'
+    both, output = b''.join(PICTURES), filled(66)
+    number, size = y4m_write_call(3, 2, 0, both, output)
+    found = y4m_in(bytes(output))
+    assert b''.join(bytes(output)[entry[0]:entry[0] + 10] for _, entry in found.pictures) == both
+    yield (f'3 2 0, the planes of both pictures of 14.3, output of 66 bytes: {number}, size {size}; reading the output: w {found.w}, h {found.h}, '
+           f'{CODES["sampling"][found.sampling]}, planes')
+    for _, (y, y_length, u, u_length, v, v_length) in found.pictures:
+        yield f'  {plane_text([bytes(output)[at:at + length] for at, length in ((y, y_length), (u, u_length), (v, v_length))])}'
+    for said, given, length, room in (
+            ('10 bytes', (3, 2, 0), 10, 50), ('10 bytes', (3, 2, 0), 10, 49), ('10 bytes', (3, 2, 0), 10, 0), ('no bytes', (3, 2, 0), 0, 36),
+                                      ('no bytes', (3, 2, 0), 0, 33), ('9 bytes', (3, 2, 0), 9, 0),
+            ('11 bytes', (3, 2, 0), 11, 100), ('10 bytes', (3, 2, 1), 10, 100), ('14 bytes', (3, 2, 1), 14, 50), ('14 bytes', (3, 2, 1), 14, 49),
+                                      ('3 bytes', (1, 1, 1), 3, 39),
+            ('no bytes', (3, 2, 2), 0, 100), ('no bytes', (3, 2, 4294967295), 0, 100), ('no bytes', (0, 2, 0), 0, 100),
+                                      ('no bytes', (3, 0, 0), 0, 100), ('no bytes', (16384, 1, 0), 0, 100),
+            ('no bytes', (16385, 1, 0), 0, 100), ('no bytes', (1, 4294967295, 0), 0, 0)):
+        number, size = y4m_write_call(*given, bytes(length), filled(room))
+        yield f'{numbers(given)}, {said}, output of {room} bytes: {number}, size {size}'
+    output = filled(36)
+    y4m_write_call(3, 2, 0, b'', output)
+    yield f'3 2 0, no bytes, output of 36 bytes: the output is {in_text(output)}'
+    for length in (6148914691236517191, 6148914691236517194):
+        size = written_size(1, 1, 0, length)
+        yield (f'1 1 0, {length} bytes, a file of {size} bytes, which has {size.bit_length()} bits: 16 in any output that is shorter, '
+               f'size {size if size < 2 ** 64 else 0}')
+
+
+@example('14.7')
+def _():
+    yield 'w 3, h 2: cw 2, ch 1 in 4:2:0 and 2 in 4:2:2; numbers w, h, for the sampling, strides of Y, U, V; all bytes of the output EE before'
+    planes = [bytes([0x10, 0x11, 0x12, 0x99, 0x20, 0x21, 0x22, 0x99]), bytes([0x30, 0x31, 0x99]), bytes([0x40, 0x41])]
+    output = filled(18)
+    number, size = y4m_picture_call(3, 2, 0, (4, 3, 2), planes, output)
+    assert bytes(output[:16]) == y4m_line(PICTURE_WORD) + PICTURES[0]
+    yield f'3 2 0 4 3 2, {plane_text(planes)}, output of 18 bytes: {number}, size {size}; the output is'
+    yield f'  {hexes(output)}'
+    file, grown = filled(34), filled(50)
+    y4m_write_call(3, 2, 0, b'', file)
+    y4m_write_call(3, 2, 0, PICTURES[0], grown)
+    assert grown == file + output[:16]
+    yield 'the file of no pictures of 3 2 0 by 14.6 with these 16 bytes behind it: the file by 14.6 of the planes of the first picture of 14.3'
+    planes = [bytes([0x10, 0x11, 0x12, 0x20, 0x21, 0x22]), bytes([0x30, 0x31, 0x99, 0x32, 0x33, 0x99]), bytes([0x40, 0x41, 0x42, 0x43])]
+    output = filled(20)
+    number, size = y4m_picture_call(3, 2, 1, (3, 3, 2), planes, output)
+    yield f'3 2 1 3 3 2, {plane_text(planes)}, output of 20 bytes: {number}, size {size}; the output is'
+    yield f'  {hexes(output)}'
+    for said, given, lengths, room in (
+            ('an output one byte too short', (3, 2, 0, 4, 3, 2), (8, 3, 2), 15), ('no output', (3, 2, 0, 4, 3, 2), (8, 3, 2), 0),
+                                       ('Y stride below w', (3, 2, 0, 2, 3, 2), (4, 3, 2), 16),
+            ('U stride below cw', (3, 2, 0, 4, 1, 2), (8, 1, 2), 16), ('V stride below cw', (3, 2, 0, 4, 3, 1), (8, 3, 1), 16),
+                                       ('Y without its last padding', (3, 2, 0, 4, 3, 2), (7, 3, 2), 16),
+            ('Y a byte longer', (3, 2, 0, 4, 3, 2), (9, 3, 2), 16), ('Y a row longer', (3, 2, 0, 4, 3, 2), (12, 3, 2), 16),
+                                       ('U without its padding', (3, 2, 0, 4, 3, 2), (8, 2, 2), 16),
+            ('V a byte longer', (3, 2, 0, 4, 3, 2), (8, 3, 3), 16), ('V empty', (3, 2, 0, 4, 3, 2), (8, 3, 0), 16),
+                                       ('planes of 4:2:0 for 4:2:2', (3, 2, 1, 4, 3, 2), (8, 3, 2), 20),
+            ('planes of 4:2:2 for 4:2:0', (3, 2, 0, 4, 3, 2), (8, 6, 4), 20), ('planes of both, h 1', (3, 1, 0, 3, 2, 2), (3, 2, 2), 13),
+                                       ('the same', (3, 1, 1, 3, 2, 2), (3, 2, 2), 13),
+            ('an unknown sampling', (3, 2, 2, 4, 3, 2), (8, 3, 2), 16), ('w 0, and all else 0 too', (0, 0, 0, 0, 0, 0), (0, 0, 0), 0),
+                                       ('w 16385', (16385, 1, 0, 16385, 8193, 8193), (16385, 8193, 8193), 0),
+            ('strides of 2 ^ 32 − 1', (1, 1, 0, 4294967295, 4294967295, 4294967295), (1, 1, 1), 9), ('short output and a stride below w',
+                                                                                                     (3, 2, 0, 2, 3, 2), (4, 3, 2), 0)):
+        number, size = y4m_picture_call(*given[:3], given[3:], [bytes(count) for count in lengths], filled(room))
+        yield f'{said}, {numbers(given)}, lengths {numbers(lengths)}, output of {room} bytes: {number}, size {size}'
 
 
 # ---- appendix A
