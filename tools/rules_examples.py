@@ -2377,7 +2377,8 @@ PLANES = [[bytes([0x10, 0x11, 0x12, 0x20, 0x21, 0x22]), bytes([0x30, 0x31]), byt
           [b'\nFRAME', b'\n\n', b'  ']]
 PICTURES = [b''.join(planes) for planes in PLANES]
 Y4M_TWO = written_header(3, 2, 0) + y4m_line(PICTURE_WORD) + PICTURES[0] + y4m_line(PICTURE_WORD, b'Ip', b'W9') + PICTURES[1]
-WRITTEN_TEXT = 'in text a byte below 32 or above 126 stands as its two hexadecimal digits in < >: <0A> is a newline; a space stands as it is'
+WRITTEN_TEXT = ('bytes in hexadecimal, or in text, where a byte below 32 or above 126 stands as its two hexadecimal digits in < >: <0A> is a newline; '
+                'a space stands as it is')
 
 
 def in_text(data):
@@ -2465,7 +2466,7 @@ def broken(data):
 def _():
     header, first = written_header(3, 2, 0), y4m_line(PICTURE_WORD) + PICTURES[0]
     second = Y4M_TWO[len(header) + len(first):]
-    yield f'the file of 14.3, {len(Y4M_TWO)} bytes, with one thing changed; in text as in 14.1'
+    yield f'the file of 14.3, {len(Y4M_TWO)} bytes, with one thing changed; bytes in hexadecimal, or in text as in 14.1'
 
     def with_header(line):
         return line + first + second
@@ -2537,12 +2538,13 @@ def _():
     y, u, v = plane_sizes(16384, 16384, 0)
     start = len(written_header(16384, 16384, 0))
     size = 6 + y + u + v
-    yield f'12 pictures of 16384 × 16384 in 4:2:0, as 14.6 writes them: Y of the last starts at byte {start} + 11 × {size} + 6 = {start + 11 * size + 6}'
+    last = start + 11 * size + 6
+    yield f'12 pictures of 16384 × 16384 in 4:2:0, as 14.6 writes them: Y of the last starts at byte {start} + 11 × {size} + 6 = {last}'
 
 
 @example('14.6')
 def _():
-    yield 'in text as in 14.1; all bytes of the output EE before'
+    yield 'bytes in hexadecimal, or in text as in 14.1; numbers: w, h and that for the sampling; all bytes of the output EE before'
     for w, h, sampling in ((4, 2, 0), (4, 2, 1), (1, 1, 1), (16384, 16384, 0)):
         data = written_header(w, h, sampling)
         yield f'{w} × {h}, {CODES["sampling"][sampling]}: the header is {in_text(data)}, {len(data)} bytes'
@@ -2581,7 +2583,8 @@ def _():
 
 @example('14.7')
 def _():
-    yield 'w 3, h 2: cw 2, ch 1 in 4:2:0 and 2 in 4:2:2; numbers w, h, for the sampling, strides of Y, U, V; all bytes of the output EE before'
+    yield ('w 3, h 2: cw 2, ch 1 in 4:2:0 and 2 in 4:2:2; numbers: w, h, that for the sampling, strides of Y, U and V; '
+           'bytes in hexadecimal, all of the output EE before')
     planes = [bytes([0x10, 0x11, 0x12, 0x99, 0x20, 0x21, 0x22, 0x99]), bytes([0x30, 0x31, 0x99]), bytes([0x40, 0x41])]
     output = filled(18)
     number, size = y4m_picture_call(3, 2, 0, (4, 3, 2), planes, output)
