@@ -1,19 +1,19 @@
 -- How many pictures bytes have: the count of the walk is the one number of pictures that they are. Assumes nothing.
 use Prim.Native.Nat.{ℕ, zero, suc, _+_, _-_, _≤_, _<_}
 use mathlib.Core.Path.{_≡_, refl, ap, sym, _∙_}
-use mathlib.Core.Bool.{Bool, true, false, cond, _&&_}
+use mathlib.Core.Bool.{Bool, true, false}
 use mathlib.Core.List.{List, [], _∷_}
 use native.Mathlib.Nat.{add-zero}
 use native.Mathlib.Omega.{arith}
 use lib.Dec.{leb, ltb}
 use lib.ListN.{length, drop, length-drop, drop-of-length-le}
 use lib.Seq.{drop-drop}
-use borrow.Author.Tests.{lt-ltb, le-ltb, ne-eqb, eq-eqb, leb-true, leb-false, ltb-true, eqb-true}
-use Rattle.y4m_file.specs.Check.{pictureSize, pictures, countIn, countOf}
+use borrow.Author.Tests.{lt-ltb, ne-eqb, leb-true, leb-false, ltb-true, eqb-true}
+use Rattle.y4m_file.specs.Check.{pictureStands, pictureSize, pictures, countIn, countOf}
+use Rattle.shift_file.proofs.Record.{both}
 use Rattle.y4m_line.specs.Words.{upto}
 use Rattle.y4m_line.specs.Header.{lineEnd}
-use Rattle.y4m_line.proofs.Text.{both}
-use Rattle.y4m_file.proofs.Sizes.{Stands, stands-true}
+use Rattle.y4m_file.proofs.Sizes.{stands-true}
 
 module _ (n : ℕ) (l : List ℕ) (at : ℕ) where
   some-left : at < length l → pictures n 0 (drop at l) ≡ false
@@ -62,7 +62,7 @@ module _ (n : ℕ) (l : List ℕ) (at : ℕ) where
 -- ---- the count
 
 none-there : (n : ℕ) → pictureSize n [] ≡ 0
-unfolding pictureSize lineEnd upto
+unfolding pictureSize pictureStands lineEnd upto
 none-there n = refl
 
 pub count-is : (n m k : ℕ) (l : List ℕ) → pictures n k l ≡ true → k ≤ m → countIn n m l ≡ k

@@ -1,23 +1,26 @@
 -- A file and its bytes: the check says yes exactly where there is a file, and it is the one that is read, so it is the only one.
 -- Assumes nothing.
 use Prim.Native.Nat.{ℕ, zero, suc, _+_, _*_, _≤_, _<_}
-use mathlib.Core.Path.{_≡_, refl, ap, ap₂, sym, _∙_}
-use mathlib.Core.Bool.{Bool, true, false, cond, _&&_}
-use mathlib.Core.List.{List, [], _∷_, _++_}
+use mathlib.Core.Path.{_≡_, refl, ap, sym, _∙_}
+use mathlib.Core.Bool.{Bool, true, false}
+use mathlib.Core.List.{List, [], _∷_}
 use native.Mathlib.Omega.{arith}
-use lib.Dec.{ltb, leb, eqb}
-use lib.ListN.{length, getD, take, drop}
+use lib.Dec.{ltb, leb}
+use lib.ListN.{length, getD}
 use borrow.Author.Tests.{lt-ltb, ltb-true, leb-true, le-leb}
 use Rattle.yuv_support.specs.declared.YuvChromaSubsampling.{YuvChromaSubsampling}
 use Rattle.yuv_support.specs.declared.YuvChromaSubsampling.the-variants.{Yuv420, Yuv422}
-use Rattle.y4m_line.specs.Line.{lineOf, magic, IsLineOf, textOf, tagged, SaysSide, text420, text420jpeg, text420mpeg2, text422}
+use Rattle.shift_file.proofs.Record.{both, also}
+use Rattle.y4m_line.specs.Line.{magic, textOf, tagged, SaysSide, text420, text420jpeg, text420mpeg2, text422}
 use Rattle.y4m_line.specs.Words.{words, same}
 use Rattle.y4m_line.specs.Header.{tagsIn, isLine, isHeader, lineEnd, oneSize, oneCode, code, widthOf, heightOf, samplingOf}
-use Rattle.y4m_line.proofs.Text.{both, also, same-true, magic-tag, words-text, words-are, tags-text, text-line, end-short, text-is, rest-is, front-line, front-split}
+use Rattle.y4m_line.proofs.Text.{same-true, magic-tag, words-text, words-are, tags-text, text-line}
+use Rattle.y4m_line.proofs.Text.{end-short, text-is, rest-is, front-line, front-split}
 use Rattle.y4m_line.proofs.Says.{size-said, says-side}
 use Rattle.y4m_file.specs.File.{Y4mFile, SaysSampling, texts, Allowed, IsFileOf, fileBytes, picturesBytes, lumaBytes, chromaBytes}
-use Rattle.y4m_file.specs.Check.{samplingSaid, headerOf, restOf, widthIn, heightIn, samplingIn, planeBytes, planesIn, pictures, picturesIn, isY4m}
-use Rattle.y4m_file.specs.Read.{picturesFrom, fileIn}
+use Rattle.y4m_file.specs.Check.{samplingSaid, headerOf, restOf, widthIn, heightIn, samplingIn}
+use Rattle.y4m_file.specs.Check.{planeBytes, planesIn, pictures, picturesIn, isY4m}
+use Rattle.y4m_file.specs.Read.{picturesFrom, lumaIn, chromaIn, fileIn}
 use Rattle.y4m_file.specs.Means.{SomeFile, OneFile, ReadBack, Rewritten}
 use Rattle.y4m_file.proofs.Count.{count-of}
 use Rattle.y4m_file.proofs.Pictures.{pictures-are, pictures-split}
@@ -129,7 +132,9 @@ module _ (f : Y4mFile) (a : Allowed f) where
 
   count-is : picturesIn b ≡ length (f .pictures)
   unfolding picturesIn luma chroma
-  count-is = rw (planes-are, rest) (count-of (luma + 2 * chroma) (length (f .pictures)) (picturesBytes (f .pictures)) (pictures-are luma chroma (f .pictures) (a .pictures) .0))
+  count-is =
+      let are = pictures-are luma chroma (f .pictures) (a .pictures) .0 in
+      rw (planes-are, rest) (count-of (luma + 2 * chroma) (length (f .pictures)) (picturesBytes (f .pictures)) are)
 
   is-header : isHeader (headerOf b) ≡ true
   unfolding isHeader
@@ -153,7 +158,7 @@ module _ (f : Y4mFile) (a : Allowed f) where
       tags-are : tagsIn (headerOf b) ≡ f .tags
       tags-are = ap tagsIn header ∙ tags-text magic (f .tags) magic-tag (a .line .each)
 
-      pictures-is : picturesFrom (lumaBytes (widthIn b) (heightIn b)) (chromaBytes (samplingIn b) (widthIn b) (heightIn b)) (picturesIn b) (restOf b) ≡ f .pictures
+      pictures-is : picturesFrom (lumaIn b) (chromaIn b) (picturesIn b) (restOf b) ≡ f .pictures
       pictures-is = rw (width-is, height-is, sampling-is, count-is, rest) (pictures-are luma chroma (f .pictures) (a .pictures) .1)
 
 -- ---- from bytes to the file
@@ -209,7 +214,7 @@ unfolding fileIn fileBytes planeBytes
 checked-file b e =
     let c = checked b e in
     let line = first (headerOf b) (c .header) in
-    let ps = pictures-split (lumaBytes (widthIn b) (heightIn b)) (chromaBytes (samplingIn b) (widthIn b) (heightIn b)) (picturesIn b) (restOf b) (c .pictures) in
+    let ps = pictures-split (lumaIn b) (chromaIn b) (picturesIn b) (restOf b) (c .pictures) in
     record {
       allowed = record {
         line = front-line b (c .short) magic line;

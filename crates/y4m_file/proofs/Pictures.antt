@@ -1,18 +1,19 @@
 -- A picture and its bytes, and pictures back to back: what stands at the front of `pictureBytes p ++ t` is p, and where a picture stands whole,
 -- `pictureBytes` gives its bytes again.
 -- Assumes nothing.
-use Prim.Native.Nat.{ℕ, zero, suc, _+_, _*_, _-_, _≤_, _<_}
+use Prim.Native.Nat.{ℕ, zero, suc, _+_, _*_, _-_, _≤_}
 use mathlib.Core.Path.{_≡_, refl, ap, ap₂, sym, _∙_}
-use mathlib.Core.Bool.{Bool, true, _&&_}
-use mathlib.Core.List.{List, [], _∷_, _++_, append-assoc, append-nil}
+use mathlib.Core.Bool.{true}
+use mathlib.Core.List.{List, [], _∷_, _++_, append-assoc}
 use native.Mathlib.Omega.{arith}
-use lib.Dec.{ltb, leb}
+use lib.Dec.{ltb}
 use lib.ListN.{length, take, drop, length-append, length-drop, take-append-drop}
-use lib.Seq.{take-add, drop-drop, drop-at, take-at, length-take-le, drop-append-add}
+use lib.Seq.{take-add, drop-drop, drop-at, take-at, length-take-le}
 use borrow.Author.Tests.{lt-ltb, ltb-true, eqb-true}
-use Rattle.y4m_line.specs.Line.{lineOf, frame, IsLineOf, textOf}
+use Rattle.shift_file.proofs.Record.{both, also}
+use Rattle.y4m_line.specs.Line.{lineOf, frame, textOf}
 use Rattle.y4m_line.specs.Header.{tagsIn, isLine, lineEnd}
-use Rattle.y4m_line.proofs.Text.{both, also, frame-tag, tags-text, text-line, length-line, end-is, end-short, text-is, rest-is, front-line, front-split}
+use Rattle.y4m_line.proofs.Text.{frame-tag, tags-text, text-line, length-line, end-is, end-short, text-is, rest-is, front-line, front-split}
 use Rattle.y4m_file.specs.File.{Y4mPicture, PictureAllowed, EachAllowed, pictureBytes, picturesBytes}
 use Rattle.y4m_file.specs.Check.{pictureSize, pictures, headerOf, restOf}
 use Rattle.y4m_file.specs.Read.{pictureAt, picturesFrom}
@@ -26,7 +27,9 @@ module _ (luma chroma : ℕ) where
   pub cut : (r : List ℕ) → take luma r ++ (take chroma (drop luma r) ++ take chroma (drop (luma + chroma) r)) ≡ take sum r
   cut r =
       let n : sum ≡ luma + (chroma + chroma) = omega arith in
-      sym (rw n (take-add luma (chroma + chroma) r ∙ ap (λ s. take luma r ++ s) (take-add chroma chroma (drop luma r) ∙ rw (drop-drop chroma luma r))))
+      let chromas : take (chroma + chroma) (drop luma r) ≡ take chroma (drop luma r) ++ take chroma (drop (luma + chroma) r)
+      = take-add chroma chroma (drop luma r) ∙ rw (drop-drop chroma luma r) in
+      sym (rw n (take-add luma (chroma + chroma) r ∙ ap (λ s. take luma r ++ s) chromas))
 
   -- ---- from the bytes to the picture
 

@@ -1,18 +1,16 @@
 -- From the header's line and the count to the check. Assumes nothing.
 use Prim.Native.Nat.{ℕ, _+_, _≤_, _<_}
-use mathlib.Core.Path.{_≡_, refl, ap, sym, _∙_}
-use mathlib.Core.Bool.{Bool, true, false, cond, _&&_}
+use mathlib.Core.Path.{_≡_, sym, _∙_}
+use mathlib.Core.Bool.{true, false}
 use mathlib.Core.List.{List}
-use native.Mathlib.Omega.{arith}
-use lib.ListN.{length, take, drop}
+use lib.ListN.{take, drop}
 use borrow.Author.Tests.{lt-ltb, le-ltb}
 use Rattle.y4m_line.specs.Header.{widthOf, heightOf, samplingOf, isHeader, lineEnd}
 use Rattle.y4m_line.specs.Words.{words}
 use Rattle.y4m_line.specs.Line.{tagged}
-use Rattle.y4m_line.specs.Found.{span, HeaderPost}
+use Rattle.y4m_line.specs.Found.{HeaderPost}
 use Rattle.y4m_line.specs.declared.HeaderLine.{HeaderLine}
 use Rattle.y4m_line.specs.declared.HeaderLine.the-variants.{Read, Refused}
-use Rattle.y4m_line.proofs.Header.{span-front}
 use Rattle.y4m_line.proofs.Decimal.{one-bound}
 use Rattle.y4m_file.specs.Check.{samplingSaid, planeBytes, pictures, countOf, headerOf, picturesIn, isY4m}
 use Rattle.y4m_file.specs.Known.{CountPost, IsRead}
@@ -32,8 +30,8 @@ module _ (l : List ℕ) (f : HeaderLine) (p : HeaderPost l f) where
   pub said-read : (w h s : ℕ) → f ≡ Read w h s → (isHeader l ≡ true) × ((w ≡ widthOf l) × ((h ≡ heightOf l) × (s ≡ samplingOf l)))
   said-read w h s q = rw q at p
 
-  pub said-refused : (e : ℕ) → f ≡ Refused e → isHeader l ≡ false
-  said-refused e q = let r : (e ≡ 19) × (isHeader l ≡ false) = rw q at p in r .1
+  pub said-refused : f ≡ Refused → isHeader l ≡ false
+  said-refused q = rw q at p
 
   pub said-sizes : (w h s : ℕ) → f ≡ Read w h s → (w ≤ 16384) × (h ≤ 16384)
   said-sizes w h s q = let r = said-read w h s q in (rw (r .1 .0) (width-bound l), rw (r .1 .1 .0) (height-bound l))
@@ -43,10 +41,7 @@ module _ (b : List ℕ) (e : ℕ) (he : e ≡ lineEnd b) where
   unfolding isY4m
   no-line h = rw (← he, le-ltb e 256 h)
 
-  module _ (h : e < 256) (l : List ℕ) (hl : l ≡ span 0 e b) where
-    line-is : l ≡ take e b
-    line-is = hl ∙ span-front b e
-
+  module _ (h : e < 256) (l : List ℕ) (line-is : l ≡ take e b) where
     header-same : headerOf b ≡ l
     header-same = rw (← he) (sym line-is)
 
@@ -54,7 +49,8 @@ module _ (b : List ℕ) (e : ℕ) (he : e ≡ lineEnd b) where
     unfolding isY4m
     no-header z = rw (← he, lt-ltb e 256 h, ← line-is, z)
 
-    module _ (w v s : ℕ) (z : (isHeader l ≡ true) × ((w ≡ widthOf l) × ((v ≡ heightOf l) × (s ≡ samplingOf l)))) (t : List ℕ) (ht : t ≡ drop (e + 1) b) (n : ℕ) (hn : n ≡ planeBytes (samplingSaid s) w v) where
+    module _ (w v s : ℕ) (z : (isHeader l ≡ true) × ((w ≡ widthOf l) × ((v ≡ heightOf l) × (s ≡ samplingOf l))))
+        (t : List ℕ) (ht : t ≡ drop (e + 1) b) (n : ℕ) (hn : n ≡ planeBytes (samplingSaid s) w v) where
       planes-same : n ≡ planeBytes (samplingSaid (samplingOf l)) (widthOf l) (heightOf l)
       planes-same = hn ∙ rw (z .1 .0, z .1 .1 .0, z .1 .1 .1)
 

@@ -3,7 +3,7 @@
 -- Assumes nothing.
 use Prim.Native.Nat.{ℕ, zero, suc, _+_, _*_}
 use mathlib.Core.Bool.{Bool, cond, _&&_}
-use mathlib.Core.List.{List, [], _∷_}
+use mathlib.Core.List.{List}
 use lib.Dec.{leb, ltb, eqb}
 use lib.ListN.{length, take, drop}
 use Rattle.yuv_support.specs.declared.YuvChromaSubsampling.{YuvChromaSubsampling}
@@ -12,25 +12,31 @@ use Rattle.y4m_line.specs.Line.{frame}
 use Rattle.y4m_line.specs.Header.{widthOf, heightOf, samplingOf, isLine, isHeader, lineEnd}
 use Rattle.y4m_file.specs.File.{lumaBytes, chromaBytes}
 
--- ---- pictures whose planes have n bytes
+-- ---- pictures, by the bytes of their planes
+
+-- RULES 14.4: a line FRAME stands at the front, and so many bytes after it
+unfoldable pub pictureStands : (planes : ℕ) → (bytes : List ℕ) → Bool
+pictureStands planes bytes =
+    ltb (lineEnd bytes) 256 && (isLine frame (take (lineEnd bytes) bytes) && leb (lineEnd bytes + 1 + planes) (length bytes))
 
 -- RULES 14.4: the bytes of the picture at the front; 0 where none stands there whole
-unfoldable pub pictureSize : (n : ℕ) → List ℕ → ℕ
-pictureSize n l = cond (ltb (lineEnd l) 256 && (isLine frame (take (lineEnd l) l) && leb (lineEnd l + 1 + n) (length l))) (lineEnd l + 1 + n) 0
+unfoldable pub pictureSize : (planes : ℕ) → (bytes : List ℕ) → ℕ
+pictureSize planes bytes = cond (pictureStands planes bytes) (lineEnd bytes + 1 + planes) 0
 
--- RULES 14.4: these bytes are k pictures
-unfoldable pub pictures : (n k : ℕ) → List ℕ → Bool
-pictures n zero l = eqb (length l) 0
-pictures n (suc k) l = ltb 0 (pictureSize n l) && pictures n k (drop (pictureSize n l) l)
+-- RULES 14.4: these bytes are so many pictures
+unfoldable pub pictures : (planes count : ℕ) → (bytes : List ℕ) → Bool
+pictures planes zero bytes = eqb (length bytes) 0
+pictures planes (suc count) bytes = ltb 0 (pictureSize planes bytes) && pictures planes count (drop (pictureSize planes bytes) bytes)
 
--- RULES 14.4: how many pictures stand at the front, one after the other; at most m
-unfoldable pub countIn : (n m : ℕ) → List ℕ → ℕ
-countIn n zero l = 0
-countIn n (suc m) l = cond (ltb 0 (pictureSize n l)) (suc (countIn n m (drop (pictureSize n l) l))) 0
+-- RULES 14.4: how many pictures stand at the front, one after the other; at most so many
+unfoldable pub countIn : (planes most : ℕ) → (bytes : List ℕ) → ℕ
+countIn planes zero bytes = 0
+countIn planes (suc most) bytes =
+    cond (ltb 0 (pictureSize planes bytes)) (suc (countIn planes most (drop (pictureSize planes bytes) bytes))) 0
 
 -- RULES 14.4: how many pictures bytes have: no more than bytes
-abbrev pub countOf : (n : ℕ) → List ℕ → ℕ
-countOf n l = countIn n (length l) l
+abbrev pub countOf : (planes : ℕ) → (bytes : List ℕ) → ℕ
+countOf planes bytes = countIn planes (length bytes) bytes
 
 -- ---- a file
 
@@ -39,33 +45,34 @@ abbrev pub samplingSaid : (code : ℕ) → YuvChromaSubsampling
 samplingSaid code = cond (eqb code 2) Yuv422 Yuv420
 
 -- RULES 14.4: the header's line, without its newline, and what follows it
-abbrev pub headerOf : List ℕ → List ℕ
-headerOf b = take (lineEnd b) b
+abbrev pub headerOf : (file : List ℕ) → List ℕ
+headerOf file = take (lineEnd file) file
 
-abbrev pub restOf : List ℕ → List ℕ
-restOf b = drop (lineEnd b + 1) b
+abbrev pub restOf : (file : List ℕ) → List ℕ
+restOf file = drop (lineEnd file + 1) file
 
 -- RULES 14.4: what the header's line says
-abbrev pub widthIn : List ℕ → ℕ
-widthIn b = widthOf (headerOf b)
+abbrev pub widthIn : (file : List ℕ) → ℕ
+widthIn file = widthOf (headerOf file)
 
-abbrev pub heightIn : List ℕ → ℕ
-heightIn b = heightOf (headerOf b)
+abbrev pub heightIn : (file : List ℕ) → ℕ
+heightIn file = heightOf (headerOf file)
 
-abbrev pub samplingIn : List ℕ → YuvChromaSubsampling
-samplingIn b = samplingSaid (samplingOf (headerOf b))
+abbrev pub samplingIn : (file : List ℕ) → YuvChromaSubsampling
+samplingIn file = samplingSaid (samplingOf (headerOf file))
 
 -- RULES 14.3: the bytes of a picture's planes
 unfoldable pub planeBytes : YuvChromaSubsampling → (w h : ℕ) → ℕ
 planeBytes sampling w h = lumaBytes w h + 2 * chromaBytes sampling w h
 
-abbrev pub planesIn : List ℕ → ℕ
-planesIn b = planeBytes (samplingIn b) (widthIn b) (heightIn b)
+-- RULES 14.4: the same of the shape that the header's line says
+abbrev pub planesIn : (file : List ℕ) → ℕ
+planesIn file = planeBytes (samplingIn file) (widthIn file) (heightIn file)
 
 -- RULES 14.4: how many pictures follow the header's line
-unfoldable pub picturesIn : List ℕ → ℕ
-picturesIn b = countOf (planesIn b) (restOf b)
+unfoldable pub picturesIn : (file : List ℕ) → ℕ
+picturesIn file = countOf (planesIn file) (restOf file)
 
 -- RULES 14.4: these bytes are a file
-unfoldable pub isY4m : List ℕ → Bool
-isY4m b = ltb (lineEnd b) 256 && (isHeader (headerOf b) && pictures (planesIn b) (picturesIn b) (restOf b))
+unfoldable pub isY4m : (file : List ℕ) → Bool
+isY4m file = ltb (lineEnd file) 256 && (isHeader (headerOf file) && pictures (planesIn file) (picturesIn file) (restOf file))

@@ -1,6 +1,6 @@
 -- The Y4M file: what its header's tags say, its pictures, and its bytes. docs/RULES.md, 14.2 and 14.3. Lines and tags: `y4m_line`, `Line`.
 -- Assumes nothing.
-use Prim.Native.Nat.{ℕ, _+_, _*_, _<_}
+use Prim.Native.Nat.{ℕ, _*_, _<_}
 use mathlib.Core.Path.{_≡_}
 use mathlib.Core.List.{List, [], _∷_, _++_}
 use lib.ListN.{length, getD}

@@ -11,18 +11,20 @@ use Rattle.y4m_file.specs.declared.Counted.the-variants.{Pictures, Malfo
 use Rattle.y4m_file.specs.declared.Y4mRead.{Y4mRead}
 use Rattle.y4m_file.specs.declared.Y4mRead.the-variants.{Read, Refused}
 
-abbrev pub CountPost : (n : ℕ) → List ℕ → Counted → Type 0
-CountPost n l (Pictures k) = (pictures n k l ≡ true) × (k ≡ countOf n l)
-CountPost n l Malformed = pictures n (countOf n l) l ≡ false
+-- so many pictures, by the bytes of their planes, or none that are all of these bytes
+abbrev pub CountPost : (planes : ℕ) → (bytes : List ℕ) → Counted → Type 0
+CountPost planes bytes (Pictures count) = (pictures planes count bytes ≡ true) × (count ≡ countOf planes bytes)
+CountPost planes bytes Malformed = pictures planes (countOf planes bytes) bytes ≡ false
 
 -- sides, the code of the sampling and the count of a file
-pub record IsRead (b : List ℕ) (w h s k : ℕ) : Type 0 where
-  pub is-file : isY4m b ≡ true
-  pub width : w ≡ widthIn b
-  pub height : h ≡ heightIn b
-  pub sampling : s ≡ samplingOf (headerOf b)
-  pub count : k ≡ picturesIn b
+pub record IsRead (file : List ℕ) (w h code k : ℕ) : Type 0 where
+  pub is-file : isY4m file ≡ true
+  pub width : w ≡ widthIn file
+  pub height : h ≡ heightIn file
+  pub sampling : code ≡ samplingOf (headerOf file)
+  pub count : k ≡ picturesIn file
 
-abbrev pub ReadPost : List ℕ → Y4mRead → Type 0
-ReadPost b (Read w h s k) = IsRead b w h s k
-ReadPost b Refused = isY4m b ≡ false
+-- a file read, or bytes that are none
+abbrev pub ReadPost : (file : List ℕ) → Y4mRead → Type 0
+ReadPost file (Read width height code count) = IsRead file width height code count
+ReadPost file Refused = isY4m file ≡ false

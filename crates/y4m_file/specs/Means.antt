@@ -11,11 +11,11 @@ use Rattle.y4m_file.specs.Read.{fileIn}
 
 -- RULES 14.4: bytes are a file exactly where some file has them
 abbrev pub SomeFile : Type 0
-SomeFile = (b : List ℕ) → (isY4m b ≡ true) ↔ ((f : Y4mFile) × IsFileOf b f)
+SomeFile = (file : List ℕ) → (isY4m file ≡ true) ↔ ((f : Y4mFile) × IsFileOf file f)
 
 -- RULES 14.4: bytes are one file at most
 abbrev pub OneFile : Type 0
-OneFile = (b : List ℕ) (f g : Y4mFile) → IsFileOf b f → IsFileOf b g → f ≡ g
+OneFile = (file : List ℕ) (f g : Y4mFile) → IsFileOf file f → IsFileOf file g → f ≡ g
 
 -- RULES 14.4: written, then read, it is the same file
 abbrev pub ReadBack : Type 0
@@ -23,4 +23,4 @@ ReadBack = (f : Y4mFile) → Allowed f → fileIn (fileBytes f) ≡ f
 
 -- RULES 14.4: read, then written, it is the same bytes
 abbrev pub Rewritten : Type 0
-Rewritten = (b : List ℕ) → isY4m b ≡ true → fileBytes (fileIn b) ≡ b
+Rewritten = (file : List ℕ) → isY4m file ≡ true → fileBytes (fileIn file) ≡ file

@@ -1,27 +1,28 @@
-// The Y4M file, a header line and pictures, and the check that decides for every byte sequence whether it is one (RULES 14.1 to 14.4). The check reads
-// lines and no plane, and no number of a file is added before it is known to be a side.
+// The Y4M file, a header's line and pictures, and the check that decides for every byte sequence whether it is one (RULES 14.1 to 14.4). The check
+// reads lines and no plane, and no number of a file is added before it is known to be a side.
+use y4m_line::HeaderLine;
 use yuv_support::YuvChromaSubsampling;
 ghost use mathlib.Core.Path.{_≡_};
-ghost use mathlib.Core.Bool.{true};
-ghost use Prim.Native.Nat.{_+_, _≤_, _<_, _^_};
-ghost use lib.ListN.{length, drop, take};
+ghost use Prim.Native.Nat.{_≤_, _^_};
+ghost use lib.ListN.{length};
 ghost use Rattle.y4m_line.specs.Header.{isLine};
 ghost use Rattle.y4m_line.specs.Line.{frame};
 ghost use Rattle.y4m_file.specs.Check.{samplingSaid, planeBytes, pictureSize};
 ghost use Rattle.y4m_file.specs.Known.{CountPost, ReadPost};
 
 // How many pictures stand back to back to the end, if nothing else stands there.
-pub enum Counted {
+enum Counted {
     Pictures(usize),
     Malformed,
 }
 
-// Width, height, the sampling by its code (1: 4:2:0, 2: 4:2:2) and the count of pictures, of bytes that are a file.
+// Width, height, the sampling by the header's code (1: 4:2:0, 2: 4:2:2) and the count of pictures, of bytes that are a file.
 pub enum Y4mRead {
     Read(usize, usize, u8, usize),
     Refused,
 }
 
+// The sampling of a header's code.
 pub fn sampling_said(code: u8) -> YuvChromaSubsampling
     ensures { λ r. ⌜ r ≡ samplingSaid code ⌝ }
 {
@@ -47,59 +48,59 @@ fn is_frame(line: &[u8]) -> bool
     y4m_line::is_line(b"FRAME", line)
 }
 
-// The bytes of the picture at the front, its planes n of them; 0 where none stands there whole.
-pub fn picture_size(l: &[u8], n: usize) -> usize
-    requires { ⌜ n ≤ 2 ^ 34 ⌝ }
-    ensures { λ r. ⌜ r ≡ pictureSize n (now (l .entry)) ⌝ }
-    ensures { λ r. ⌜ r ≤ length (now (l .entry)) ⌝ }
+// The bytes of the picture at the front, its planes so many of them; 0 where none stands there whole.
+fn picture_size(bytes: &[u8], planes: usize) -> usize
+    requires { ⌜ planes ≤ 2 ^ 34 ⌝ }
+    ensures { λ r. ⌜ r ≡ pictureSize planes (now (bytes .entry)) ⌝ }
+    ensures { λ r. ⌜ r ≤ length (now (bytes .entry)) ⌝ }
 {
-    let e = y4m_line::line_end(l);
-    if 256 <= e {
+    let end = y4m_line::line_end(bytes);
+    if y4m_line::LINE <= end {
         return 0;
     }
-    if !is_frame(y4m_line::part(l, 0, e)) {
+    if !is_frame(shift_file::part_of(bytes, 0, end)) {
         return 0;
     }
-    if l.len() < e + 1 + n {
+    if bytes.len() < end + 1 + planes {
         return 0;
     }
-    e + 1 + n
+    end + 1 + planes
 }
 
-pub fn count_pictures(l: &[u8], n: usize) -> Counted
-    requires { ⌜ n ≤ 2 ^ 34 ⌝ }
-    ensures { λ r. ⌜ CountPost n (now (l .entry)) r ⌝ }
+fn count_pictures(bytes: &[u8], planes: usize) -> Counted
+    requires { ⌜ planes ≤ 2 ^ 34 ⌝ }
+    ensures { λ r. ⌜ CountPost planes (now (bytes .entry)) r ⌝ }
 {
     let mut at = 0;
-    let mut k = 0;
-    while at < l.len() {
-        let size = picture_size(y4m_line::from_place(l, at), n);
+    let mut count = 0;
+    while at < bytes.len() {
+        let size = picture_size(shift_file::from_place(bytes, at), planes);
         if size == 0 {
             return Counted::Malformed;
         }
         at += size;
-        k += 1;
+        count += 1;
     }
-    Counted::Pictures(k)
+    Counted::Pictures(count)
 }
 
 // Whether these bytes are a file, and its sides, sampling and count.
-pub fn read_file(b: &[u8]) -> Y4mRead
-    ensures { λ r. ⌜ ReadPost (now (b .entry)) r ⌝ }
+pub fn read_file(file: &[u8]) -> Y4mRead
+    ensures { λ r. ⌜ ReadPost (now (file .entry)) r ⌝ }
 {
-    let e = y4m_line::line_end(b);
-    if 256 <= e {
+    let end = y4m_line::line_end(file);
+    if y4m_line::LINE <= end {
         return Y4mRead::Refused;
     }
-    let line = y4m_line::read_header(y4m_line::part(b, 0, e));
+    let line = y4m_line::read_header(shift_file::part_of(file, 0, end));
     match line {
-        y4m_line::HeaderLine::Refused(_) => Y4mRead::Refused,
-        y4m_line::HeaderLine::Read(w, h, s) => {
-            let n = plane_bytes(sampling_said(s), w, h);
-            let counted = count_pictures(y4m_line::from_place(b, e + 1), n);
+        HeaderLine::Refused => Y4mRead::Refused,
+        HeaderLine::Read(width, height, code) => {
+            let planes = plane_bytes(sampling_said(code), width, height);
+            let counted = count_pictures(shift_file::from_place(file, end + 1), planes);
             match counted {
                 Counted::Malformed => Y4mRead::Refused,
-                Counted::Pictures(k) => Y4mRead::Read(w, h, s, k),
+                Counted::Pictures(count) => Y4mRead::Read(width, height, code, count),
             }
         }
     }

@@ -1,13 +1,13 @@
 -- Laws of decimals and sizes. Assumes nothing.
-use Prim.Native.Nat.{ℕ, zero, suc, _+_, _*_, _-_, _≤_, _<_}
-use mathlib.Core.Path.{_≡_, refl, ap, ap₂, sym, _∙_}
+use Prim.Native.Nat.{ℕ, suc, _+_, _*_, _-_, _≤_, _<_}
+use mathlib.Core.Path.{_≡_, refl}
 use mathlib.Core.Bool.{Bool, true, false, cond, _&&_, not}
-use mathlib.Core.List.{List, [], _∷_, _++_}
+use mathlib.Core.List.{List, [], _∷_}
 use native.Mathlib.Omega.{arith}
-use lib.Dec.{leb, ltb, eqb}
-use lib.ListN.{length, getD, take, drop, length-drop, drop-of-length-le}
+use lib.Dec.{leb, eqb}
+use lib.ListN.{length, getD, drop, drop-of-length-le}
 use lib.Seq.{drop-cons}
-use borrow.Author.Tests.{le-leb, lt-leb, leb-true, leb-false, eq-eqb, ne-eqb}
+use borrow.Author.Tests.{le-leb, lt-leb, leb-true, eq-eqb, ne-eqb}
 use Rattle.y4m_line.specs.Line.{digit, digits, value}
 use Rattle.y4m_line.specs.Header.{isSize, size, oneSize}
 

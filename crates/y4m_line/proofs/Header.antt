@@ -1,21 +1,16 @@
 -- Laws of the header line. Assumes nothing.
-use Prim.Native.Nat.{ℕ, zero, suc, _+_, _-_, _≤_, _<_}
+use Prim.Native.Nat.{ℕ, _≤_, _<_}
 use mathlib.Core.Path.{_≡_, refl, ap, sym, _∙_}
-use mathlib.Core.Bool.{Bool, true, false, cond, _&&_}
-use mathlib.Core.List.{List, [], _∷_}
+use mathlib.Core.Bool.{Bool, true, false}
+use mathlib.Core.List.{List}
 use native.Mathlib.Omega.{arith}
-use lib.Dec.{leb, ltb}
-use lib.ListN.{length, take, drop, length-take}
+use lib.Dec.{leb}
+use lib.ListN.{length, take}
 use lib.Seq.{take-all, take-length, length-take-le}
-use borrow.Author.Tests.{le-leb, lt-leb, lt-ltb, le-ltb, leb-true, leb-false}
+use borrow.Author.Tests.{le-leb, lt-ltb, le-ltb, leb-true, leb-false}
 use Rattle.y4m_line.specs.Words.{upto, words, same, filled}
-use Rattle.y4m_line.specs.Line.{tagged}
-use Rattle.y4m_line.specs.Header.{widthOf, heightOf, samplingOf, isLine, isHeader, lineBytes, lineEnd, oneSize, oneCode}
+use Rattle.y4m_line.specs.Header.{widthOf, heightOf, samplingOf, isLine, isHeader, lineBytes, lineEnd}
 use Rattle.y4m_line.specs.Line.{magic}
-use Rattle.y4m_line.specs.Found.{span}
-
-pub span-front : (l : List ℕ) (e : ℕ) → span 0 e l ≡ take e l
-span-front l e = let z : e - 0 ≡ e = omega arith in rw z
 
 module _ (l : List ℕ) where
   pub not-line : isLine magic l ≡ false → isHeader l ≡ false
@@ -50,28 +45,32 @@ front-same b = cases (leb (length b) 256) refl
     cases true e = let k = take-all 256 b (leb-true (length b) 256 e) in rw (k, take-length b)
     cases false e = let k : length (take 256 b) ≡ 256 = length-take-le 256 b (omega (arith, leb-false (length b) 256 e)) in rw k
 
-module _ (b f : List ℕ) (n e : ℕ) (hn : n ≡ length (take 256 b)) (hf : f ≡ span 0 n b) (he : e ≡ upto 10 f) where
-  line-bytes : e ≡ lineBytes b
-  line-bytes = he ∙ ap (upto 10) (hf ∙ span-front b n ∙ ap (λ k. take k b) hn ∙ front-same b)
+module _ (b front : List ℕ) (room end : ℕ) (hr : room ≡ length (take 256 b)) (hf : front ≡ take room b) (he : end ≡ upto 10 front) where
+  line-bytes : end ≡ lineBytes b
+  line-bytes = he ∙ ap (upto 10) (hf ∙ ap (λ k. take k b) hr ∙ front-same b)
 
-  pub line-found : e < n → e ≡ lineEnd b
+  pub line-found : end < room → end ≡ lineEnd b
   unfolding lineEnd
-  line-found h = rw (← line-bytes, ← hn, lt-ltb e n h)
+  line-found h = rw (← line-bytes, ← hr, lt-ltb end room h)
 
-  pub line-none : n ≤ e → 256 ≡ lineEnd b
+  pub line-none : room ≤ end → 256 ≡ lineEnd b
   unfolding lineEnd
-  line-none h = rw (← line-bytes, ← hn, le-ltb e n h)
+  line-none h = rw (← line-bytes, ← hr, le-ltb end room h)
 
-pub short-256 : (b : List ℕ) → length b < 256 → length b ≡ length (take 256 b)
-short-256 b h = rw (take-all 256 b (omega arith))
+pub room-short : (b : List ℕ) → length b < 256 → length b ≡ length (take 256 b)
+room-short b h = rw (take-all 256 b (omega arith))
 
-pub long-256 : (b : List ℕ) → 256 ≤ length b → 256 ≡ length (take 256 b)
-long-256 b h = sym (length-take-le 256 b h)
+pub room-long : (b : List ℕ) → 256 ≤ length b → 256 ≡ length (take 256 b)
+room-long b h = sym (length-take-le 256 b h)
 
-pub line-is : (m l : List ℕ) (e : ℕ) (f : List ℕ) (t u : Bool) → e ≡ upto 32 l → f ≡ span 0 e l → t ≡ same f m → t ≡ true → u ≡ filled (words l) → u ≡ isLine m l
-unfolding isLine
-line-is m l e f t u he hf ht h hu = rw (← he, ← span-front l e, ← hf, ← ht, h) hu
+-- ---- a word and its line
 
-pub line-not : (m l : List ℕ) (e : ℕ) (f : List ℕ) (t : Bool) → e ≡ upto 32 l → f ≡ span 0 e l → t ≡ same f m → t ≡ false → false ≡ isLine m l
-unfolding isLine
-line-not m l e f t he hf ht h = rw (← he, ← span-front l e, ← hf, ← ht, h)
+module _ (word line : List ℕ) (end : ℕ) (front : List ℕ) (t : Bool) (he : end ≡ upto 32 line) (hf : front ≡ take end line)
+    (ht : t ≡ same front word) where
+  pub line-is : (u : Bool) → t ≡ true → u ≡ filled (words line) → u ≡ isLine word line
+  unfolding isLine
+  line-is u h hu = rw (← he, ← hf, ← ht, h) hu
+
+  pub line-not : t ≡ false → false ≡ isLine word line
+  unfolding isLine
+  line-not h = rw (← he, ← hf, ← ht, h)

@@ -1,15 +1,15 @@
 -- What the tags of a letter say, and what the check reads of them. Assumes nothing.
 use Prim.Native.Nat.{ℕ, _≤_}
-use mathlib.Core.Path.{_≡_, refl, ap, sym, _∙_}
-use mathlib.Core.Bool.{Bool, true, false, cond, _&&_, not}
+use mathlib.Core.Path.{_≡_, refl, sym}
+use mathlib.Core.Bool.{Bool, true, false, _&&_, not}
 use mathlib.Core.List.{List, [], _∷_}
 use native.Mathlib.Omega.{arith}
 use lib.Dec.{leb, eqb}
 use lib.ListN.{getD}
 use borrow.Author.Tests.{le-leb, leb-true, ne-eqb, eqb-false, not-true}
+use Rattle.shift_file.proofs.Record.{both}
 use Rattle.y4m_line.specs.Line.{tagged, digits, value, IsDecimal, SaysSide}
 use Rattle.y4m_line.specs.Header.{isSize, size, oneSize}
-use Rattle.y4m_line.proofs.Text.{both}
 
 pub size-said : (letter : ℕ) (tags : List (List ℕ)) (side : ℕ) → SaysSide letter tags side → oneSize (tagged letter tags) ≡ side
 unfolding size isSize

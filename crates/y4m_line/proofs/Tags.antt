@@ -1,75 +1,82 @@
--- The words with a letter, from two searches. Assumes nothing.
-use Prim.Native.Nat.{ℕ, zero, suc, _+_, _-_, _≤_, _<_}
+-- The tags of a letter, from two searches; and what the answer says. Assumes nothing.
+use Prim.Native.Nat.{ℕ, _+_, _≤_, _<_}
 use mathlib.Core.Path.{_≡_, refl, ap, sym, _∙_}
-use mathlib.Core.Bool.{Bool, true, false}
 use mathlib.Core.List.{List, [], _∷_}
 use native.Mathlib.Omega.{arith}
-use lib.ListN.{length, take, drop, length-drop}
+use lib.ListN.{length, drop, length-drop}
 use Rattle.y4m_line.specs.Words.{upto, words, wordsFrom}
 use Rattle.y4m_line.specs.Line.{tagged}
 use Rattle.y4m_line.specs.declared.Tag.{Tag}
 use Rattle.y4m_line.specs.declared.Tag.the-variants.{Missing, Once, Repeated}
 use Rattle.y4m_line.specs.Header.{size, code, oneSize, oneCode}
-use Rattle.y4m_line.specs.Found.{span, NextTag, TagPost}
+use Rattle.y4m_line.specs.Found.{span, NextTag, TwoTags, TagPost}
 use Rattle.y4m_line.proofs.Words.{words-all, words-none, tagged-hit, upto-bound}
 
-end-inside : (l : List ℕ) (q : ℕ) → q ≤ length l → q + upto 32 (drop q l) ≤ length l
-end-inside l q h = omega (arith, upto-bound 32 (drop q l), length-drop q l)
+end-inside : (line : List ℕ) (start : ℕ) → start ≤ length line → start + upto 32 (drop start line) ≤ length line
+end-inside line start h = omega (arith, upto-bound 32 (drop start line), length-drop start line)
 
-tagged-past : (x : ℕ) (l : List ℕ) (p : ℕ) → length l < p → tagged x (wordsFrom p l) ≡ []
+tagged-past : (letter : ℕ) (line : List ℕ) (start : ℕ) → length line < start → tagged letter (wordsFrom start line) ≡ []
 unfolding tagged
-tagged-past x l p h = rw (words-none l p h)
+tagged-past letter line start h = rw (words-none line start h)
 
-module _ (x : ℕ) (l : List ℕ) (p : ℕ) (n : NextTag x l 0 p) where
-  whole : tagged x (words l) ≡ tagged x (wordsFrom p l)
-  whole = sym (n .rest ∙ ap (tagged x) (words-all l))
+module _ (letter : ℕ) (line : List ℕ) (first : ℕ) (n : NextTag letter line 0 first) where
+  whole : tagged letter (words line) ≡ tagged letter (wordsFrom first line)
+  whole = sym (n .rest ∙ ap (tagged letter) (words-all line))
 
-  pub tag-missing : length l < p → tagged x (words l) ≡ []
-  tag-missing h = whole ∙ tagged-past x l p h
+  pub tag-missing : length line < first → tagged letter (words line) ≡ []
+  tag-missing h = whole ∙ tagged-past letter line first h
 
-  module _ (e : ℕ) (o : 0 < x) (h : p ≤ length l) (k : e ≤ length l) (d : e ≡ p + upto 32 (drop p l)) where
-    hit : (p < e) × (tagged x (words l) ≡ span (p + 1) e l ∷ tagged x (wordsFrom (e + 1) l))
-    hit = let t = tagged-hit l p e h k d x o (rw d (n .letter h)) in (t .0, whole ∙ t .1)
+  module _ (end : ℕ) (some : 0 < letter) (h : first ≤ length line) (k : end ≤ length line) (is : end ≡ first + upto 32 (drop first line)) where
+    hit : (first < end) × (tagged letter (words line) ≡ span (first + 1) end line ∷ tagged letter (wordsFrom (end + 1) line))
+    hit = let t = tagged-hit line first end h k is letter some (rw is (n .begins h)) in (t .0, whole ∙ t .1)
 
-    module _ (q : ℕ) (m : NextTag x l (e + 1) q) where
-      pub tag-once : length l < q → (tagged x (words l) ≡ span (p + 1) e l ∷ []) × ((p + 1 ≤ e) × (e ≤ length l))
-      tag-once z = (hit .1 ∙ ap (λ ts. span (p + 1) e l ∷ ts) (sym (m .rest) ∙ tagged-past x l q z), (omega (arith, hit .0), k))
+    module _ (second : ℕ) (m : NextTag letter line (end + 1) second) where
+      pub tag-once : length line < second
+          → (tagged letter (words line) ≡ span (first + 1) end line ∷ []) × ((first + 1 ≤ end) × (end ≤ length line))
+      tag-once z =
+          let none = sym (m .rest) ∙ tagged-past letter line second z in
+          (hit .1 ∙ ap (λ ts. span (first + 1) end line ∷ ts) none, (omega (arith, hit .0), k))
 
-      pub tag-more : q ≤ length l → (t : List ℕ) × ((u : List ℕ) × ((ts : List (List ℕ)) × (tagged x (words l) ≡ t ∷ u ∷ ts)))
+      pub tag-more : second ≤ length line → TwoTags letter line
       tag-more z =
-          let f = q + upto 32 (drop q l) in
-          let t = tagged-hit l q f z (end-inside l q z) refl x o (m .letter z) in
-          (span (p + 1) e l, (span (q + 1) f l, (tagged x (wordsFrom (f + 1) l), hit .1 ∙ ap (λ ts. span (p + 1) e l ∷ ts) (sym (m .rest) ∙ t .1))))
+          let last = second + upto 32 (drop second line) in
+          let t = tagged-hit line second last z (end-inside line second z) refl letter some (m .begins z) in
+          record {
+            first = span (first + 1) end line;
+            second = span (second + 1) last line;
+            others = tagged letter (wordsFrom (last + 1) line);
+            are = hit .1 ∙ ap (λ ts. span (first + 1) end line ∷ ts) (sym (m .rest) ∙ t .1);
+          }
 
 -- ---- what the answer of a search says
 
-module _ (x : ℕ) (l : List ℕ) (f : Tag) (p : TagPost x l f) where
-  module _ (q : f ≡ Missing) where
-    pub found-missing : tagged x (words l) ≡ []
-    found-missing = rw q at p
+module _ (letter : ℕ) (line : List ℕ) (found : Tag) (post : TagPost letter line found) where
+  module _ (is : found ≡ Missing) where
+    found-missing : tagged letter (words line) ≡ []
+    found-missing = rw is at post
 
-    pub size-missing : 0 ≡ oneSize (tagged x (words l))
+    pub size-missing : 0 ≡ oneSize (tagged letter (words line))
     size-missing = rw found-missing
 
-    pub code-missing : 1 ≡ oneCode (tagged x (words l))
+    pub code-missing : 1 ≡ oneCode (tagged letter (words line))
     code-missing = rw found-missing
 
-  module _ (s e : ℕ) (q : f ≡ Once s e) where
-    pub found-once : (tagged x (words l) ≡ span s e l ∷ []) × ((s ≤ e) × (e ≤ length l))
-    found-once = rw q at p
+  module _ (start end : ℕ) (is : found ≡ Once start end) where
+    pub found-once : (tagged letter (words line) ≡ span start end line ∷ []) × ((start ≤ end) × (end ≤ length line))
+    found-once = rw is at post
 
-    pub size-once : size (span s e l) ≡ oneSize (tagged x (words l))
+    pub size-once : size (span start end line) ≡ oneSize (tagged letter (words line))
     size-once = rw (found-once .0)
 
-    pub code-once : code (span s e l) ≡ oneCode (tagged x (words l))
+    pub code-once : code (span start end line) ≡ oneCode (tagged letter (words line))
     code-once = rw (found-once .0)
 
-  module _ (q : f ≡ Repeated) where
-    found-more : (t : List ℕ) × ((u : List ℕ) × ((ts : List (List ℕ)) × (tagged x (words l) ≡ t ∷ u ∷ ts)))
-    found-more = rw q at p
+  module _ (is : found ≡ Repeated) where
+    found-more : TwoTags letter line
+    found-more = rw is at post
 
-    pub size-more : 0 ≡ oneSize (tagged x (words l))
-    size-more = rw (found-more .1 .1 .1)
+    pub size-more : 0 ≡ oneSize (tagged letter (words line))
+    size-more = rw (found-more .are)
 
-    pub code-more : 0 ≡ oneCode (tagged x (words l))
-    code-more = rw (found-more .1 .1 .1)
+    pub code-more : 0 ≡ oneCode (tagged letter (words line))
+    code-more = rw (found-more .are)

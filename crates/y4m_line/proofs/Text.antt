@@ -3,23 +3,18 @@
 -- Assumes nothing.
 use Prim.Native.Nat.{ℕ, zero, suc, _+_, _-_, _≤_, _<_}
 use mathlib.Core.Path.{_≡_, refl, ap, ap₂, sym, _∙_}
-use mathlib.Core.Bool.{Bool, true, false, cond, _&&_, not, and-eq-true-iff, true≢false}
+use mathlib.Core.Bool.{Bool, true, false, _&&_, not, true≢false}
 use mathlib.Core.List.{List, [], _∷_, _++_, append-nil, append-assoc}
 use native.Mathlib.Omega.{arith}
-use lib.Dec.{leb, ltb, eqb}
+use lib.Dec.{ltb, eqb}
 use lib.ListN.{length, getD, take, drop, length-append, length-take}
-use lib.Seq.{take-append-add, take-at, drop-at, drop-append-add, length-take-le}
-use borrow.Author.Tests.{lt-ltb, le-ltb, ltb-true, ltb-false, ne-eqb, eq-eqb, eqb-true, eqb-false, not-true}
+use lib.Seq.{take-append-add, take-at, drop-append-add}
+use borrow.Author.Tests.{lt-ltb, ltb-true, ne-eqb, eq-eqb, eqb-true, eqb-false, not-true}
+use Rattle.shift_file.proofs.Record.{both, also}
 use Rattle.y4m_line.specs.Line.{Without, IsTag, EachTag, tagBytes, textOf, lineOf, IsLineOf, magic, frame}
-use Rattle.y4m_line.specs.Words.{upto, onto, words, wordsFrom, filled, same}
+use Rattle.y4m_line.specs.Words.{upto, onto, words, filled, same}
 use Rattle.y4m_line.specs.Header.{tagsIn, isLine, lineBytes, lineEnd}
 use Rattle.y4m_line.proofs.Words.{words-cons}
-
-pub both : (a b : Bool) → (a && b) ≡ true → (a ≡ true) × (b ≡ true)
-both a b h = and-eq-true-iff a b .0 h
-
-pub also : (a b : Bool) → a ≡ true → b ≡ true → (a && b) ≡ true
-also a b h k = and-eq-true-iff a b .1 (h, k)
 
 -- ---- texts without a byte
 

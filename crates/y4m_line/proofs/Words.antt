@@ -1,15 +1,15 @@
 -- Laws of words. Assumes nothing.
-use Prim.Native.Nat.{ℕ, zero, suc, _+_, _*_, _-_, _≤_, _<_}
-use mathlib.Core.Path.{_≡_, refl, ap, ap₂, sym, _∙_}
-use mathlib.Core.Bool.{Bool, true, false, cond, _&&_}
-use mathlib.Core.List.{List, [], _∷_, _++_}
-use native.Mathlib.Nat.{suc-add, add-zero}
+use Prim.Native.Nat.{ℕ, zero, suc, _+_, _-_, _≤_, _<_}
+use mathlib.Core.Path.{_≡_, refl, ap, sym, _∙_}
+use mathlib.Core.Bool.{Bool, true, false, cond}
+use mathlib.Core.List.{List, [], _∷_}
+use native.Mathlib.Nat.{add-zero}
 use native.Mathlib.Omega.{arith}
-use lib.Dec.{leb, ltb, eqb, leb·suc-suc, leb·zero}
+use lib.Dec.{leb, eqb, leb·suc-suc, leb·zero}
 use lib.ListN.{length, getD, take, drop, length-drop, drop-of-length-le}
 use lib.Seq.{length-take-le, drop-cons, drop-drop, getD-take, getD-drop}
-use borrow.Author.Tests.{le-leb, lt-leb, leb-true, leb-false, eq-eqb, ne-eqb, eqb-true, eqb-false, lt-ltb, le-ltb}
-use Rattle.y4m_line.specs.Words.{upto, onto, words, wordsFrom, filled, same}
+use borrow.Author.Tests.{le-leb, lt-leb, leb-true, leb-false, eq-eqb, ne-eqb, eqb-true, lt-ltb, le-ltb}
+use Rattle.y4m_line.specs.Words.{upto, words, wordsFrom, filled, same}
 use Rattle.y4m_line.specs.Line.{tagged}
 
 -- ---- the first x
@@ -67,7 +67,9 @@ module _ (a b : List ℕ) (i : ℕ) where
   same-empty (x ∷ d) = lt-leb (suc (length d)) 0 (omega arith)
 
   pub same-end : length a ≤ i → leb (length b) i ≡ same (drop i a) (drop i b)
-  same-end h = rw (drop-of-length-le a {i = i} h) (leb-same (length b) i (length (drop i b)) 0 (λ z. rw length-drop (omega arith)) (λ z. omega (arith, length-drop i b)) ∙ same-empty (drop i b))
+  same-end h =
+      let none = leb-same (length b) i (length (drop i b)) 0 (λ z. rw length-drop (omega arith)) (λ z. omega (arith, length-drop i b)) in
+      rw (drop-of-length-le a {i = i} h) (none ∙ same-empty (drop i b))
 
 -- ---- the first letter of a part
 
@@ -102,13 +104,17 @@ words-cons [] = refl
 words-cons (a ∷ l) = words-case a l (words-cons l) (eqb a 32) refl
 
 -- the word at a place, and those after it
-pub words-next : (l : List ℕ) (at e : ℕ) → at ≤ length l → e ≡ at + upto 32 (drop at l) → wordsFrom at l ≡ take (e - at) (drop at l) ∷ wordsFrom (e + 1) l
+pub words-next : (l : List ℕ) (at e : ℕ) → at ≤ length l → e ≡ at + upto 32 (drop at l)
+    → wordsFrom at l ≡ take (e - at) (drop at l) ∷ wordsFrom (e + 1) l
 unfolding wordsFrom
 words-next l at e h q =
     let u = upto 32 (drop at l) in
     let d : e - at ≡ u = omega arith in
     let n : at + suc u ≡ e + 1 = omega arith in
-    let m : leb (suc u) (length (drop at l)) ≡ leb (e + 1) (length l) = leb-same (suc u) (length (drop at l)) (e + 1) (length l) (λ z. omega (arith, length-drop at l)) (λ z. omega (arith, length-drop at l)) in
+    let rest = length (drop at l) in
+    let to : suc u ≤ rest → e + 1 ≤ length l = λ z. omega (arith, length-drop at l) in
+    let back : e + 1 ≤ length l → suc u ≤ rest = λ z. omega (arith, length-drop at l) in
+    let m : leb (suc u) rest ≡ leb (e + 1) (length l) = leb-same (suc u) rest (e + 1) (length l) to back in
     rw (le-leb at (length l) h, d) (words-cons (drop at l) ∙ rw (m, drop-drop (suc u) at l, n))
 
 pub words-all : (l : List ℕ) → wordsFrom 0 l ≡ words l

@@ -9,10 +9,10 @@ use lib.ListN.{length, getD, drop}
 
 -- ---- tags and lines
 
--- RULES 14.1: no byte is x
-abbrev pub Without : (x : ℕ) → List ℕ → Type 0
-Without x [] = Unit {0}
-Without x (a ∷ l) = (a ≡ x → ⊥) × Without x l
+-- RULES 14.1: no byte has this value
+abbrev pub Without : (byte : ℕ) → List ℕ → Type 0
+Without byte [] = Unit {0}
+Without byte (a ∷ rest) = (a ≡ byte → ⊥) × Without byte rest
 
 -- RULES 14.1: a tag is not empty and has no space and no newline
 pub record IsTag (tag : List ℕ) : Type 0 where
@@ -23,12 +23,12 @@ pub record IsTag (tag : List ℕ) : Type 0 where
 -- RULES 14.1
 abbrev pub EachTag : List (List ℕ) → Type 0
 EachTag [] = Unit {0}
-EachTag (t ∷ ts) = IsTag t × EachTag ts
+EachTag (tag ∷ tags) = IsTag tag × EachTag tags
 
 -- RULES 14.1: each tag after one space
 unfoldable pub tagBytes : List (List ℕ) → List ℕ
 tagBytes [] = []
-tagBytes (t ∷ ts) = 32 ∷ (t ++ tagBytes ts)
+tagBytes (tag ∷ tags) = 32 ∷ (tag ++ tagBytes tags)
 
 -- RULES 14.1: a line without its newline
 unfoldable pub textOf : (word : List ℕ) → (tags : List (List ℕ)) → List ℕ
@@ -55,22 +55,22 @@ pub record IsLineOf (word : List ℕ) (tags : List (List ℕ)) : Type 0 where
 
 -- RULES 14.2: what follows this letter in each tag that begins with it
 unfoldable pub tagged : (letter : ℕ) → List (List ℕ) → List (List ℕ)
-tagged x [] = []
-tagged x (w ∷ ws) = cond (eqb (getD w 0 0) x) (drop 1 w ∷ tagged x ws) (tagged x ws)
+tagged letter [] = []
+tagged letter (tag ∷ tags) = cond (eqb (getD tag 0 0) letter) (drop 1 tag ∷ tagged letter tags) (tagged letter tags)
 
 -- RULES 14.2: what a byte says as a digit; 10 where it is none
-unfoldable pub digit : ℕ → ℕ
-digit d = cond (leb 48 d && leb d 57) (d - 48) 10
+unfoldable pub digit : (byte : ℕ) → ℕ
+digit byte = cond (leb 48 byte && leb byte 57) (byte - 48) 10
 
 -- RULES 14.2: every byte is a digit
 unfoldable pub digits : List ℕ → Bool
 digits [] = true
-digits (d ∷ l) = leb (digit d) 9 && digits l
+digits (byte ∷ rest) = leb (digit byte) 9 && digits rest
 
 -- RULES 14.2: the number of these digits written after those of v
 unfoldable pub value : ℕ → List ℕ → ℕ
 value v [] = v
-value v (d ∷ l) = value (v * 10 + digit d) l
+value v (byte ∷ rest) = value (v * 10 + digit byte) rest
 
 -- RULES 14.2: a decimal of v, not empty and without leading zero
 pub record IsDecimal (v : ℕ) (text : List ℕ) : Type 0 where

@@ -6,28 +6,29 @@ use mathlib.Core.List.{List, [], _∷_}
 use lib.Dec.{leb, ltb, eqb}
 use lib.ListN.{length, drop}
 
--- how many bytes stand before the first x; all of them where there is none
-unfoldable pub upto : ℕ → List ℕ → ℕ
-upto x [] = 0
-upto x (a ∷ l) = cond (eqb a x) 0 (suc (upto x l))
+-- how many bytes stand before the first of this value; all of them where there is none
+unfoldable pub upto : (byte : ℕ) → List ℕ → ℕ
+upto byte [] = 0
+upto byte (a ∷ rest) = cond (eqb a byte) 0 (suc (upto byte rest))
 
-abbrev pub onto : ℕ → List (List ℕ) → List (List ℕ)
-onto a [] = (a ∷ []) ∷ []
-onto a (w ∷ ws) = (a ∷ w) ∷ ws
+-- a byte before the first word
+abbrev pub onto : (byte : ℕ) → List (List ℕ) → List (List ℕ)
+onto byte [] = (byte ∷ []) ∷ []
+onto byte (word ∷ others) = (byte ∷ word) ∷ others
 
 -- what stands between the spaces, each space an end of a word
-unfoldable pub words : List ℕ → List (List ℕ)
+unfoldable pub words : (line : List ℕ) → List (List ℕ)
 words [] = [] ∷ []
-words (a ∷ l) = cond (eqb a 32) ([] ∷ words l) (onto a (words l))
+words (a ∷ rest) = cond (eqb a 32) ([] ∷ words rest) (onto a (words rest))
 
 -- the words from a place on where a word starts; none past the end
-unfoldable pub wordsFrom : ℕ → List ℕ → List (List ℕ)
-wordsFrom at l = cond (leb at (length l)) (words (drop at l)) []
+unfoldable pub wordsFrom : (start : ℕ) → (line : List ℕ) → List (List ℕ)
+wordsFrom start line = cond (leb start (length line)) (words (drop start line)) []
 
 -- no word is empty
 unfoldable pub filled : List (List ℕ) → Bool
 filled [] = true
-filled (w ∷ ws) = ltb 0 (length w) && filled ws
+filled (word ∷ others) = ltb 0 (length word) && filled others
 
 -- two texts are equal
 unfoldable pub same : List ℕ → List ℕ → Bool

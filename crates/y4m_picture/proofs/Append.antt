@@ -11,8 +11,8 @@ use Rattle.y4m_line.specs.Line.{lineOf, frame, magic}
 use Rattle.y4m_file.specs.File.{pictureBytes}
 use Rattle.y4m_file.specs.Check.{planeBytes}
 use Rattle.y4m_writer.specs.Text.{writtenTags}
-use Rattle.y4m_writer.specs.Pictures.{samplingOf, canWrite, fileMade, framesOf}
-use Rattle.y4m_writer.specs.Known.{Exact}
+use Rattle.y4m_writer.specs.Pictures.{samplingOf, canWrite, fileMade}
+use Rattle.y4m_writer.specs.Known.{framesOf, Exact}
 use Rattle.y4m_writer.proofs.Back.{written, made}
 use Rattle.y4m_writer.proofs.Sizes.{plane-least}
 use Rattle.y4m_picture.specs.Means.{planesMade, Begun, Appended}

@@ -12,8 +12,8 @@ use Rattle.yuv_support.specs.Sampling.{chromaWidth}
 use Rattle.shift_writer.proofs.Pairs.{sets-four}
 use Rattle.shift_record.specs.Record.{unpadded}
 use Rattle.shift_record.proofs.Rows.{length-unpadded}
+use Rattle.shift_file.proofs.Record.{both}
 use Rattle.y4m_line.specs.Line.{lineOf, textOf, tagBytes, frame}
-use Rattle.y4m_line.proofs.Text.{both}
 use Rattle.y4m_file.specs.File.{pictureBytes}
 use Rattle.y4m_file.specs.Check.{planeBytes}
 use Rattle.y4m_writer.specs.Pictures.{samplingOf, isShape}

@@ -1,15 +1,14 @@
 -- Picture k of a file, where it stands: its line ends where its planes start, and the next picture follows them. Assumes nothing.
-use Prim.Native.Nat.{ℕ, zero, suc, _+_, _*_, _≤_, _<_}
+use Prim.Native.Nat.{ℕ, zero, suc, _+_, _*_, _<_}
 use mathlib.Core.Path.{_≡_, refl, ap, sym, _∙_}
 use mathlib.Core.List.{List, [], _∷_, _++_}
-use native.Mathlib.Nat.{add-zero, zero-add}
 use native.Mathlib.Omega.{arith}
 use lib.ListN.{length, getD, take, drop, length-append, length-drop}
-use lib.Seq.{drop-drop, drop-at}
-use Rattle.y4m_line.specs.Line.{lineOf, magic, frame, textOf}
+use lib.Seq.{drop-drop}
+use Rattle.y4m_line.specs.Line.{lineOf, magic, frame}
 use Rattle.y4m_line.specs.Header.{lineEnd}
 use Rattle.y4m_line.proofs.Text.{magic-tag, length-line, end-is, rest-is}
-use Rattle.y4m_file.specs.File.{Y4mPicture, Y4mFile, PictureAllowed, EachAllowed, IsFileOf, fileBytes, pictureBytes, picturesBytes}
+use Rattle.y4m_file.specs.File.{Y4mPicture, PictureAllowed, EachAllowed, IsFileOf, fileBytes, pictureBytes, picturesBytes}
 use Rattle.y4m_file.specs.Check.{pictureSize}
 use Rattle.y4m_file.specs.Read.{pictureAt, fileIn}
 use Rattle.y4m_file.proofs.Pictures.{line-there, picture-is, size-there, next-there, length-picture}
@@ -17,7 +16,8 @@ use Rattle.y4m_reader.specs.Entry.{noPicture, pictureOf, offsetOf, plane
 use Rattle.y4m_reader.specs.Known.{HasPicture, SizesAre, HasPictures, Stood}
 use Rattle.y4m_reader.specs.declared.PlaneSizes.{PlaneSizes}
 
-allowed-at : (luma chroma k : ℕ) (ps : List Y4mPicture) → EachAllowed luma chroma ps → k < length ps → PictureAllowed luma chroma (getD ps k noPicture)
+allowed-at : (luma chroma k : ℕ) (ps : List Y4mPicture) → EachAllowed luma chroma ps → k < length ps
+    → PictureAllowed luma chroma (getD ps k noPicture)
 allowed-at luma chroma k [] e h = absurd (omega arith)
 allowed-at luma chroma zero (p ∷ ps) e h = e .0
 allowed-at luma chroma (suc k) (p ∷ ps) e h = allowed-at luma chroma k ps (e .1) (omega arith)
@@ -52,7 +52,14 @@ first-stood file i =
     record {
       place = omega (arith, ended, length-line magic (f .tags));
       rest = rw start (rest-is magic (f .tags) magic-tag (i .allowed .line) (picturesBytes (f .pictures)) file (sym (i .same)));
-      within = omega (arith, ended, length-line magic (f .tags), ap length (i .same), length-append (lineOf magic (f .tags)) (picturesBytes (f .pictures)));
+      within =
+          omega (
+            arith,
+            ended,
+            length-line magic (f .tags),
+            ap length (i .same),
+            length-append (lineOf magic (f .tags)) (picturesBytes (f .pictures)),
+          );
     }
 
 module _ (file : List ℕ) (luma chroma m : ℕ) (f : HasPictures file luma chroma m) (k at : ℕ) (h : k < m) (s : Stood file k at) where
@@ -68,7 +75,8 @@ module _ (file : List ℕ) (luma chroma m : ℕ) (f : HasPictures file luma chro
   line : lineEnd (drop at file) + 1 ≡ length (lineOf frame (pictureOf (fileIn file) k .tags))
   line = line-there luma chroma (pictureOf (fileIn file) k) allowed _ (drop at file) here
 
-  pub entry-is : (y : ℕ) → y ≡ at + (lineEnd (drop at file) + 1) → planeNumbers y luma chroma ≡ entryOf (offsetOf (fileIn file) k) (pictureOf (fileIn file) k)
+  pub entry-is : (y : ℕ) → y ≡ at + (lineEnd (drop at file) + 1)
+      → planeNumbers y luma chroma ≡ entryOf (offsetOf (fileIn file) k) (pictureOf (fileIn file) k)
   entry-is y e = rw (e, line, s .place, allowed .y-size, allowed .u-size, allowed .v-size)
 
   -- the planes, from the place past the line
@@ -103,7 +111,7 @@ module _ (file : List ℕ) (luma chroma m : ℕ) (f : HasPictures file luma chro
       let whole = length-picture luma chroma q allowed in
       record {
         place = rw one (omega (arith, line, whole, s .place, length-more k (fileIn file .pictures) within-list));
-        rest = rw (past, one) (sym (drop-drop (pictureSize (luma + 2 * chroma) (drop at file)) at file) ∙ next-there luma chroma q allowed t (drop at file) here);
+        rest = rw (past, one) (sym (drop-drop _ at file) ∙ next-there luma chroma q allowed t (drop at file) here);
         within = omega (arith, line, whole, s .within, length-drop at file, ap length here, length-append (pictureBytes q) t);
       }
 

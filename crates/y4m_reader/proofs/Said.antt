@@ -1,14 +1,14 @@
 -- What the check tells of a file, by the file that is read. Assumes nothing.
 use Prim.Native.Nat.{ℕ, _≤_}
-use mathlib.Core.Path.{_≡_, refl, ap, sym, _∙_}
+use mathlib.Core.Path.{_≡_, ap, sym, _∙_}
 use mathlib.Core.Bool.{true, false}
 use mathlib.Core.List.{List}
 use lib.ListN.{length}
 use Rattle.y4m_file.specs.declared.Y4mRead.{Y4mRead}
 use Rattle.y4m_file.specs.declared.Y4mRead.the-variants.{Read, Refused}
-use Rattle.y4m_file.specs.File.{IsFileOf, lumaBytes, chromaBytes}
-use Rattle.y4m_file.specs.Check.{samplingSaid, headerOf, widthIn, heightIn, samplingIn, picturesIn, restOf, isY4m}
-use Rattle.y4m_file.specs.Read.{fileIn}
+use Rattle.y4m_file.specs.File.{IsFileOf}
+use Rattle.y4m_file.specs.Check.{samplingSaid, headerOf, picturesIn, restOf, isY4m}
+use Rattle.y4m_file.specs.Read.{lumaIn, chromaIn, fileIn}
 use Rattle.y4m_file.specs.Known.{IsRead, ReadPost}
 use Rattle.y4m_file.proofs.Pictures.{length-from}
 use Rattle.y4m_file.proofs.Whole.{width-bound, height-bound}
@@ -32,7 +32,7 @@ said b w h s k r = record {
   width = r .width;
   height = r .height;
   sampling = ap samplingSaid (r .sampling);
-  count = r .count ∙ sym (length-from (lumaBytes (widthIn b) (heightIn b)) (chromaBytes (samplingIn b) (widthIn b) (heightIn b)) (picturesIn b) (restOf b));
+  count = r .count ∙ sym (length-from (lumaIn b) (chromaIn b) (picturesIn b) (restOf b));
   width-most = rw (r .width) (width-bound (headerOf b));
   height-most = rw (r .height) (height-bound (headerOf b));
 }

@@ -1,5 +1,5 @@
-// Reading a Y4M file: its sides, its sampling, how many pictures it has and where each plane stands, and the planes as parts of the file (RULES 14.5).
-// Nothing is copied, and no plane is looked at.
+// Reading a Y4M file: its sides, its sampling, how many pictures it has and where each plane stands, and the planes as parts of the file
+// (RULES 14.5). Nothing is copied, and no plane is looked at.
 use y4m_file::Y4mRead;
 use yuv_error::YuvAnswer;
 use yuv_error::YuvError;
@@ -38,7 +38,7 @@ fn past_line(file: &[u8], at: usize) -> usize
     requires { ⌜ at ≤ length (now file) ⌝ }
     ensures { λ r. ⌜ (r ≡ at + (lineEnd (drop at (now (file .entry))) + 1)) × (r ≤ length (now (file .entry)) + 257) ⌝ }
 {
-    at + (y4m_line::line_end(y4m_line::from_place(file, at)) + 1)
+    at + (y4m_line::line_end(shift_file::from_place(file, at)) + 1)
 }
 
 // Where picture k stands; past the last, the end.
@@ -112,6 +112,7 @@ fn plane_sizes(file: &[u8]) -> PlaneSizes
     }
 }
 
+// Y of a picture, as a part of the file.
 pub fn y_part(file: &[u8], k: usize) -> &[u8]
     requires { ⌜ HasPicture (now file) k ⌝ }
     ensures { λ r. ⌜ now r ≡ pictureOf (fileIn (now (file .entry))) k .y ⌝ }
@@ -121,6 +122,7 @@ pub fn y_part(file: &[u8], k: usize) -> &[u8]
     shift_file::part_of(file, y, sizes.luma)
 }
 
+// The same of U.
 pub fn u_part(file: &[u8], k: usize) -> &[u8]
     requires { ⌜ HasPicture (now file) k ⌝ }
     ensures { λ r. ⌜ now r ≡ pictureOf (fileIn (now (file .entry))) k .u ⌝ }
@@ -130,6 +132,7 @@ pub fn u_part(file: &[u8], k: usize) -> &[u8]
     shift_file::part_of(file, y + sizes.luma, sizes.chroma)
 }
 
+// The same of V.
 pub fn v_part(file: &[u8], k: usize) -> &[u8]
     requires { ⌜ HasPicture (now file) k ⌝ }
     ensures { λ r. ⌜ now r ≡ pictureOf (fileIn (now (file .entry))) k .v ⌝ }

@@ -1,7 +1,7 @@
 -- What may be written, by the tests that look for it. Assumes nothing.
 use Prim.Native.Nat.{ℕ, _*_, _%_, _≤_}
 use mathlib.Core.Path.{_≡_}
-use mathlib.Core.Bool.{true, false, _&&_}
+use mathlib.Core.Bool.{true, false}
 use native.Mathlib.Nat.{mul-le-mul}
 use native.Mathlib.Omega.{arith}
 use lib.Dec.{eqb}

@@ -1,27 +1,26 @@
 -- What is written is a file, and is read back. Assumes nothing.
-use Prim.Native.Nat.{ℕ, zero, suc, _+_, _*_, _/_, _%_, _≤_, _<_}
-use mathlib.Core.Path.{_≡_, refl, ap, sym, _∙_}
-use mathlib.Core.Bool.{Bool, true, _&&_}
+use Prim.Native.Nat.{ℕ, _+_, _*_, _/_, _%_, _≤_, _<_}
+use mathlib.Core.Path.{_≡_, refl, ap}
+use mathlib.Core.Bool.{true}
 use mathlib.Core.List.{List, [], _∷_, _++_}
 use native.Mathlib.Omega.{arith}
-use lib.Dec.{ltb, leb, eqb}
-use lib.ListN.{length, getD, length-append}
-use borrow.Author.Tests.{ltb-true, leb-true, eqb-true}
+use lib.Dec.{ltb}
+use lib.ListN.{length, length-append}
+use borrow.Author.Tests.{ltb-true, eqb-true}
 use Rattle.yuv_support.specs.declared.YuvChromaSubsampling.{YuvChromaSubsampling}
 use Rattle.yuv_support.specs.declared.YuvChromaSubsampling.the-variants.{Yuv420, Yuv422}
 use Rattle.shift_file.specs.File.{isSide}
-use Rattle.shift_file.proofs.Record.{side-bounds}
-use Rattle.y4m_line.specs.Line.{Without, IsTag, EachTag, IsLineOf, lineOf, magic, tagged, IsDecimal, SaysSide}
-use Rattle.y4m_line.proofs.Text.{both, clear, clear-without}
-use Rattle.y4m_file.specs.File.{SaysSampling, texts, Allowed, IsFileOf, fileBytes, lumaBytes, chromaBytes}
+use Rattle.shift_file.proofs.Record.{both, side-bounds}
+use Rattle.y4m_line.specs.Line.{IsTag, IsLineOf, lineOf, magic, tagged, SaysSide}
+use Rattle.y4m_line.proofs.Text.{clear, clear-without}
+use Rattle.y4m_file.specs.File.{SaysSampling, fileBytes, lumaBytes, chromaBytes}
 use Rattle.y4m_file.specs.Check.{planeBytes}
-use Rattle.y4m_file.specs.Read.{fileIn}
 use Rattle.y4m_file.proofs.File.{its-file}
 use Rattle.y4m_writer.specs.Text.{decimal, codeText, writtenTags}
-use Rattle.y4m_writer.specs.Pictures.{samplingOf, isShape, canWrite, picturesOf, fileFrom, fileMade, planesOf, framesOf}
-use Rattle.y4m_writer.specs.Known.{Exact}
+use Rattle.y4m_writer.specs.Pictures.{samplingOf, isShape, canWrite, fileFrom, fileMade}
+use Rattle.y4m_writer.specs.Known.{framesOf, Exact}
 use Rattle.y4m_writer.specs.Means.{WrittenIsFile, WrittenReadBack}
-use Rattle.y4m_writer.proofs.Decimal.{Decimal, decimal-5}
+use Rattle.y4m_writer.proofs.Decimal.{decimal-5}
 use Rattle.y4m_writer.proofs.Puts.{line-most}
 use Rattle.y4m_writer.proofs.Frames.{exact-whole, length-frames, frames-are, each-allowed, planes-are}
 

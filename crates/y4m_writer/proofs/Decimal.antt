@@ -1,16 +1,17 @@
 -- The decimals that are written: digits alone, worth the number, without leading zero.
 -- Assumes nothing.
 use Prim.Native.Nat.{ℕ, zero, suc, _+_, _*_, _/_, _%_, _≤_, _<_}
-use mathlib.Core.Path.{_≡_, refl, ap, sym, _∙_}
-use mathlib.Core.Bool.{Bool, true, false, cond, _&&_}
+use mathlib.Core.Path.{_≡_, refl, sym, _∙_}
+use mathlib.Core.Bool.{Bool, true, false, cond}
 use mathlib.Core.List.{List, [], _∷_, _++_}
 use native.Mathlib.Omega.{arith}
 use lib.Dec.{leb, ltb}
 use lib.ListN.{length, getD, length-append}
 use borrow.Author.Tests.{lt-ltb, le-leb, ltb-true, ltb-false}
+use Rattle.shift_file.proofs.Record.{both}
 use Rattle.y4m_line.specs.Line.{Without, digit, digits, value}
 use Rattle.y4m_line.proofs.Decimal.{digit-is}
-use Rattle.y4m_line.proofs.Text.{both, without-append}
+use Rattle.y4m_line.proofs.Text.{without-append}
 use Rattle.y4m_writer.specs.Text.{decimal}
 
 pub digit-of : (d : ℕ) → d < 10 → digit (48 + d) ≡ d
@@ -73,9 +74,14 @@ unfolding decimal
 decimal-1 v h = rw (lt-ltb v 10 h) (one-digit v h)
 
 pub decimal-5 : (v : ℕ) → v < 100000 → Decimal v (decimal 5 v)
-decimal-5 v h = step 4 10000 (λ a k. step 3 1000 (λ b l. step 2 100 (λ c m. step 1 10 decimal-1 c (omega arith)) b (omega arith)) a (omega arith)) v (omega arith)
+decimal-5 v h =
+    let two : (u : ℕ) → u < 100 → Decimal u (decimal 2 u) = λ u k. step 1 10 decimal-1 u (omega arith) in
+    let three : (u : ℕ) → u < 1000 → Decimal u (decimal 3 u) = λ u k. step 2 100 two u (omega arith) in
+    let four : (u : ℕ) → u < 10000 → Decimal u (decimal 4 u) = λ u k. step 3 1000 three u (omega arith) in
+    step 4 10000 four v (omega arith)
 
-length-case : (f v : ℕ) (t : Bool) → length (decimal f (v / 10)) ≤ f → length (cond t ((48 + v) ∷ []) (decimal f (v / 10) ++ ((48 + v % 10) ∷ []))) ≤ suc f
+length-case : (f v : ℕ) (t : Bool) → length (decimal f (v / 10)) ≤ f
+    → length (cond t ((48 + v) ∷ []) (decimal f (v / 10) ++ ((48 + v % 10) ∷ []))) ≤ suc f
 length-case f v true h = omega arith
 length-case f v false h = rw length-append (omega arith)
 

@@ -1,6 +1,6 @@
 -- Planes that are whole pictures, and the pictures put. Assumes nothing.
 use Prim.Native.Nat.{ℕ, zero, suc, _+_, _*_, _-_, _/_, _%_, _≤_, _<_}
-use mathlib.Core.Path.{_≡_, refl, ap, ap₂, sym, _∙_}
+use mathlib.Core.Path.{_≡_, refl, sym, _∙_}
 use mathlib.Core.List.{List, [], _∷_, _++_, append-assoc}
 use native.Mathlib.Nat.{mul-zero, mul-suc, add-zero, div-add-mod}
 use native.Mathlib.Omega.{arith}
@@ -8,10 +8,10 @@ use lib.ListN.{length, take, drop, length-append, length-drop, take-append-drop}
 use lib.Seq.{sets, length-take-le, drop-drop}
 use Rattle.little_endian.proofs.Stores.{sets-append}
 use Rattle.y4m_line.specs.Line.{lineOf, textOf, tagBytes, frame, IsLineOf}
-use Rattle.y4m_file.specs.File.{Y4mPicture, PictureAllowed, EachAllowed, pictureBytes, picturesBytes}
+use Rattle.y4m_file.specs.File.{EachAllowed, pictureBytes, picturesBytes}
 use Rattle.y4m_file.proofs.Pictures.{cut}
-use Rattle.y4m_writer.specs.Pictures.{pictureFrom, picturesOf, planesOf, framesOf}
-use Rattle.y4m_writer.specs.Known.{Exact}
+use Rattle.y4m_writer.specs.Pictures.{pictureFrom, picturesOf, planesOf}
+use Rattle.y4m_writer.specs.Known.{framesOf, Exact}
 
 -- ---- whole pictures
 

@@ -1,8 +1,8 @@
 -- Runs of stores: a decimal digit by digit, a line piece by piece. Assumes nothing.
 use Prim.Native.Nat.{ℕ, zero, suc, _+_, _-_, _/_, _%_, _≤_, _<_}
-use mathlib.Core.Path.{_≡_, refl, ap, sym, _∙_}
+use mathlib.Core.Path.{_≡_, sym, _∙_}
 use mathlib.Core.List.{List, [], _∷_, _++_, append-assoc}
-use native.Mathlib.Nat.{zero-add, add-zero, add-assoc}
+use native.Mathlib.Nat.{add-zero, add-assoc}
 use native.Mathlib.Omega.{arith}
 use lib.ListN.{length, set, length-append}
 use lib.Seq.{sets}
@@ -11,7 +11,8 @@ use Rattle.little_endian.proofs.Stores.{sets-append}
 use Rattle.yuv_support.specs.declared.YuvChromaSubsampling.{YuvChromaSubsampling}
 use Rattle.yuv_support.specs.declared.YuvChromaSubsampling.the-variants.{Yuv420, Yuv422}
 use Rattle.y4m_line.specs.Line.{lineOf, textOf, tagBytes, magic}
-use Rattle.y4m_writer.specs.Text.{decimal, codeLine, writtenTags}
+use Rattle.y4m_writer.specs.Text.{decimal, writtenTags}
+use Rattle.y4m_writer.specs.Known.{codeLine}
 use Rattle.y4m_writer.proofs.Decimal.{decimal-length}
 
 -- ---- a decimal, digit by digit

@@ -11,8 +11,8 @@ use Rattle.y4m_line.specs.Line.{lineOf, magic}
 use Rattle.y4m_line.proofs.Text.{length-line}
 use Rattle.y4m_file.specs.Check.{planeBytes}
 use Rattle.y4m_writer.specs.Text.{writtenTags}
-use Rattle.y4m_writer.specs.Pictures.{samplingOf, fileMade, framesOf}
-use Rattle.y4m_writer.specs.Known.{Exact}
+use Rattle.y4m_writer.specs.Pictures.{samplingOf, fileMade}
+use Rattle.y4m_writer.specs.Known.{framesOf, Exact}
 use Rattle.y4m_writer.proofs.Puts.{two-runs}
 use Rattle.y4m_writer.proofs.Back.{Written, made, length-made}
 
@@ -45,5 +45,6 @@ module _ (code w h : ℕ) (b before : List ℕ) (how : YuvChromaSubsampling) (eh
   pub put-is : (d₁ d₂ : List ℕ) → d₁ ≡ sets before 0 (lineOf magic (writtenTags how w h)) → d₂ ≡ sets d₁ first (framesOf n (length b / n) b)
       → d₂ ≡ sets before 0 (fileMade code w h b)
   put-is d₁ d₂ e₁ e₂ =
-      two-runs before d₁ d₂ (lineOf magic (writtenTags how w h)) (framesOf n (length b / n) b) 0 first _ e₁ (ef ∙ sym (zero-add (length (lineOf magic (writtenTags how w h))))) e₂ refl
+      let line = lineOf magic (writtenTags how w h) in
+      two-runs before d₁ d₂ line (framesOf n (length b / n) b) 0 first _ e₁ (ef ∙ sym (zero-add (length line))) e₂ refl
       ∙ ap (λ t. sets before 0 t) made-is

@@ -11,9 +11,10 @@ use Rattle.y4m_writer.specs.Pictures.{canWrite, fileFrom, fileMade, plan
 
 -- RULES 14.6: what is written is a file
 abbrev pub WrittenIsFile : Type 0
-WrittenIsFile = (code w h : ℕ) (b : List ℕ) → canWrite code w h (length b) ≡ true → IsFileOf (fileMade code w h b) (fileFrom code w h b)
+WrittenIsFile = (code w h : ℕ) (planes : List ℕ) → canWrite code w h (length planes) ≡ true
+    → IsFileOf (fileMade code w h planes) (fileFrom code w h planes)
 
 -- RULES 14.6: and is read back with the same sides, sampling and planes
 abbrev pub WrittenReadBack : Type 0
-WrittenReadBack = (code w h : ℕ) (b : List ℕ) → canWrite code w h (length b) ≡ true
-    → (fileIn (fileMade code w h b) ≡ fileFrom code w h b) × (planesOf (fileIn (fileMade code w h b) .pictures) ≡ b)
+WrittenReadBack = (code w h : ℕ) (planes : List ℕ) → canWrite code w h (length planes) ≡ true
+    → (fileIn (fileMade code w h planes) ≡ fileFrom code w h planes) × (planesOf (fileIn (fileMade code w h planes) .pictures) ≡ planes)

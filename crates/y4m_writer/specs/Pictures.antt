@@ -9,7 +9,6 @@ use Rattle.yuv_support.specs.declared.YuvChromaSubsampling.{YuvChromaSubsamplin
 use Rattle.yuv_support.specs.declared.YuvChromaSubsampling.the-variants.{Yuv420}
 use Rattle.setting_codes.specs.Codes.{samplingCodes}
 use Rattle.shift_file.specs.File.{isSide}
-use Rattle.y4m_line.specs.Line.{lineOf, frame}
 use Rattle.y4m_file.specs.File.{Y4mPicture, Y4mFile, fileBytes, lumaBytes, chromaBytes}
 use Rattle.y4m_file.specs.Check.{planeBytes}
 use Rattle.y4m_writer.specs.Text.{writtenTags}
@@ -27,34 +26,34 @@ unfoldable pub canWrite : (code w h size : ℕ) → Bool
 canWrite code w h size = isShape code w h && eqb (size % planeBytes (samplingOf code) w h) 0
 
 -- RULES 14.6: the picture at the front, without tags
-unfoldable pub pictureFrom : (luma chroma : ℕ) → List ℕ → Y4mPicture
-pictureFrom luma chroma b = record { tags = []; y = take luma b; u = take chroma (drop luma b); v = take chroma (drop (luma + chroma) b) }
+unfoldable pub pictureFrom : (luma chroma : ℕ) → (bytes : List ℕ) → Y4mPicture
+pictureFrom luma chroma bytes = record {
+  tags = [];
+  y = take luma bytes;
+  u = take chroma (drop luma bytes);
+  v = take chroma (drop (luma + chroma) bytes);
+}
 
--- RULES 14.6: k pictures
-unfoldable pub picturesOf : (luma chroma k : ℕ) → List ℕ → List Y4mPicture
-picturesOf luma chroma zero b = []
-picturesOf luma chroma (suc k) b = pictureFrom luma chroma b ∷ picturesOf luma chroma k (drop (luma + 2 * chroma) b)
+-- RULES 14.6: so many pictures
+unfoldable pub picturesOf : (luma chroma count : ℕ) → (bytes : List ℕ) → List Y4mPicture
+picturesOf luma chroma zero bytes = []
+picturesOf luma chroma (suc count) bytes = pictureFrom luma chroma bytes ∷ picturesOf luma chroma count (drop (luma + 2 * chroma) bytes)
 
 -- RULES 14.6: the file of these planes
-unfoldable pub fileFrom : (code w h : ℕ) → List ℕ → Y4mFile
-fileFrom code w h b = record {
+unfoldable pub fileFrom : (code w h : ℕ) → (planes : List ℕ) → Y4mFile
+fileFrom code w h planes = record {
   width = w;
   height = h;
   sampling = samplingOf code;
   tags = writtenTags (samplingOf code) w h;
-  pictures = picturesOf (lumaBytes w h) (chromaBytes (samplingOf code) w h) (length b / planeBytes (samplingOf code) w h) b;
+  pictures = picturesOf (lumaBytes w h) (chromaBytes (samplingOf code) w h) (length planes / planeBytes (samplingOf code) w h) planes;
 }
 
 -- RULES 14.6: its bytes
-unfoldable pub fileMade : (code w h : ℕ) → List ℕ → List ℕ
-fileMade code w h b = fileBytes (fileFrom code w h b)
+unfoldable pub fileMade : (code w h : ℕ) → (planes : List ℕ) → List ℕ
+fileMade code w h planes = fileBytes (fileFrom code w h planes)
 
 -- RULES 14.6: the planes of pictures, back to back
 unfoldable pub planesOf : List Y4mPicture → List ℕ
 planesOf [] = []
 planesOf (p ∷ ps) = (p .y ++ (p .u ++ p .v)) ++ planesOf ps
-
--- k lines FRAME, each before n bytes: how the code puts the pictures
-unfoldable pub framesOf : (n k : ℕ) → List ℕ → List ℕ
-framesOf n zero b = []
-framesOf n (suc k) b = lineOf frame [] ++ (take n b ++ framesOf n k (drop n b))

@@ -8,10 +8,10 @@ use Rattle.yuv_support.specs.declared.YuvChromaSubsampling.{YuvChromaSubsamplin
 use Rattle.yuv_support.specs.declared.YuvChromaSubsampling.the-variants.{Yuv420, Yuv422}
 use Rattle.y4m_line.specs.Line.{text420jpeg, text422}
 
--- RULES 14.6: the decimal digits of v, at most n of them
-unfoldable pub decimal : (n v : ℕ) → List ℕ
-decimal zero v = []
-decimal (suc n) v = cond (ltb v 10) ((48 + v) ∷ []) (decimal n (v / 10) ++ ((48 + v % 10) ∷ []))
+-- RULES 14.6: the decimal of a value, at most so many digits
+unfoldable pub decimal : (digits value : ℕ) → List ℕ
+decimal zero value = []
+decimal (suc digits) value = cond (ltb value 10) ((48 + value) ∷ []) (decimal digits (value / 10) ++ ((48 + value % 10) ∷ []))
 
 -- RULES 14.6: 420jpeg or 422
 abbrev pub codeText : YuvChromaSubsampling → List ℕ
@@ -22,8 +22,3 @@ codeText Yuv422 = text422
 abbrev pub writtenTags : YuvChromaSubsampling → (w h : ℕ) → List (List ℕ)
 writtenTags sampling w h =
     (87 ∷ decimal 5 w) ∷ (72 ∷ decimal 5 h) ∷ (70 ∷ 50 ∷ 53 ∷ 58 ∷ 49 ∷ []) ∷ (73 ∷ 112 ∷ []) ∷ (67 ∷ codeText sampling) ∷ []
-
--- what follows the sides, with the newline: how the code puts it
-abbrev pub codeLine : YuvChromaSubsampling → List ℕ
-codeLine sampling =
-    32 ∷ 70 ∷ 50 ∷ 53 ∷ 58 ∷ 49 ∷ 32 ∷ 73 ∷ 112 ∷ 32 ∷ 67 ∷ (codeText sampling ++ (10 ∷ []))

@@ -1,5 +1,4 @@
 -- `sampling_said` meets its contract, by the code. Assumes nothing.
-use mathlib.Core.Path.{_≡_}
 use borrow.Author.Tests.{eq-eqb, ne-eqb}
 use Rattle.y4m_file.proofs.sampling_said.Statement.{statement}
 use Rattle.y4m_file.proofs.sampling_said.Tie as tie

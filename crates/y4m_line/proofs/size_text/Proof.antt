@@ -1,75 +1,61 @@
+-- `size_text` meets its contract: the digits from here on, after the side so far, say what all of them say. Assumes nothing.
 use native.Mathlib.Omega.{arith}
-use Prim.Native.Nat.{_+_, _-_, _*_, _≤_, _<_}
-use mathlib.Core.Path.{_≡_, refl, sym, ap, _∙_}
-use mathlib.Core.Bool.{true, false}
-use lib.ListN.{length, drop, getD, length-drop}
+use Prim.Native.Nat.{_+_, _*_, _-_, _≤_}
+use mathlib.Core.Path.{_≡_, refl, sym, _∙_}
+use lib.ListN.{length, drop, getD}
 use denote.Ref.{now}
-use borrow.Author.Tests.{eqb-true, eqb-false, not-true, not-false}
 use Rattle.y4m_line.specs.Line.{digit, digits, value}
-use Rattle.y4m_line.proofs.Decimal.{digits-bad, digits-next, digits-end, value-next, value-grows, value-end, size-empty, size-zero, size-bad, size-large, size-ok}
+use Rattle.y4m_line.proofs.Decimal.{digits-bad, digits-next, digits-end, value-next, value-grows, value-end}
+use Rattle.y4m_line.proofs.Decimal.{size-empty, size-zero, size-bad, size-large, size-ok}
 use Rattle.y4m_line.proofs.size_text.Statement.{statement}
 use Rattle.y4m_line.proofs.size_text.Tie as tie
-use Rattle.y4m_line.proofs.size_text.Reads as reads
-use Rattle.y4m_line.proofs.size_text.Lts as lts
-use Rattle.y4m_line.proofs.digit_at.Reads as digit-at-reads
 
 abbrev Inv-loop : tie.InvT-loop
-Inv-loop t v₀ i₀ v i = (digits (drop i t) ≡ digits t) × (value v (drop i t) ≡ value 0 t) × (v ≤ 16384) × (i ≤ length t)
+Inv-loop text side₀ i₀ side i =
+    (digits (drop i text) ≡ digits text) × (value side (drop i text) ≡ value 0 text) × (side ≤ 16384) × (i ≤ length text)
 
 abbrev μ-loop : tie.MeasureT-loop
-μ-loop t v₀ i₀ v i = length t - i
+μ-loop text side₀ i₀ side i = length text - i
 
--- src/lib.rt:157:9
-returns : tie.Need-returns Inv-loop μ-loop
-returns c = sym (size-empty _ (omega arith))
-
--- src/lib.rt:159:8
-shared-slice-read-if2 : tie.Need-shared-slice-read-if2 Inv-loop μ-loop
-shared-slice-read-if2 c = omega arith
-
--- src/lib.rt:160:9
-returns-2 : tie.Need-returns-2 Inv-loop μ-loop
-returns-2 c = sym (size-zero _ (omega arith) (omega arith))
-
--- src/lib.rt:164:5
-loop-holds : tie.Need-loop-holds Inv-loop μ-loop
-loop-holds c = (refl, refl, omega arith, omega arith)
-
--- src/lib.rt:165:13
-digit-at-requires : tie.Need-digit-at-requires Inv-loop μ-loop
-digit-at-requires c κs = omega arith
-
--- src/lib.rt:167:13
 returns-3 : tie.Need-returns-3 Inv-loop μ-loop
-returns-3 c = let t = now (c .before .before .before .before .before .before .before .before .args .t) in let i = c .before .before .before .loop in sym (size-bad t (sym (i .inv .0) ∙ digits-bad t (i .i) (omega arith) (rw (← c .before .digit-at .ensures .0) (omega arith))))
+returns-3 c =
+    let d = c .before in
+    let l = d .before .before in
+    let text = now (l .before .before .before .before .before .args .text) in
+    let bad = digits-bad text (l .loop .i) (omega arith) (rw (← d .digit-at .ensures .0) (omega arith)) in
+    sym (size-bad text (sym (l .loop .inv .0) ∙ bad))
 
--- src/lib.rt:169:13
-mul-v : tie.Need-mul-v Inv-loop μ-loop
-mul-v c = omega arith
-
--- src/lib.rt:169:13
-add-v : tie.Need-add-v Inv-loop μ-loop
-add-v c = omega arith
-
--- src/lib.rt:171:13
 returns-4 : tie.Need-returns-4 Inv-loop μ-loop
-returns-4 c = let t = now (c .before .before .before .before .before .before .before .before .before .args .t) in let i = c .before .before .before .before .loop in sym (size-large t (omega (arith, i .inv .1, value-next t (i .i) (omega arith) (i .v), value-grows (i .v * 10 + digit (getD t (i .i) 0)) (drop (i .i + 1) t), c .before .before .digit-at .ensures .0)))
+returns-4 c =
+    let d = c .before .before in
+    let l = d .before .before in
+    let i = l .loop .i in
+    let side = l .loop .side in
+    let text = now (l .before .before .before .before .before .args .text) in
+    let grows = value-grows (side * 10 + digit (getD text i 0)) (drop (i + 1) text) in
+    sym (size-large text (omega (arith, l .loop .inv .1, value-next text i (omega arith) side, grows, d .digit-at .ensures .0)))
 
--- src/lib.rt:173:9
-add-i : tie.Need-add-i Inv-loop μ-loop
-add-i c = omega arith
-
--- src/lib.rt:164:5
-loop-less : tie.Need-loop-less Inv-loop μ-loop
-loop-less c = omega arith
-
--- src/lib.rt:164:5
 loop-again : tie.Need-loop-again Inv-loop μ-loop
-loop-again c = let t = now (c .before .before .before .before .before .before .before .before .before .args .t) in let i = c .before .before .before .before .loop in (sym (digits-next t (i .i) (omega arith) (rw (← c .before .before .digit-at .ensures .0) (omega arith))) ∙ i .inv .0, rw (c .before .before .digit-at .ensures .0) (sym (value-next t (i .i) (omega arith) (i .v)) ∙ i .inv .1), omega arith, omega arith)
+loop-again c =
+    let d = c .before .before in
+    let l = d .before .before in
+    let i = l .loop .i in
+    let text = now (l .before .before .before .before .before .args .text) in (
+      sym (digits-next text i (omega arith) (rw (← d .digit-at .ensures .0) (omega arith))) ∙ l .loop .inv .0,
+      rw (d .digit-at .ensures .0) (sym (value-next text i (omega arith) (l .loop .side)) ∙ l .loop .inv .1),
+      omega arith,
+      omega arith,
+    )
 
--- src/lib.rt:153:1
 returns-5 : tie.Need-returns-5 Inv-loop μ-loop
-returns-5 c = let t = now (c .before .before .before .before .before .before .args .t) in let i = c .before .loop in let e : value 0 t ≡ i .v = sym (i .inv .1) ∙ value-end t (i .i) (i .v) (omega arith) in sym (size-ok t (omega arith) (λ z. omega arith) (sym (i .inv .0) ∙ digits-end t (i .i) (omega arith)) (omega arith) ∙ e)
+returns-5 c =
+    let l = c .before in
+    let i = l .loop .i in
+    let side = l .loop .side in
+    let text = now (l .before .before .before .before .before .args .text) in
+    let is : value 0 text ≡ side = sym (l .loop .inv .1) ∙ value-end text i side (omega arith) in
+    let all = sym (l .loop .inv .0) ∙ digits-end text i (omega arith) in
+    sym (size-ok text (omega arith) (λ z. omega arith) all (omega arith) ∙ is)
 
 pub size-text-spec : {M : Type 1} → statement M
 size-text-spec =
@@ -77,16 +63,16 @@ size-text-spec =
     (tie.spec
     Inv-loop
     μ-loop
-    returns
-    shared-slice-read-if2
-    returns-2
-    loop-holds
-    digit-at-requires
+    (λ c. sym (size-empty _ (omega arith)))
+    (λ c. omega arith)
+    (λ c. sym (size-zero _ (omega arith) (omega arith)))
+    (λ c. (refl, refl, omega arith, omega arith))
+    (λ c κs. omega arith)
     returns-3
-    mul-v
-    add-v
+    (λ c. omega arith)
+    (λ c. omega arith)
     returns-4
-    add-i
-    loop-less
+    (λ c. omega arith)
+    (λ c. omega arith)
     loop-again
     returns-5)

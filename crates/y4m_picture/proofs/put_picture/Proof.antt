@@ -73,8 +73,8 @@ returns c =
     let a = s .args in
     let u-at = 6 + z .before .luma-size .result in
     put-steps (a .frame) (now (a .y)) (now (a .u)) (now (a .v)) (s .pre .0) (now (a .output)) _ _ _ _ _ _ u-at (u-at + z .chroma-size .result)
-    (b .copy-bytes .ensures) (y .copy-rows .ensures) (z .before .before .before .before .before .before .chroma-width .ensures) (n .0) (omega (arith, n .1))
-    (u .copy-rows2 .ensures) (omega (arith, n .2)) (v .copy-rows3 .ensures)
+    (b .copy-bytes .ensures) (y .copy-rows .ensures) (z .before .before .before .before .before .before .chroma-width .ensures) (n .0)
+    (omega (arith, n .1)) (u .copy-rows2 .ensures) (omega (arith, n .2)) (v .copy-rows3 .ensures)
 
 pub put-picture-spec : {M : Type 1} → statement M
 put-picture-spec =

@@ -1,6 +1,6 @@
 -- `past_line` meets its contract: the newline stands at the line's end. Assumes nothing.
 use native.Mathlib.Omega.{arith}
-use Prim.Native.Nat.{_+_, _≤_}
+use Prim.Native.Nat.{_+_}
 use mathlib.Core.Path.{ap, _∙_}
 use Rattle.y4m_line.specs.Header.{lineEnd}
 use borrow.Author.Needs.{needs}

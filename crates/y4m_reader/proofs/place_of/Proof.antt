@@ -1,9 +1,8 @@
 -- `place_of` meets its contract: past the header's line the first picture, past each picture the next.
 -- Assumes nothing.
 use native.Mathlib.Omega.{arith}
-use Prim.Native.Nat.{_+_, _*_, _-_, _≤_, _<_}
-use mathlib.Core.Path.{_≡_, sym, _∙_}
-use lib.ListN.{length}
+use Prim.Native.Nat.{_+_, _*_, _-_, _≤_}
+use mathlib.Core.Path.{_≡_}
 use denote.Ref.{now}
 use Rattle.y4m_reader.specs.Known.{Stood}
 use Rattle.y4m_reader.proofs.Places.{first-stood, next-stood}

@@ -1,8 +1,7 @@
 -- `plane_sizes` meets its contract: the check lets a file through, and tells its sides and sampling.
 -- Assumes nothing.
 use native.Mathlib.Omega.{arith}
-use Prim.Native.Nat.{_*_, _≤_}
-use mathlib.Core.Path.{_≡_, sym, _∙_}
+use mathlib.Core.Path.{sym, _∙_}
 use mathlib.Core.Bool.{true, false, true≢false}
 use denote.Ref.{now}
 use Rattle.y4m_file.specs.Read.{fileIn}

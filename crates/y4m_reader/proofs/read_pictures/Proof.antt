@@ -1,13 +1,12 @@
--- `read_pictures` meets its contract: 19 by the check; then sides, sampling and count are the file's, and the entries are those from the first on that
--- fit.
+-- `read_pictures` meets its contract: 19 by the check; then sides, sampling and count are the file's, and the entries are those from the first on
+-- that fit.
 -- Assumes nothing.
 use native.Mathlib.Omega.{arith}
-use Prim.Native.Nat.{ℕ, _+_, _*_, _-_, _/_, _≤_, min}
-use mathlib.Core.Path.{_≡_, refl, sym, ap, _∙_}
-use mathlib.Core.Bool.{true, false}
+use Prim.Native.Nat.{ℕ, _-_, _/_, min}
+use mathlib.Core.Path.{_≡_, refl, ap, _∙_}
+use mathlib.Core.Bool.{false}
 use lib.ListN.{length}
 use denote.Ref.{now}
-use Rattle.yuv_support.specs.Sampling.{chromaWidth, chromaHeight}
 use Rattle.setting_codes.specs.Codes.{samplingCode}
 use Rattle.y4m_file.specs.Check.{isY4m}
 use Rattle.y4m_file.specs.Read.{fileIn}

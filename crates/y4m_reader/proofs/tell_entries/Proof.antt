@@ -1,7 +1,7 @@
 -- `tell_entries` meets its contract: the entries left to tell, told from here on, are all of them told from the start.
 -- Assumes nothing.
 use native.Mathlib.Omega.{arith}
-use Prim.Native.Nat.{_+_, _*_, _-_, _≤_, _<_}
+use Prim.Native.Nat.{_+_, _*_, _-_, _≤_}
 use mathlib.Core.Path.{_≡_, refl, sym, _∙_}
 use native.Mathlib.Nat.{add-zero, sub-zero}
 use lib.ListN.{length}
@@ -77,7 +77,8 @@ loop-again c =
     let one : s .args .first + (l .i + 1) ≡ s .args .first + l .i + 1 = omega arith in (
       rw (c .before .before .tell-entry .ensures)
           (entry-more _ _ _ (s .args .first) (s .args .count) (l .i)
-          (entry-is _ _ _ _ (s .pre .has) k (l .at) (omega arith) (l .inv .2) _ (e .past-line .ensures .0)) (e .before .loop-test .taken) ∙ l .inv .0),
+          (entry-is _ _ _ _ (s .pre .has) k (l .at) (omega arith) (l .inv .2) _ (e .past-line .ensures .0)) (e .before .loop-test .taken)
+          ∙ l .inv .0),
       c .before .before .tell-entry .kept .0 ∙ l .inv .1,
       rw one (next e),
       omega arith,

@@ -1,9 +1,8 @@
 -- `v_part` meets its contract: the plane stands past the picture's line and the planes before it.
 -- Assumes nothing.
 use native.Mathlib.Omega.{arith}
-use Prim.Native.Nat.{_+_, _*_, _≤_, _<_}
-use mathlib.Core.Path.{_≡_, _∙_}
-use lib.ListN.{length}
+use Prim.Native.Nat.{_+_, _*_}
+use mathlib.Core.Path.{_∙_}
 use denote.Ref.{now}
 use Rattle.y4m_reader.specs.Known.{HasPictures, Stood}
 use Rattle.y4m_reader.proofs.Places.{has-pictures, next-stood, v-there}

@@ -1,13 +1,12 @@
 -- `put_header` meets its contract: the pieces, one after the other, are the line. Assumes nothing.
 use native.Mathlib.Omega.{arith}
 use native.Mathlib.Nat.{zero-add}
-use Prim.Native.Nat.{_+_, _≤_}
-use mathlib.Core.Path.{_≡_, sym, ap, _∙_}
+use mathlib.Core.Path.{_≡_, ap, _∙_}
 use mathlib.Core.List.{_++_}
 use lib.ListN.{length}
 use lib.Seq.{sets}
 use denote.Ref.{now}
-use Rattle.y4m_writer.specs.Text.{codeLine}
+use Rattle.y4m_writer.specs.Known.{codeLine}
 use Rattle.y4m_writer.proofs.Puts.{first, second, first-most, second-most, two-runs, two-places, pieces, line-most}
 use borrow.Author.Needs.{needs}
 use Rattle.y4m_writer.proofs.put_header.Statement.{statement}
@@ -44,14 +43,15 @@ returns c =
     let s = second (a .height) in
     let x = m .put-side in
     let y = n .put-side2 in
-    let both = two-runs (now (a .out)) (x .last .0) (y .last .0) f s 0 (x .result) (y .result) (x .ensures .0) (x .ensures .1) (y .ensures .0) (y .ensures .1) in
-    let place = two-places (now (a .out)) (x .last .0) (y .last .0) f s 0 (x .result) (y .result) (x .ensures .0) (x .ensures .1) (y .ensures .0) (y .ensures .1) in
+    let d = now (a .output) in
+    let both = two-runs d (x .last .0) (y .last .0) f s 0 (x .result) (y .result) (x .ensures .0) (x .ensures .1) (y .ensures .0) (y .ensures .1) in
+    let place = two-places d (x .last .0) (y .last .0) f s 0 (x .result) (y .result) (x .ensures .0) (x .ensures .1) (y .ensures .0) (y .ensures .1) in
     let l = codeLine (a .sampling) in
-    let all = two-runs (now (a .out)) (y .last .0) (k .last .0) (f ++ s) l 0 (y .result) (k .result) both place (k .ensures .0) (k .ensures .1) in
-    let end = two-places (now (a .out)) (y .last .0) (k .last .0) (f ++ s) l 0 (y .result) (k .result) both place (k .ensures .0) (k .ensures .1) in
+    let all = two-runs d (y .last .0) (k .last .0) (f ++ s) l 0 (y .result) (k .result) both place (k .ensures .0) (k .ensures .1) in
+    let end = two-places d (y .last .0) (k .last .0) (f ++ s) l 0 (y .result) (k .result) both place (k .ensures .0) (k .ensures .1) in
     let is = pieces (a .sampling) (a .width) (a .height) in
     let long : k .result ≡ length ((f ++ s) ++ l) = end ∙ zero-add (length ((f ++ s) ++ l)) in (
-      all ∙ ap (λ t. sets (now (a .out)) 0 t) is,
+      all ∙ ap (λ t. sets d 0 t) is,
       (long ∙ ap length is, omega (arith, long, ap length is, line-most (a .sampling) (a .width) (a .height))),
     )
 

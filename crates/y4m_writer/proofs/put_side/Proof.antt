@@ -16,9 +16,10 @@ returns c =
     let t = m .copy-bytes in
     let a = m .before .before .before .before .args in
     let text = now (a .text) in
+    let side = decimal 5 (a .side) in
     let q = a .at + length text in (
-      two-runs (now (a .out)) (t .last .0) (d .last .0) text (decimal 5 (a .side)) (a .at) q (d .result) (t .ensures) refl (d .ensures .0) (d .ensures .1),
-      two-places (now (a .out)) (t .last .0) (d .last .0) text (decimal 5 (a .side)) (a .at) q (d .result) (t .ensures) refl (d .ensures .0) (d .ensures .1),
+      two-runs (now (a .output)) (t .last .0) (d .last .0) text side (a .at) q (d .result) (t .ensures) refl (d .ensures .0) (d .ensures .1),
+      two-places (now (a .output)) (t .last .0) (d .last .0) text side (a .at) q (d .result) (t .ensures) refl (d .ensures .0) (d .ensures .1),
     )
 
 pub put-side-spec : {M : Type 1} → statement M

@@ -8,8 +8,7 @@ use lib.ListN.{length}
 use borrow.Author.Tests.{lt-ltb, le-ltb, not-true, not-false}
 use denote.Ref.{now}
 use Rattle.shift_writer.proofs.Answers.{from-start}
-use Rattle.y4m_file.specs.Check.{planeBytes}
-use Rattle.y4m_writer.specs.Pictures.{samplingOf, canWrite, fileMade}
+use Rattle.y4m_writer.specs.Pictures.{canWrite, fileMade}
 use Rattle.y4m_writer.specs.Writing.{inWord}
 use Rattle.y4m_writer.proofs.Back.{Written, written}
 use Rattle.y4m_writer.proofs.Sizes.{plane-least, count-most, told, not-told}
@@ -18,11 +17,12 @@ use borrow.Author.Needs.{needs}
 use Rattle.y4m_writer.proofs.write_pictures.Statement.{statement}
 use Rattle.y4m_writer.proofs.write_pictures.Tie as tie
 
-accepted : (c : tie.Else1) → let a = c .before .before .before .before .args in canWrite (a .sampling) (a .width) (a .height) (length (now (a .pictures))) ≡ true
+accepted : (c : tie.Else1) → let a = c .before .before .before .before .args in
+    canWrite (a .code) (a .width) (a .height) (length (now (a .pictures))) ≡ true
 accepted c = sym (c .before .can-write .ensures) ∙ not-false _ (c .if1 .left)
 
-known : (c : tie.Else1) → let a = c .before .before .before .before .args in Written (a .sampling) (a .width) (a .height) (now (a .pictures))
-known c = let a = c .before .before .before .before .args in written (a .sampling) (a .width) (a .height) (now (a .pictures)) (accepted c)
+known : (c : tie.Else1) → let a = c .before .before .before .before .args in Written (a .code) (a .width) (a .height) (now (a .pictures))
+known c = let a = c .before .before .before .before .args in written (a .code) (a .width) (a .height) (now (a .pictures)) (accepted c)
 
 -- a picture has three bytes at least
 least : (c : tie.After-plane-bytes) → 3 ≤ c .plane-bytes .result
@@ -34,14 +34,15 @@ least c =
 -- the sum that the code makes is the file's size
 sum-is : (c : tie.After-header-size) → let a = c .before .before .before .before .before .before .before .args in
     c .header-size .result + 6 * (length (now (a .pictures)) / c .before .plane-bytes .result) + length (now (a .pictures))
-    ≡ length (fileMade (a .sampling) (a .width) (a .height) (now (a .pictures)))
+    ≡ length (fileMade (a .code) (a .width) (a .height) (now (a .pictures)))
 sum-is c =
     let p = c .before in
     let a = p .before .before .before .before .before .before .args in
-    size-is (a .sampling) (a .width) (a .height) (now (a .pictures)) (now (a .output)) _ (p .before .sampling-of .ensures) _ (p .plane-bytes .ensures .0) _ (c .header-size .ensures .0) (known (p .before .before))
+    size-is (a .code) (a .width) (a .height) (now (a .pictures)) (now (a .output)) _ (p .before .sampling-of .ensures) _ (p .plane-bytes .ensures .0)
+    _ (c .header-size .ensures .0) (known (p .before .before))
 
 told-is : (c : tie.After-size-or-zero) → let a = c .before .before .before .before .before .before .before .before .args in
-    c .size-or-zero .result ≡ inWord (length (fileMade (a .sampling) (a .width) (a .height) (now (a .pictures))))
+    c .size-or-zero .result ≡ inWord (length (fileMade (a .code) (a .width) (a .height) (now (a .pictures))))
 told-is c = c .size-or-zero .ensures ∙ ap inWord (sum-is (c .before))
 
 returns : tie.Need-returns
@@ -66,18 +67,19 @@ returns-2 c =
     let m = c .before in
     let e = m .before .before .before .before in
     let a = e .before .before .before .before .args in
-    let file = fileMade (a .sampling) (a .width) (a .height) (now (a .pictures)) in
-    let some = file-some (a .sampling) (a .width) (a .height) (now (a .pictures)) in
+    let file = fileMade (a .code) (a .width) (a .height) (now (a .pictures)) in
+    let some = file-some (a .code) (a .width) (a .height) (now (a .pictures)) in
     let large : 2 ^ 64 ≤ length file = not-told (length file) (sym (told-is m) ∙ c .if2 .taken) some in
+    let short : length (now (a .output)) < length file = omega (arith, large, e .before .before .before .before .good .1 .1 .1 .1 .0) in
     record {
-      answered = rw (accepted e, lt-ltb (length (now (a .output))) (length file) (omega (arith, large, e .before .before .before .before .good .1 .1 .1 .1 .0)));
+      answered = rw (accepted e, lt-ltb (length (now (a .output))) (length file) short);
       size = told-is m;
       written = refl;
     }
 
 -- where it is told, it is the file's size
 size-told : (c : tie.Else2) → let a = c .before .before .before .before .before .before .before .before .before .args in
-    c .before .size-or-zero .result ≡ length (fileMade (a .sampling) (a .width) (a .height) (now (a .pictures)))
+    c .before .size-or-zero .result ≡ length (fileMade (a .code) (a .width) (a .height) (now (a .pictures)))
 size-told c = let is = told-is (c .before) in is ∙ told _ (rw (← is) (omega arith))
 
 returns-3 : tie.Need-returns-3
@@ -85,7 +87,7 @@ returns-3 c =
     let m = c .before .before in
     let e = m .before .before .before .before in
     let a = e .before .before .before .before .args in
-    let file = fileMade (a .sampling) (a .width) (a .height) (now (a .pictures)) in
+    let file = fileMade (a .code) (a .width) (a .height) (now (a .pictures)) in
     let is = size-told (c .before) in
     record {
       answered = rw (accepted e, lt-ltb (length (now (a .output))) (length file) (omega arith));
@@ -108,9 +110,14 @@ put-pictures-requires c κs =
     let p = g .before in
     let k = known (p .before .before) in
     let a = p .before .before .before .before .before .before .args in
-    let room = room-is (a .sampling) (a .width) (a .height) (now (a .pictures)) (now (a .output)) _ (p .before .sampling-of .ensures) _ (p .plane-bytes .ensures .0) _ (g .header-size .ensures .0) in
+    let room =
+    room-is (a .code) (a .width) (a .height) (now (a .pictures)) (now (a .output)) _ (p .before .sampling-of .ensures) _ (p .plane-bytes .ensures .0)
+    _ (g .header-size .ensures .0) in
+    let exact =
+    exact-is (a .code) (a .width) (a .height) (now (a .pictures)) (now (a .output)) _ (p .before .sampling-of .ensures) _ (p .plane-bytes .ensures .0)
+    _ (g .header-size .ensures .0) k in
     record {
-      exact = exact-is (a .sampling) (a .width) (a .height) (now (a .pictures)) (now (a .output)) _ (p .before .sampling-of .ensures) _ (p .plane-bytes .ensures .0) _ (g .header-size .ensures .0) k;
+      exact = exact;
       most = p .plane-bytes .ensures .1;
       fit = omega (arith, room, size-told e, w .write-header .kept .0);
     }
@@ -124,9 +131,11 @@ returns-4 c =
     let g = m .before in
     let p = g .before in
     let a = p .before .before .before .before .before .before .args in
-    let file = fileMade (a .sampling) (a .width) (a .height) (now (a .pictures)) in
+    let file = fileMade (a .code) (a .width) (a .height) (now (a .pictures)) in
     let is = size-told e in
-    let put = put-is (a .sampling) (a .width) (a .height) (now (a .pictures)) (now (a .output)) _ (p .before .sampling-of .ensures) _ (p .plane-bytes .ensures .0) _ (g .header-size .ensures .0) _ _ (w .write-header .ensures) (q .put-pictures .ensures) in
+    let put =
+    put-is (a .code) (a .width) (a .height) (now (a .pictures)) (now (a .output)) _ (p .before .sampling-of .ensures) _ (p .plane-bytes .ensures .0)
+    _ (g .header-size .ensures .0) _ _ (w .write-header .ensures) (q .put-pictures .ensures) in
     record {
       answered = rw (accepted (p .before .before), le-ltb (length (now (a .output))) (length file) (omega arith));
       size = told-is m;
