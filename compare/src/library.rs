@@ -7,7 +7,7 @@ use model::shift::{RecordRequest, ShiftForm};
 use model::{Answer, Frame, FrameState, Refusal, Settings, TableRounding, Window};
 use segvartin::{
     BufferStoreMut, FrameDescription, FrameOptions, FrameStateWith, PairDifference, PairSide,
-    RecordSettings, RecordedMatrix, ShiftFile, YuvError, YuvPlanarImageMut, YuvPlane,
+    RecordSettings, RecordedMatrix, ShiftFile, Y4mFile, YuvError, YuvPlanarImageMut, YuvPlane,
 };
 
 pub struct Library;
@@ -378,6 +378,7 @@ impl Converter for Library {
         true
     }
 
+    /// By its numbers, and then by the crate, which must have the same pictures at the same places.
     fn y4m_pictures(&self, file: &[u8], first: u64, entries: &mut [u64]) -> (Answer, [u64; 5]) {
         // What stands there before is not looked at.
         let mut told = [7; 5];
@@ -392,11 +393,33 @@ impl Converter for Library {
                 &mut told,
             )
         };
-        (answered(number, [0, 0]), told.map(|number| number as u64))
+        let (answer, told) = (answered(number, [0, 0]), told.map(|number| number as u64));
+        let opened = Y4mFile::open(file).map_err(refusal);
+        assert_eq!(opened.map(|_| ()), answer, "the crate opens it otherwise");
+        if let Ok(opened) = opened {
+            let sides = [opened.width(), opened.height()].map(u64::from);
+            let (sampling, count) = (sampling_code(opened.sampling()), opened.len() as u64);
+            let has = [sides[0], sides[1], sampling, count];
+            assert_eq!(has, told[..4], "the crate has another file");
+            let pictures = opened.pictures().skip(first as usize);
+            for (picture, numbers) in pictures.zip(entries.chunks_exact(6)) {
+                equal_parts(file, &[picture.y, picture.u, picture.v], numbers);
+            }
+            let one = opened.picture(first as usize);
+            assert_eq!(
+                one,
+                opened.pictures().nth(first as usize),
+                "a picture alone"
+            );
+        }
+        (answer, told)
     }
 
+    /// By its numbers, and then by the crate on a copy, which must come out the same; the crate has no sampling
+    /// without a meaning.
     fn y4m_write(&self, numbers: [u32; 3], pictures: &[u8], output: &mut [u8]) -> (Answer, u64) {
         let mut told = [7; 1];
+        let mut copy = output.to_vec();
         // SAFETY: as above.
         let number = unsafe {
             segvartin_call_y4m_write(
@@ -408,16 +431,26 @@ impl Converter for Library {
                 &mut told,
             )
         };
-        (answered(number, [0, 0]), told[0] as u64)
+        let (answer, [size]) = (answered(number, [0, 0]), told);
+        let [w, h, code] = numbers;
+        if let Some(sampling) = sampling_of(code) {
+            let written = segvartin::write_y4m(w, h, sampling, pictures, &mut copy);
+            assert_eq!(written.map_err(refusal), answer.map(|()| size));
+            assert!(copy == output, "the crate leaves other bytes");
+        }
+        (answer, size as u64)
     }
 
+    /// By its numbers, and then by the crate on a copy, which must come out the same.
     fn y4m_picture(
         &self,
         numbers: [u32; 6],
-        [y, u, v]: &[Vec<u8>; 3],
+        planes: &[Vec<u8>; 3],
         output: &mut [u8],
     ) -> (Answer, u64) {
         let mut told = [7; 1];
+        let mut copy = output.to_vec();
+        let [y, u, v] = planes;
         // SAFETY: as above.
         let number = unsafe {
             segvartin_call_y4m_picture(
@@ -433,7 +466,25 @@ impl Converter for Library {
                 &mut told,
             )
         };
-        (answered(number, [0, 0]), told[0] as u64)
+        let (answer, [size]) = (answered(number, [0, 0]), told);
+        let [width, height, code, y_stride, u_stride, v_stride] = numbers;
+        if let Some(sampling) = sampling_of(code) {
+            let [y_plane, u_plane, v_plane] = planes.clone().map(BufferStoreMut::Owned);
+            let image = YuvPlanarImageMut {
+                y_plane,
+                y_stride,
+                u_plane,
+                u_stride,
+                v_plane,
+                v_stride,
+                width,
+                height,
+            };
+            let made = segvartin::y4m_picture(sampling, &image, &mut copy);
+            assert_eq!(made.map_err(refusal), answer.map(|()| size));
+            assert!(copy == output, "the crate leaves other bytes");
+        }
+        (answer, size as u64)
     }
 }
 
@@ -491,6 +542,15 @@ fn numbers_of(report: &segvartin::PairReport) -> [u64; 18] {
         _ => panic!("a difference of another kind"),
     }
     numbers
+}
+
+/// The crate's value of a code. None: it has no meaning.
+fn sampling_of(code: u32) -> Option<segvartin::YuvChromaSubsampling> {
+    match code {
+        0 => Some(segvartin::YuvChromaSubsampling::Yuv420),
+        1 => Some(segvartin::YuvChromaSubsampling::Yuv422),
+        _ => None,
+    }
 }
 
 fn sampling_code(sampling: segvartin::YuvChromaSubsampling) -> u64 {
@@ -551,11 +611,7 @@ fn equal_records(file: &[u8], record: &segvartin::ShiftRecord, numbers: &[u64]) 
     let has = [record.crossing, record.width, record.height].map(u64::from);
     assert_eq!(has, numbers[..3], "the crate has another record");
     let parts = [record.bytes, record.y, record.u, record.v];
-    for (part, place) in parts.into_iter().zip(numbers[3..11].chunks_exact(2)) {
-        let from = part.as_ptr() as u64 - file.as_ptr() as u64;
-        let is = [from, part.len() as u64];
-        assert_eq!(is, place, "the crate has another part of the file");
-    }
+    equal_parts(file, &parts, &numbers[3..11]);
     let four = match numbers[11..] {
         [a, b, c, d] => [a, b, c, d].map(|code| code as u32),
         _ => conditions::UNSAID.map(u32::from),
@@ -565,6 +621,15 @@ fn equal_records(file: &[u8], record: &segvartin::ShiftRecord, numbers: &[u64]) 
         settings_of(four),
         "the crate has other settings"
     );
+}
+
+/// These are the parts of the file at these offsets, and of these lengths.
+fn equal_parts(file: &[u8], parts: &[&[u8]], numbers: &[u64]) {
+    for (part, place) in parts.iter().zip(numbers.chunks_exact(2)) {
+        let from = part.as_ptr() as u64 - file.as_ptr() as u64;
+        let is = [from, part.len() as u64];
+        assert_eq!(is, place, "the crate has another part of the file");
+    }
 }
 
 /// An exported call that makes a file of other bytes.
