@@ -15,7 +15,8 @@ use Rattle.y4m_writer.specs.Pictures.{samplingOf, canWrite, fileMade}
 use Rattle.y4m_writer.specs.Known.{framesOf, Exact}
 use Rattle.y4m_writer.proofs.Back.{written, made}
 use Rattle.y4m_writer.proofs.Sizes.{plane-least}
-use Rattle.y4m_picture.specs.Means.{planesMade, Begun, Appended}
+use Rattle.y4m_picture.specs.Picture.{pictureMade}
+use Rattle.y4m_picture.specs.Means.{planesMade, Begun, Appended, PictureLent, IsOf, EachOf, callsBytes, callsPlanes, PictureByPicture}
 use Rattle.y4m_picture.proofs.Made.{planes-fit, length-planes}
 
 pub begun : Begun
@@ -76,3 +77,39 @@ appended f y u v e b c =
     let size = length-planes f y u v (planes-fit f (length y) (length u) (length v) e) in
     let p = planesMade f y u v in
     (can-more (f .sampling) (f .width) (f .height) b p size c, file-more (f .sampling) (f .width) (f .height) b p size c)
+
+-- ---- picture by picture
+
+-- planes and bytes that are appended, and the file that they make
+abbrev Grown : (code w h : ℕ) → (planes bytes before : List ℕ) → Type 0
+Grown code w h planes bytes before =
+    (canWrite code w h (length (before ++ planes)) ≡ true) × (fileMade code w h before ++ bytes ≡ fileMade code w h (before ++ planes))
+
+grown-of : (code w h code′ w′ h′ : ℕ) (planes bytes b : List ℕ) → code′ ≡ code → w′ ≡ w → h′ ≡ h
+    → Grown code′ w′ h′ planes bytes b → Grown code w h planes bytes b
+grown-of code w h code′ w′ h′ planes bytes b ec ew eh k = rw (ec, ew, eh) at k
+
+module _ (code w h : ℕ) where
+  -- one picture, of this shape
+  appended-of : (p : PictureLent) → IsOf code w h p → (b : List ℕ) → canWrite code w h (length b) ≡ true
+      → Grown code w h (planesMade (p .frame) (p .y) (p .u) (p .v)) (pictureBytes (pictureMade (p .frame) (p .y) (p .u) (p .v))) b
+  appended-of p i b c =
+      let old : canWrite (p .frame .sampling) (p .frame .width) (p .frame .height) (length b) ≡ true
+      = rw (i .sampling, i .width, i .height) c in
+      grown-of code w h (p .frame .sampling) (p .frame .width) (p .frame .height) _ _ b (i .sampling) (i .width) (i .height)
+      (appended (p .frame) (p .y) (p .u) (p .v) (i .allowed) b old)
+
+  after : (ps : List PictureLent) → EachOf code w h ps → (b : List ℕ) → canWrite code w h (length b) ≡ true
+      → fileMade code w h b ++ callsBytes ps ≡ fileMade code w h (b ++ callsPlanes ps)
+  unfolding callsBytes callsPlanes
+  after [] e b c = rw (append-nil (fileMade code w h b), append-nil b)
+  after (p ∷ ps) e b c =
+      let one = appended-of p (e .0) b c in
+      let planes = planesMade (p .frame) (p .y) (p .u) (p .v) in
+      sym (append-assoc (fileMade code w h b) (pictureBytes (pictureMade (p .frame) (p .y) (p .u) (p .v))) (callsBytes ps))
+      ∙ ap (λ t. t ++ callsBytes ps) (one .1)
+      ∙ after ps (e .1) (b ++ planes) (one .0)
+      ∙ ap (fileMade code w h) (append-assoc b planes (callsPlanes ps))
+
+pub picture-by-picture : PictureByPicture
+picture-by-picture code w h ps e each = after code w h ps each [] (begun code w h e)

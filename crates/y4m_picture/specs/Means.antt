@@ -3,7 +3,7 @@
 use Prim.Native.Nat.{ℕ}
 use mathlib.Core.Path.{_≡_}
 use mathlib.Core.Bool.{true}
-use mathlib.Core.List.{List, _++_}
+use mathlib.Core.List.{List, [], _∷_, _++_}
 use lib.ListN.{length}
 use Rattle.y4m_file.specs.File.{pictureBytes}
 use Rattle.y4m_writer.specs.Pictures.{isShape, canWrite, fileMade}
@@ -24,3 +24,39 @@ Appended = (f : PictureFrame) (y u v : List ℕ) → pictureAllowed f (length y)
     → (b : List ℕ) → canWrite (f .sampling) (f .width) (f .height) (length b) ≡ true
     → let more = b ++ planesMade f y u v in (canWrite (f .sampling) (f .width) (f .height) (length more) ≡ true)
     × (fileMade (f .sampling) (f .width) (f .height) b ++ pictureBytes (pictureMade f y u v) ≡ fileMade (f .sampling) (f .width) (f .height) more)
+
+-- ---- a file made picture by picture
+
+-- RULES 14.7: the planes of one call, and what it is told of them
+pub record PictureLent : Type 0 where
+  pub frame : PictureFrame
+  pub y : List ℕ
+  pub u : List ℕ
+  pub v : List ℕ
+
+-- RULES 14.7: a call that finishes with enough room, its picture of this shape
+pub record IsOf (code w h : ℕ) (p : PictureLent) : Type 0 where
+  pub sampling : p .frame .sampling ≡ code
+  pub width : p .frame .width ≡ w
+  pub height : p .frame .height ≡ h
+  pub allowed : pictureAllowed (p .frame) (length (p .y)) (length (p .u)) (length (p .v)) ≡ true
+
+-- RULES 14.7
+abbrev pub EachOf : (code w h : ℕ) → List PictureLent → Type 0
+EachOf code w h [] = Unit {0}
+EachOf code w h (p ∷ ps) = IsOf code w h p × EachOf code w h ps
+
+-- RULES 14.7: what the calls write, one after the other
+unfoldable pub callsBytes : List PictureLent → List ℕ
+callsBytes [] = []
+callsBytes (p ∷ ps) = pictureBytes (pictureMade (p .frame) (p .y) (p .u) (p .v)) ++ callsBytes ps
+
+-- RULES 14.7: their planes, one after the other
+unfoldable pub callsPlanes : List PictureLent → List ℕ
+callsPlanes [] = []
+callsPlanes (p ∷ ps) = planesMade (p .frame) (p .y) (p .u) (p .v) ++ callsPlanes ps
+
+-- RULES 14.7: after the file of no picture, the calls' bytes make the file of their planes
+abbrev pub PictureByPicture : Type 0
+PictureByPicture = (code w h : ℕ) (ps : List PictureLent) → isShape code w h ≡ true → EachOf code w h ps
+    → fileMade code w h [] ++ callsBytes ps ≡ fileMade code w h (callsPlanes ps)
