@@ -21,9 +21,10 @@ Begun = (code w h : ℕ) → isShape code w h ≡ true → canWrite code w h 0 �
 -- RULES 14.7: a file with a picture after it is the file of its planes with that picture's after them
 abbrev pub Appended : Type 0
 Appended = (f : PictureFrame) (y u v : List ℕ) → pictureAllowed f (length y) (length u) (length v) ≡ true
-    → (b : List ℕ) → canWrite (f .sampling) (f .width) (f .height) (length b) ≡ true
-    → let more = b ++ planesMade f y u v in (canWrite (f .sampling) (f .width) (f .height) (length more) ≡ true)
-    × (fileMade (f .sampling) (f .width) (f .height) b ++ pictureBytes (pictureMade f y u v) ≡ fileMade (f .sampling) (f .width) (f .height) more)
+    → (planes : List ℕ) → canWrite (f .sampling) (f .width) (f .height) (length planes) ≡ true
+    → let more = planes ++ planesMade f y u v in (canWrite (f .sampling) (f .width) (f .height) (length more) ≡ true)
+    × (fileMade (f .sampling) (f .width) (f .height) planes ++ pictureBytes (pictureMade f y u v)
+    ≡ fileMade (f .sampling) (f .width) (f .height) more)
 
 -- ---- a file made picture by picture
 

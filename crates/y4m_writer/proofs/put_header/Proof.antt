@@ -45,7 +45,8 @@ returns c =
     let y = n .put-side2 in
     let d = now (a .output) in
     let both = two-runs d (x .last .0) (y .last .0) f s 0 (x .result) (y .result) (x .ensures .0) (x .ensures .1) (y .ensures .0) (y .ensures .1) in
-    let place = two-places d (x .last .0) (y .last .0) f s 0 (x .result) (y .result) (x .ensures .0) (x .ensures .1) (y .ensures .0) (y .ensures .1) in
+    let place =
+    two-places d (x .last .0) (y .last .0) f s 0 (x .result) (y .result) (x .ensures .0) (x .ensures .1) (y .ensures .0) (y .ensures .1) in
     let l = codeLine (a .sampling) in
     let all = two-runs d (y .last .0) (k .last .0) (f ++ s) l 0 (y .result) (k .result) both place (k .ensures .0) (k .ensures .1) in
     let end = two-places d (y .last .0) (k .last .0) (f ++ s) l 0 (y .result) (k .result) both place (k .ensures .0) (k .ensures .1) in
