@@ -101,6 +101,9 @@ enum {
 #define REFERENCE_SETTINGS 4u
 #define REFERENCE_NOT_RECORDED 255u
 
+/* RULES 14.5: numbers of an entry. */
+#define REFERENCE_Y4M_NUMBERS 6u
+
 /* RULES 10.7: numbers of a report; kinds of its first difference; which file is none. */
 #define REFERENCE_REPORT_NUMBERS 18u
 
@@ -286,5 +289,28 @@ struct reference_answer reference_summary_update(const struct reference_bytes *f
  */
 struct reference_answer reference_shift_pairs(const struct reference_bytes *ours, const struct reference_bytes *theirs,
                                               uint64_t *report, uint64_t *none);
+
+/* RULES 14.5: what reading a Y4M file tells; all 0 where it is refused. */
+struct reference_y4m {
+    uint64_t width;
+    uint64_t height;
+    uint64_t sampling;
+    uint64_t pictures;
+    uint64_t entries;
+};
+
+/* RULES 10.8, 14.5: reads a Y4M file. An entry is REFERENCE_Y4M_NUMBERS of the caller's numbers, of which `given` are lent. It asks 19. */
+struct reference_answer reference_y4m_pictures(const struct reference_bytes *file, uint64_t first, uint64_t *numbers,
+                                               uint64_t given, struct reference_y4m *told);
+
+/* RULES 10.8, 14.6: writes a Y4M file of pictures. It asks 19, 16, and tells the size of the file. */
+struct reference_answer reference_y4m_write(uint32_t width, uint32_t height, uint32_t sampling,
+                                            const struct reference_bytes *pictures, const struct reference_buffer *output,
+                                            uint64_t *size);
+
+/* RULES 10.8, 14.7: makes a picture of REFERENCE_PLANES planes. It asks 19, 16, and tells the size of the picture. */
+struct reference_answer reference_y4m_picture(uint32_t width, uint32_t height, uint32_t sampling,
+                                              const struct reference_plane *planes, const struct reference_buffer *output,
+                                              uint64_t *size);
 
 #endif

@@ -1,6 +1,7 @@
 /*
- * Replays a stored list of calls: `replay frames`, `replay bands`, `replay shift`, `replay summary` or `replay pairs`, the list on
- * standard input, a line for each call on standard output, both as vectors/README.md describes them: LISTS in the comments below.
+ * Replays a stored list of calls: `replay frames`, `replay bands`, `replay shift`, `replay summary`, `replay pairs` or `replay y4m`,
+ * the list on standard input, a line for each call on standard output, both as vectors/README.md describes them: LISTS in the
+ * comments below.
  */
 #include "digest.h"
 #include "reference.h"
@@ -508,12 +509,131 @@ static void replay_pairing(uint32_t line)
     free(their_buffer.bytes);
 }
 
+/* LISTS: a reading of a Y4M file and its line (RULES 14.5). */
+static void replay_y4m_reading(void)
+{
+    uint32_t length = read_number();
+    uint64_t first = read_number();
+    uint64_t numbers[MOST_LENT];
+    struct reference_buffer buffer;
+    struct reference_bytes file;
+    struct reference_answer answer;
+    struct reference_y4m told;
+    uint32_t given;
+    uint32_t place;
+
+    first |= (uint64_t)read_number() << 32;
+    given = read_number();
+    if (given > MOST_LENT) {
+        fail("a call is lent more numbers than there are");
+    }
+    for (place = 0; place < MOST_LENT; place++) {
+        numbers[place] = LENT;
+    }
+    buffer = read_buffer(length);
+    file.bytes = buffer.bytes;
+    file.length = buffer.length;
+    answer = reference_y4m_pictures(&file, first, numbers, given, &told);
+    print_answer(&answer);
+    printf(" width=%llu height=%llu", (unsigned long long)told.width, (unsigned long long)told.height);
+    printf(" sampling=%llu count=%llu", (unsigned long long)told.sampling, (unsigned long long)told.pictures);
+    printf(" told=%llu entries", (unsigned long long)told.entries);
+    for (place = 0; place < given; place++) {
+        printf(" %llu", (unsigned long long)numbers[place]);
+    }
+    free(buffer.bytes);
+}
+
+/* LISTS: a writing of a Y4M file and its line (RULES 14.6). */
+static void replay_y4m_writing(void)
+{
+    uint32_t length = read_number();
+    uint32_t output_length = read_number();
+    uint32_t width = read_number();
+    uint32_t height = read_number();
+    uint32_t sampling = read_number();
+    struct reference_buffer buffer = read_buffer(length);
+    struct reference_buffer output = read_buffer(output_length);
+    struct reference_bytes pictures;
+    struct reference_answer answer;
+    uint64_t size;
+
+    pictures.bytes = buffer.bytes;
+    pictures.length = buffer.length;
+    answer = reference_y4m_write(width, height, sampling, &pictures, &output, &size);
+    print_answer(&answer);
+    print_output(size, &output);
+    free(buffer.bytes);
+    free(output.bytes);
+}
+
+/* LISTS: a picture of a Y4M file from planes and its line (RULES 14.7). */
+static void replay_y4m_picture(void)
+{
+    uint32_t lengths[4];
+    uint32_t width;
+    uint32_t height;
+    uint32_t sampling;
+    struct reference_plane planes[REFERENCE_PLANES];
+    struct reference_buffer buffers[REFERENCE_PLANES];
+    struct reference_buffer output;
+    struct reference_answer answer;
+    uint64_t size;
+    unsigned plane;
+
+    for (plane = 0; plane < 4; plane++) {
+        lengths[plane] = read_number();
+    }
+    width = read_number();
+    height = read_number();
+    sampling = read_number();
+    for (plane = 0; plane < REFERENCE_PLANES; plane++) {
+        planes[plane].stride = read_number();
+    }
+    for (plane = 0; plane < REFERENCE_PLANES; plane++) {
+        buffers[plane] = read_buffer(lengths[plane]);
+        planes[plane].bytes = buffers[plane].bytes;
+        planes[plane].length = buffers[plane].length;
+    }
+    output = read_buffer(lengths[REFERENCE_PLANES]);
+    answer = reference_y4m_picture(width, height, sampling, planes, &output, &size);
+    print_answer(&answer);
+    print_output(size, &output);
+    for (plane = 0; plane < REFERENCE_PLANES; plane++) {
+        free(buffers[plane].bytes);
+    }
+    free(output.bytes);
+}
+
+/* LISTS: a call on a Y4M file; its first number says which. */
+static void replay_y4m(uint32_t line)
+{
+    uint32_t call = read_number();
+
+    printf("%lu", (unsigned long)line);
+    switch (call) {
+    case 0:
+        replay_y4m_reading();
+        break;
+    case 1:
+        replay_y4m_writing();
+        break;
+    case 2:
+        replay_y4m_picture();
+        break;
+    default:
+        fail("a call on a Y4M file that is none of the three");
+    }
+    printf("\n");
+}
+
 /* LISTS: how many calls or sequences there are, and these; lines count from 1. */
 int main(int count, char **arguments)
 {
-    enum { LISTS = 5 };
-    static const char *const names[LISTS] = {"frames", "bands", "shift", "summary", "pairs"};
-    static void (*const replays[LISTS])(uint32_t) = {replay_frame, replay_sequence, replay_shift, replay_summary, replay_pairing};
+    enum { LISTS = 6 };
+    static const char *const names[LISTS] = {"frames", "bands", "shift", "summary", "pairs", "y4m"};
+    static void (*const replays[LISTS])(uint32_t) = {replay_frame,   replay_sequence, replay_shift,
+                                                     replay_summary, replay_pairing,  replay_y4m};
     unsigned list = 0;
     uint32_t calls;
     uint32_t line;
@@ -522,7 +642,7 @@ int main(int count, char **arguments)
         list++;
     }
     if (list == LISTS) {
-        fputs("usage: replay frames|bands|shift|summary|pairs < list\n", stderr);
+        fputs("usage: replay frames|bands|shift|summary|pairs|y4m < list\n", stderr);
         return EXIT_FAILURE;
     }
     reference_make_tables(&tables);
