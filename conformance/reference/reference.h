@@ -1,6 +1,6 @@
 /*
- * Conversion of 8-bit RGB frames to Y, U and V planes, the shift file that holds such planes, its summary, and two such files
- * paired, as docs/RULES.md states them.
+ * Conversion of 8-bit RGB frames to Y, U and V planes, the shift file that holds such planes, its summary, two such files paired,
+ * and the Y4M file that viewers take, as docs/RULES.md states them.
  *
  * Whole numbers only: kr and kb are handed over by their bits, and no floating-point type is used. Nothing is allocated and
  * nothing is kept between calls: the caller owns the tables, the buffers and the state of a frame that comes in bands.
@@ -61,6 +61,7 @@ enum {
     REFERENCE_ACCEPTED = 0,
     REFERENCE_BAD_LAYOUT = 15,    /* RULES 11.3, 11.6, 12.7, 13.4 */
     REFERENCE_BAD_SUMMARY = 17,   /* RULES 12.4, 12.6, 12.7 */
+    REFERENCE_BAD_Y4M = 19,       /* RULES 14.4, 14.6, 14.7 */
     REFERENCE_BAD_CODE = 1,       /* RULES 9.2, 9.4, 10.2, 10.4 */
     REFERENCE_EMPTY = 2,          /* RULES 7.3 */
     REFERENCE_TOO_LARGE = 3,      /* RULES 7.3 */
@@ -76,7 +77,7 @@ enum {
     REFERENCE_NOT_WHOLE = 12,     /* RULES 7.7 */
     REFERENCE_SHORT_CARRIED = 13, /* RULES 8.4 */
     REFERENCE_RECORDED = 20,      /* RULES 11.8 */
-    REFERENCE_SHORT_OUTPUT = 16   /* RULES 11.5, 11.6, 11.8 */
+    REFERENCE_SHORT_OUTPUT = 16   /* RULES 11.5, 11.6, 11.8, 14.6, 14.7 */
 };
 
 /* RULES 7.3: largest width and height, of a frame and of its source. */
@@ -169,13 +170,13 @@ struct reference_planes {
     struct reference_buffer v;
 };
 
-/* RULES 11.3, 12.5: bytes that are only read: those of a shift file, records, or a summary. */
+/* RULES 11.3, 12.5, 14.5: bytes that are only read: those of a shift file, records, a summary, a Y4M file, or its pictures. */
 struct reference_bytes {
     const uint8_t *bytes;
     uint64_t length;
 };
 
-/* RULES 11.6: a plane that is only read. */
+/* RULES 11.6, 14.7: a plane that is only read. */
 struct reference_plane {
     const uint8_t *bytes;
     uint64_t length;
@@ -299,7 +300,7 @@ struct reference_y4m {
     uint64_t entries;
 };
 
-/* RULES 10.8, 14.5: reads a Y4M file. An entry is REFERENCE_Y4M_NUMBERS of the caller's numbers, of which `given` are lent. It asks 19. */
+/* RULES 10.8, 14.5: reads a Y4M file. An entry is REFERENCE_Y4M_NUMBERS of the caller's numbers; `given` are lent. It asks 19. */
 struct reference_answer reference_y4m_pictures(const struct reference_bytes *file, uint64_t first, uint64_t *numbers,
                                                uint64_t given, struct reference_y4m *told);
 
