@@ -7,7 +7,7 @@ use std::hint::black_box;
 /// Of 1,920 x 1,080: 933 MB in 4:2:0, and as many for the file.
 const PICTURES: usize = 300;
 
-const TURNS: usize = 7;
+const TURNS: usize = 15;
 const TURNS_OF_CHECKS: usize = 200;
 const TURNS_OF_PICTURES: usize = 200;
 
@@ -63,7 +63,7 @@ impl File {
         self.file[start..].copy_from_slice(&self.planes);
     }
 
-    /// Picture by picture, each to its place. libc copies many megabytes at once past the caches, and these through them.
+    /// Picture by picture, each to its place. Where libc copies very many bytes at once past the caches, these still go through them.
     fn copied_by_pictures(&mut self) {
         let each = self.each();
         let start = self.file.len() - self.count * (6 + each);
@@ -128,8 +128,7 @@ pub fn report(bars: &mut Bars) {
         file.check();
         let size = file.planes.len();
         let large = size > 100_000_000;
-        let turns = if large { TURNS } else { 30 * TURNS };
-        let [copied, by_pictures, written] = least(&mut file, turns, [&File::copied, &File::copied_by_pictures, &File::ours]);
+        let [copied, by_pictures, written] = least(&mut file, TURNS, [&File::copied, &File::copied_by_pictures, &File::ours]);
         // What the caches hold is shown only.
         let said = if large { bars.hold(written <= MOST_OVER_COPY * copied) } else { "" };
         println!(
