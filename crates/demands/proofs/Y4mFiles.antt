@@ -384,6 +384,7 @@ y4m-files = record {
   read = λ file first before r after p f i. (done file first before r after p f i, tells file first before r after p f i);
   write-refused = write-19;
   write-short = write-16;
+  write-size = λ code w h b before r after p. (λ z. p .size ∙ rw z, λ z. p .size ∙ rw z);
   written = λ code w h b before r after p most is.
       ((fileFrom code w h b, written-is code w h b before r after p most is), front code w h b before r after p most is .1);
   written-read = λ code w h b before r after p most is first before₂ r₂ after₂ q.
@@ -392,6 +393,7 @@ y4m-files = record {
       (done _ first before₂ r₂ after₂ q f (o .is-file), (f, o, tells _ first before₂ r₂ after₂ q f (o .is-file)));
   picture-refused = picture-19;
   picture-short = picture-16;
+  picture-size = λ f y u v before r after p. (λ z. p .size ∙ rw z, λ z. p .size ∙ rw z);
   picture-written = picture-front;
   one-by-one = λ code w h b before r after p most is ks q.
       let all = all-more code w h b (tests code w h b before r after p most is .0) ks q in

@@ -98,7 +98,7 @@ use Rattle.y4m_reader.specs.Entry.{pictureOf}
 use Rattle.y4m_reader.specs.Reading.{fileRules as y4mFileRules, ReadPost as Y4mReadPost}
 use Rattle.y4m_writer.specs.declared.Y4mWritten.{Y4mWritten}
 use Rattle.y4m_writer.specs.Pictures.{samplingOf as y4mSampling, fileMade as y4mMade, planesOf}
-use Rattle.y4m_writer.specs.Writing.{writeRules as y4mWriteRules, WritePost as Y4mWritePost}
+use Rattle.y4m_writer.specs.Writing.{inWord, writeRules as y4mWriteRules, WritePost as Y4mWritePost}
 use Rattle.y4m_picture.specs.declared.PictureFrame.{PictureFrame}
 use Rattle.y4m_picture.specs.Picture.{chromaRows as pictureRows, pictureMade, pictureRules, PicturePost}
 use Rattle.y4m_picture.specs.Means.{planesMade}
@@ -664,19 +664,22 @@ pub record Y4mFiles : Type 0 where
   pub rewritten : Y4mRewritten
   -- the file of no picture of 4 × 2 is YUV4MPEG2 W4 H2 F25:1 Ip C420jpeg and a newline
   pub line : y4mMade 0 4 2 []
-      ≡ 89 ∷ 85 ∷ 86 ∷ 52 ∷ 77 ∷ 80 ∷ 69 ∷ 71 ∷ 50 ∷ 32 ∷ 87 ∷ 52 ∷ 32 ∷ 72 ∷ 50 ∷ 32 ∷ 70 ∷ 50 ∷ 53 ∷ 58 ∷ 49 ∷ 32 ∷ 73 ∷ 112 ∷ 32 ∷ 67 ∷ 52 ∷ 50 ∷ 48
-      ∷ 106 ∷ 112 ∷ 101 ∷ 103 ∷ 10 ∷ []
+      ≡ 89 ∷ 85 ∷ 86 ∷ 52 ∷ 77 ∷ 80 ∷ 69 ∷ 71 ∷ 50 ∷ 32 ∷ 87 ∷ 52 ∷ 32 ∷ 72 ∷ 50 ∷ 32 ∷ 70 ∷ 50 ∷ 53 ∷ 58 ∷ 49 ∷ 32 ∷ 73 ∷ 112 ∷ 32 ∷ 67 ∷ 52 ∷ 50
+      ∷ 48 ∷ 106 ∷ 112 ∷ 101 ∷ 103 ∷ 10 ∷ []
   -- of reading: 19, and otherwise everything that is told
   pub refused : (file : List ℕ) (first : ℕ) (before : List ℕ) (r : Y4mReading) (after : List ℕ) → Y4mReadPost file first before r after
       → (numbersOf (r .answer) .number ≡ 19) ↔ NoY4m file
   pub read : (file : List ℕ) (first : ℕ) (before : List ℕ) (r : Y4mReading) (after : List ℕ) → Y4mReadPost file first before r after
       → (f : Y4mFile) → IsY4mOf file f → (r .answer ≡ Finished) × Y4mTold file f first before r after
-  -- of writing: 19, then 16, and otherwise the file of these planes. No buffer has 2^64 bytes.
+  -- of writing: 19, then 16, which tells the size, and otherwise the file of these planes. No buffer has 2^64 bytes.
   pub write-refused : (code w h : ℕ) (pictures before : List ℕ) (r : Y4mWritten) (after : List ℕ) → Y4mWritePost code w h pictures before r after
       → (numbersOf (r .answer) .number ≡ 19) ↔ NoPictures code w h pictures
   pub write-short : (code w h : ℕ) (pictures before : List ℕ) (r : Y4mWritten) (after : List ℕ) → Y4mWritePost code w h pictures before r after
       → (ps : List Y4mPicture) → PicturesIn code w h pictures ps
       → (numbersOf (r .answer) .number ≡ 16) ↔ (length before < length (y4mMade code w h pictures))
+  pub write-size : (code w h : ℕ) (pictures before : List ℕ) (r : Y4mWritten) (after : List ℕ) → Y4mWritePost code w h pictures before r after
+      → (numbersOf (r .answer) .number ≡ 16 → r .size ≡ inWord (length (y4mMade code w h pictures)))
+      × (numbersOf (r .answer) .number ≡ 19 → r .size ≡ 0)
   pub written : (code w h : ℕ) (pictures before : List ℕ) (r : Y4mWritten) (after : List ℕ) → Y4mWritePost code w h pictures before r after
       → length before < 2 ^ 64 → r .answer ≡ Finished
       → ((f : Y4mFile) × Y4mOf code w h pictures (take (r .size) after) f) × (drop (r .size) after ≡ drop (r .size) before)
@@ -691,6 +694,9 @@ pub record Y4mFiles : Type 0 where
       → (numbersOf (r .answer) .number ≡ 19) ↔ (WholePicture f y u v → ⊥)
   pub picture-short : (f : PictureFrame) (y u v before : List ℕ) (r : Y4mWritten) (after : List ℕ) → PicturePost f y u v before r after
       → WholePicture f y u v → (numbersOf (r .answer) .number ≡ 16) ↔ (length before < length (pictureBytes (pictureMade f y u v)))
+  pub picture-size : (f : PictureFrame) (y u v before : List ℕ) (r : Y4mWritten) (after : List ℕ) → PicturePost f y u v before r after
+      → (numbersOf (r .answer) .number ≡ 16 → r .size ≡ length (pictureBytes (pictureMade f y u v)))
+      × (numbersOf (r .answer) .number ≡ 19 → r .size ≡ 0)
   pub picture-written : (f : PictureFrame) (y u v before : List ℕ) (r : Y4mWritten) (after : List ℕ) → PicturePost f y u v before r after
       → r .answer ≡ Finished
       → (take (r .size) after ≡ pictureBytes (pictureMade f y u v)) × (drop (r .size) after ≡ drop (r .size) before)
