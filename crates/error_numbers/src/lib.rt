@@ -37,6 +37,7 @@ pub fn error_numbers(e: YuvError) -> AnswerNumbers
         YuvError::MalformedShiftFile => AnswerNumbers { number: 15, size },
         YuvError::OutputTooShort => AnswerNumbers { number: 16, size },
         YuvError::SummaryMismatch => AnswerNumbers { number: 17, size },
+        YuvError::PartsMismatch => AnswerNumbers { number: 18, size },
         YuvError::MalformedY4m => AnswerNumbers { number: 19, size },
         YuvError::SettingsRecorded => AnswerNumbers { number: 20, size },
     }

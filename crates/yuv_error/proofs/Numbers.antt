@@ -11,7 +11,8 @@ use Rattle.yuv_error.specs.declared.YuvError.the-variants.{MalformedRequ
 use Rattle.yuv_error.specs.declared.YuvError.the-variants.{DestinationSizeMismatch, MinimumStrideSizeMismatch, LumaPlaneMinimumSizeMismatch}
 use Rattle.yuv_error.specs.declared.YuvError.the-variants.{LumaPlaneSizeMismatch, UPlaneMinimumSizeMismatch, VPlaneMinimumSizeMismatch}
 use Rattle.yuv_error.specs.declared.YuvError.the-variants.{WholeRowsMismatch, CarriedRowSizeMismatch, WindowOutsideSource}
-use Rattle.yuv_error.specs.declared.YuvError.the-variants.{MalformedShiftFile, OutputTooShort, SummaryMismatch, MalformedY4m, SettingsRecorded}
+use Rattle.yuv_error.specs.declared.YuvError.the-variants.{MalformedShiftFile, OutputTooShort, SummaryMismatch, PartsMismatch, MalformedY4m}
+use Rattle.yuv_error.specs.declared.YuvError.the-variants.{SettingsRecorded}
 use Rattle.yuv_error.specs.declared.YuvAnswer.{YuvAnswer}
 use Rattle.yuv_error.specs.declared.YuvAnswer.the-variants.{Finished, Refused}
 
@@ -34,6 +35,7 @@ found (Refused WindowOutsideSource) = refl
 found (Refused MalformedShiftFile) = refl
 found (Refused OutputTooShort) = refl
 found (Refused SummaryMismatch) = refl
+found (Refused PartsMismatch) = refl
 found (Refused MalformedY4m) = refl
 found (Refused SettingsRecorded) = refl
 

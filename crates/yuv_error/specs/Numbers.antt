@@ -9,7 +9,8 @@ use Rattle.yuv_error.specs.declared.YuvError.the-variants.{MalformedRequ
 use Rattle.yuv_error.specs.declared.YuvError.the-variants.{DestinationSizeMismatch, MinimumStrideSizeMismatch, LumaPlaneMinimumSizeMismatch}
 use Rattle.yuv_error.specs.declared.YuvError.the-variants.{LumaPlaneSizeMismatch, UPlaneMinimumSizeMismatch, VPlaneMinimumSizeMismatch}
 use Rattle.yuv_error.specs.declared.YuvError.the-variants.{WholeRowsMismatch, CarriedRowSizeMismatch, WindowOutsideSource}
-use Rattle.yuv_error.specs.declared.YuvError.the-variants.{MalformedShiftFile, OutputTooShort, SummaryMismatch, MalformedY4m, SettingsRecorded}
+use Rattle.yuv_error.specs.declared.YuvError.the-variants.{MalformedShiftFile, OutputTooShort, SummaryMismatch, PartsMismatch, MalformedY4m}
+use Rattle.yuv_error.specs.declared.YuvError.the-variants.{SettingsRecorded}
 use Rattle.yuv_error.specs.declared.YuvAnswer.{YuvAnswer}
 use Rattle.yuv_error.specs.declared.YuvAnswer.the-variants.{Finished, Refused}
 
@@ -46,6 +47,7 @@ errorNumbers WindowOutsideSource = numbers 14 0 0
 errorNumbers MalformedShiftFile = numbers 15 0 0
 errorNumbers OutputTooShort = numbers 16 0 0
 errorNumbers SummaryMismatch = numbers 17 0 0
+errorNumbers PartsMismatch = numbers 18 0 0
 errorNumbers MalformedY4m = numbers 19 0 0
 errorNumbers SettingsRecorded = numbers 20 0 0
 
@@ -54,7 +56,7 @@ abbrev pub numbersOf : YuvAnswer → Numbers
 numbersOf Finished = numbers 0 0 0
 numbersOf (Refused e) = errorNumbers e
 
--- RULES 7.1: the answers by number, each with the size m where it carries one; 18 is no answer's
+-- RULES 7.1: the answers by number, each with the size m where it carries one
 abbrev pub answers : MismatchedSize → List YuvAnswer
 answers m =
     Finished ∷
@@ -75,7 +77,7 @@ answers m =
     Refused MalformedShiftFile ∷
     Refused OutputTooShort ∷
     Refused SummaryMismatch ∷
-    Finished ∷
+    Refused PartsMismatch ∷
     Refused MalformedY4m ∷
     Refused SettingsRecorded ∷ []
 

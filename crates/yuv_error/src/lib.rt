@@ -41,6 +41,7 @@ pub enum YuvError {
     MalformedShiftFile,
     OutputTooShort,
     SummaryMismatch,
+    PartsMismatch,
     MalformedY4m,
     SettingsRecorded,
 }

@@ -63,10 +63,14 @@ returns-18 c = sym (ap errorNumbers (c .enum-told10 .given .1))
 returns-19 : tie.Need-returns-19
 returns-19 c = sym (ap errorNumbers (c .enum-told11 .given .1))
 
+returns-20 : tie.Need-returns-20
+returns-20 c = sym (ap errorNumbers (c .enum-told12 .given .1))
+
 pub error-numbers-spec : {M : Type 1} → statement M
 error-numbers-spec =
     tie.close
     (tie.spec
+    (λ c. search needs)
     (λ c. search needs)
     (λ c. search needs)
     (λ c. search needs)
@@ -104,4 +108,5 @@ error-numbers-spec =
     returns-16
     returns-17
     returns-18
-    returns-19)
+    returns-19
+    returns-20)
