@@ -1,0 +1,96 @@
+-- Bytes of a part, replaced and read again.
+-- Assumes nothing.
+use Prim.Native.Nat.{ℕ, _+_, _-_, _≤_, _<_}
+use mathlib.Core.Path.{_≡_, refl, sym, ap, subst, _∙_}
+use mathlib.Core.Bool.{Bool, true, false}
+use mathlib.Core.List.{List, _++_}
+use native.Mathlib.Omega.{arith}
+use borrow.Author.Tests.{ltb-true, ltb-false}
+use borrow.Rule.Slice.PartMut.{putMid, post-is}
+use lib.Dec.{ltb}
+use lib.ListN.{length, getD, take, drop, length-take, length-drop, length-append, take-append-drop, List·getD-append}
+use lib.Seq.{length-take-le, drop-drop, drop-at, take-at, getD-take, getD-drop, getD-append-add, ext-getD}
+use Rattle.buffer_parts.specs.declared.BufferPart.{BufferPart}
+use Rattle.buffer_parts.specs.Parts.{InPart, Inside, Overlap, partOf, withPart, Elsewhere}
+
+pub part-length : (p : BufferPart) (buffer : List ℕ) → Inside p (length buffer) → length (partOf p buffer) ≡ p .length
+part-length p buffer inside = simp (length-take, length-drop) (omega arith)
+
+-- byte i of a part
+pub part-byte : (p : BufferPart) (buffer : List ℕ) (i : ℕ) → i < p .length → getD (partOf p buffer) i 0 ≡ getD buffer (p .offset + i) 0
+part-byte p buffer i l = getD-take (p .length) (drop (p .offset) buffer) i 0 l ∙ getD-drop (p .offset) buffer i 0
+
+-- bytes that were lent from `offset` to the part's end, and came back
+pub put-is : (p : BufferPart) (buffer bytes : List ℕ)
+    → putMid (p .offset) (p .offset + p .length - p .offset) buffer bytes ≡ withPart p buffer bytes
+unfolding withPart
+put-is p buffer bytes = ap (λ (l : List ℕ). take (p .offset) buffer ++ (bytes ++ l)) (post-is (p .offset) (p .offset + p .length) buffer (omega arith))
+
+-- a part put back as it was
+pub with-same : (p : BufferPart) (buffer : List ℕ) → withPart p buffer (partOf p buffer) ≡ buffer
+unfolding withPart
+with-same p buffer =
+    ap (λ (l : List ℕ). take (p .offset) buffer ++ (partOf p buffer ++ l)) (sym (drop-drop (p .length) (p .offset) buffer))
+    ∙ ap (λ (l : List ℕ). take (p .offset) buffer ++ l) (take-append-drop (p .length) (drop (p .offset) buffer))
+    ∙ take-append-drop (p .offset) buffer
+
+module _ (p : BufferPart) (buffer bytes : List ℕ) (inside : Inside p (length buffer)) (size : length bytes ≡ p .length) where
+  front : length (take (p .offset) buffer) ≡ p .offset
+  front = length-take-le (p .offset) buffer (omega arith)
+
+  abbrev behind : List ℕ
+  behind = drop (p .offset + p .length) buffer
+
+  pub with-part : partOf p (withPart p buffer bytes) ≡ bytes
+  unfolding withPart
+  with-part =
+      ap (take (p .length)) (drop-at (take (p .offset) buffer) (bytes ++ behind) (p .offset) front)
+      ∙ take-at bytes behind (p .length) size
+
+  pub with-length : length (withPart p buffer bytes) ≡ length buffer
+  unfolding withPart
+  with-length = simp (length-append, length-drop) (omega (arith, front))
+
+  before : (i : ℕ) → i < p .offset → getD (withPart p buffer bytes) i 0 ≡ getD buffer i 0
+  unfolding withPart
+  before i l = List·getD-append (take (p .offset) buffer) (bytes ++ behind) 0 i (omega (arith, front)) ∙ getD-take (p .offset) buffer i 0 l
+
+  after : (q : ℕ) → getD (withPart p buffer bytes) (p .offset + (p .length + q)) 0 ≡ getD buffer (p .offset + p .length + q) 0
+  unfolding withPart
+  after q =
+      ap (λ (n : ℕ). getD (take (p .offset) buffer ++ (bytes ++ behind)) (n + (p .length + q)) 0) (sym front)
+      ∙ getD-append-add (take (p .offset) buffer) (bytes ++ behind) (p .length + q) 0
+      ∙ ap (λ (n : ℕ). getD (bytes ++ behind) (n + q) 0) (sym size)
+      ∙ getD-append-add bytes behind q 0
+      ∙ getD-drop (p .offset + p .length) buffer q 0
+
+  pub with-elsewhere : Elsewhere p buffer (withPart p buffer bytes)
+  with-elsewhere = record {
+    size = with-length;
+    byte = λ i out. by-place i out (ltb i (p .offset)) refl;
+  }
+    where
+      by-place : (i : ℕ) → (InPart p i → ⊥) → (b : Bool) → ltb i (p .offset) ≡ b → getD (withPart p buffer bytes) i 0 ≡ getD buffer i 0
+      by-place i out true e = before i (ltb-true i (p .offset) e)
+      by-place i out false e = by-end i (ltb-false i (p .offset) e) out (ltb i (p .offset + p .length)) refl
+        where
+          by-end : (i : ℕ) → p .offset ≤ i → (InPart p i → ⊥) → (b : Bool) → ltb i (p .offset + p .length) ≡ b
+              → getD (withPart p buffer bytes) i 0 ≡ getD buffer i 0
+          by-end i least out true e = absurd (out (least, ltb-true i (p .offset + p .length) e))
+          by-end i least out false e =
+              let most = ltb-false i (p .offset + p .length) e in
+              let q = i - (p .offset + p .length) in
+              let there : p .offset + (p .length + q) ≡ i = omega arith in
+              let same : p .offset + p .length + q ≡ i = omega arith in
+              subst (λ (j : ℕ). getD (withPart p buffer bytes) j 0 ≡ getD buffer i 0) there (after q ∙ ap (λ (j : ℕ). getD buffer j 0) same)
+
+-- a part keeps its bytes where only bytes of another are written, and none is of both
+pub part-kept : (p q : BufferPart) (before after : List ℕ) → Elsewhere p before after → (Overlap p q → ⊥) → partOf q after ≡ partOf q before
+part-kept p q before after others apart =
+    ext-getD 0 _ _ (simp (length-take, length-drop) (rw (others .size))) (λ i l. byte i (omega (arith, length-take (q .length) (drop (q .offset) after))))
+  where
+    byte : (i : ℕ) → i < q .length → getD (partOf q after) i 0 ≡ getD (partOf q before) i 0
+    byte i l =
+        part-byte q after i l
+        ∙ others .byte (q .offset + i) (λ x. apart (q .offset + i, (x, (omega arith, omega arith))))
+        ∙ sym (part-byte q before i l)

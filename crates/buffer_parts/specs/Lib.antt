@@ -1,0 +1,2 @@
+-- Parts of a lent buffer.
+pub mod Parts
