@@ -13,10 +13,12 @@ pub struct BufferPart {
 pub fn is_inside(part: BufferPart, len: usize) -> bool
     ensures { λ r. ⌜ r ≡ isInside part len ⌝ }
 {
-    if len < part.offset {
+    let offset = part.offset;
+    let length = part.length;
+    if len < offset {
         return false;
     }
-    part.length <= len - part.offset
+    length <= len - offset
 }
 
 // Whether two parts of one buffer share a byte. Parts that touch do not, and one of no bytes does with none.

@@ -13,12 +13,12 @@ use Rattle.buffer_parts.proofs.is_inside.Tie as tie
 
 returns : tie.Need-returns
 returns c =
-    let a = c .before .before .args in
+    let a = c .before .args in
     sym (lt-leb (a .part .offset + a .part .length) (a .len) (omega arith))
 
 returns-2 : tie.Need-returns-2
 returns-2 c =
-    let a = c .before .before .before .before .args in
+    let a = c .before .args in
     let p = a .part in
     same-test (leb (p .length) (a .len - p .offset)) (isInside p (a .len))
     (λ e. le-leb (p .offset + p .length) (a .len) (omega (arith, leb-true (p .length) (a .len - p .offset) e)))
