@@ -1,0 +1,4 @@
+-- A convoy of frames in one call.
+pub mod Run
+pub mod Alone
+pub mod Called

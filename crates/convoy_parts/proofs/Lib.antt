@@ -1,0 +1,3 @@
+-- Laws of the frames of a convoy.
+pub mod Frames
+pub mod Broken

@@ -1,0 +1,2 @@
+-- The frames of a convoy.
+pub mod Parts
