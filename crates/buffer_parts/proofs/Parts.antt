@@ -6,7 +6,7 @@ use mathlib.Core.Bool.{Bool, true, false}
 use mathlib.Core.List.{List, _++_}
 use native.Mathlib.Omega.{arith}
 use borrow.Author.Tests.{ltb-true, ltb-false}
-use borrow.Rule.Slice.PartMut.{putMid, post-is}
+use borrow.Rule.Slice.PartMut.{putMid}
 use lib.Dec.{ltb}
 use lib.ListN.{length, getD, take, drop, length-take, length-drop, length-append, take-append-drop, List·getD-append}
 use lib.Seq.{length-take-le, drop-drop, drop-at, take-at, getD-take, getD-drop, getD-append-add, ext-getD}
@@ -20,11 +20,16 @@ part-length p buffer inside = simp (length-take, length-drop) (omega arith)
 pub part-byte : (p : BufferPart) (buffer : List ℕ) (i : ℕ) → i < p .length → getD (partOf p buffer) i 0 ≡ getD buffer (p .offset + i) 0
 part-byte p buffer i l = getD-take (p .length) (drop (p .offset) buffer) i 0 l ∙ getD-drop (p .offset) buffer i 0
 
--- bytes that were lent from `offset` to the part's end, and came back
-pub put-is : (p : BufferPart) (buffer bytes : List ℕ)
-    → putMid (p .offset) (p .offset + p .length - p .offset) buffer bytes ≡ withPart p buffer bytes
+-- from the offset to the end there are `length` bytes
+pub part-size : (p : BufferPart) → p .offset + p .length - p .offset ≡ p .length
+part-size p = omega arith
+
+-- bytes that were lent as a part of a slice, and came back
+pub put-is : (p : BufferPart) {k : ℕ} (buffer bytes : List ℕ) → k ≡ p .length → putMid (p .offset) k buffer bytes ≡ withPart p buffer bytes
 unfolding withPart
-put-is p buffer bytes = ap (λ (l : List ℕ). take (p .offset) buffer ++ (bytes ++ l)) (post-is (p .offset) (p .offset + p .length) buffer (omega arith))
+put-is p {k} buffer bytes e =
+    ap (λ (n : ℕ). putMid (p .offset) n buffer bytes) e
+    ∙ ap (λ (l : List ℕ). take (p .offset) buffer ++ (bytes ++ l)) (drop-drop (p .length) (p .offset) buffer)
 
 -- a part put back as it was
 pub with-same : (p : BufferPart) (buffer : List ℕ) → withPart p buffer (partOf p buffer) ≡ buffer

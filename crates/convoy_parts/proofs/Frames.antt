@@ -38,7 +38,6 @@ given-at c j l = frames-at c 0 (c .count) j l ∙ ap (frameAt c) (let e : 0 + j 
 
 -- ---- a test of the frames from k on, by that of frame k
 
-
 module _ (test : ConvoyFrame → Bool) (c : Convoy) (k count : ℕ) (l : k < count) where
   abbrev later : Bool
   later = anyFrame test (framesFrom c (k + 1) (count - (k + 1)))

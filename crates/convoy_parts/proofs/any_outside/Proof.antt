@@ -32,9 +32,11 @@ loop-again : tie.Need-loop-again Inv-loop μ-loop
 loop-again c =
     let i = c .before in
     let l = i .before .before in
-    let a = l .before .before .args in
-    (omega arith, l .before .loop .inv .1 ∙ any-later (λ (f : ConvoyFrame). isFrameOutside f (a .lent)) (a .t1) (l .before .loop .k) (a .t1 .count) (l .loop-test .taken)
-    (sym (i .is-outside .ensures) ∙ c .if1 .left))
+    let a = l .before .before .args in (
+      omega arith,
+      l .before .loop .inv .1 ∙ any-later (λ (f : ConvoyFrame). isFrameOutside f (a .lent)) (a .t1) (l .before .loop .k) (a .t1 .count) (l .loop-test .taken)
+          (sym (i .is-outside .ensures) ∙ c .if1 .left),
+    )
 
 returns-2 : tie.Need-returns-2 Inv-loop μ-loop
 returns-2 c =

@@ -46,10 +46,12 @@ loop2-again c =
     let o = c .before in
     let i = o .before .before in
     let t = i .before .before .before in
-    let convoy = t .before .before .args .t1 in
-    (omega arith, i .before .loop2 .inv .1
-    ∙ any-later (doFramesOverlap (frameAt convoy (t .before .loop .k))) convoy (i .before .loop2 .j) (convoy .count) (i .loop2-test .taken)
-    (sym (o .frames-overlap .ensures) ∙ c .if1 .left))
+    let convoy = t .before .before .args .t1 in (
+      omega arith,
+      i .before .loop2 .inv .1
+          ∙ any-later (doFramesOverlap (frameAt convoy (t .before .loop .k))) convoy (i .before .loop2 .j) (convoy .count) (i .loop2-test .taken)
+          (sym (o .frames-overlap .ensures) ∙ c .if1 .left),
+    )
 
 loop-again : tie.Need-loop-again Inv-loop2 μ-loop2 Inv-loop μ-loop
 loop-again c =
