@@ -92,7 +92,8 @@ module _ (p : BufferPart) (buffer bytes : List ℕ) (inside : Inside p (length b
 -- a part keeps its bytes where only bytes of another are written, and none is of both
 pub part-kept : (p q : BufferPart) (before after : List ℕ) → Elsewhere p before after → (Overlap p q → ⊥) → partOf q after ≡ partOf q before
 part-kept p q before after others apart =
-    ext-getD 0 _ _ (simp (length-take, length-drop) (rw (others .size))) (λ i l. byte i (omega (arith, length-take (q .length) (drop (q .offset) after))))
+    ext-getD 0 _ _ (simp (length-take, length-drop) (rw (others .size)))
+    (λ i l. byte i (omega (arith, length-take (q .length) (drop (q .offset) after))))
   where
     byte : (i : ℕ) → i < q .length → getD (partOf q after) i 0 ≡ getD (partOf q before) i 0
     byte i l =

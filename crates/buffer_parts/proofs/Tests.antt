@@ -22,7 +22,8 @@ both false y e = absurd (true≢false (sym e))
 pub inside-yes : (p : BufferPart) (n : ℕ) → isInside p n ≡ true → Inside p n
 inside-yes p n e = leb-true (p .offset + p .length) n e
 
-pub overlap-starts : (a b : BufferPart) → areOverlapping a b ≡ true → max (a .offset) (b .offset) < min (a .offset + a .length) (b .offset + b .length)
+pub overlap-starts : (a b : BufferPart) → areOverlapping a b ≡ true
+    → max (a .offset) (b .offset) < min (a .offset + a .length) (b .offset + b .length)
 overlap-starts a b e = ltb-true (max (a .offset) (b .offset)) (min (a .offset + a .length) (b .offset + b .length)) e
 
 pub overlap-yes : (a b : BufferPart) → areOverlapping a b ≡ true → Overlap a b

@@ -1,4 +1,5 @@
--- A part of a lent buffer, by offset and length; what it means that it lies inside, that two overlap, and that its bytes were replaced: docs/RULES.md, 15.1.
+-- A part of a lent buffer, by offset and length; what it means that it lies inside, that two overlap, and that its bytes were replaced:
+-- docs/RULES.md, 15.1.
 -- Numbers here have no end, so offset + length is what it says, whatever a machine's sum would be.
 -- Assumes nothing.
 use Prim.Native.Nat.{ℕ, _+_, _≤_, _<_, min, max}

@@ -1,5 +1,5 @@
-// Parts of a lent buffer, by offset and length: whether one ends within its buffer, and whether two share a byte. No sum is made, since offset + length
-// may pass 2^64.
+// Parts of a lent buffer, by offset and length: whether one ends within its buffer, and whether two share a byte. No sum is made, since
+// offset + length may pass 2^64.
 ghost use mathlib.Core.Path.{_≡_};
 ghost use Rattle.buffer_parts.specs.Parts.{isInside, areOverlapping};
 

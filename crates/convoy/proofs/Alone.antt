@@ -30,7 +30,8 @@ module _ (source : List ℕ) where
   parts-kept f g p left i post apart = planes-equal (one lumaPlane) (one cbPlane) (one crPlane)
     where
       one : (s : Plane) → partOf (s .part g) (s .bytes (withParts f p left)) ≡ partOf (s .part g) (s .bytes p)
-      one s = part-kept (s .part f) (s .part g) (s .bytes p) (s .bytes (withParts f p left)) (call-elsewhere s source f p left i post) (s .clear f g apart)
+      one s = part-kept (s .part f) (s .part g) (s .bytes p) (s .bytes (withParts f p left)) (call-elsewhere s source f p left i post)
+          (s .clear f g apart)
 
   -- what a call left in its parts is there after the others
   parts-stand : (f : ConvoyFrame) (fs : List ConvoyFrame) (p left : Planes) (a : YuvAnswer) (n : ℕ) (q : Planes) → FrameInside f (sizesOf source p)
@@ -46,7 +47,8 @@ module _ (source : List ℕ) where
           ∙ call-part s source f p left i post
 
   -- a call over buffers with the same bytes in the frame's parts
-  call-same : (f : ConvoyFrame) (p q : Planes) (a : YuvAnswer) (left : Planes) → partsOf f p ≡ partsOf f q → CallPost f source p a left → CallPost f source q a left
+  call-same : (f : ConvoyFrame) (p q : Planes) (a : YuvAnswer) (left : Planes) → partsOf f p ≡ partsOf f q → CallPost f source p a left
+      → CallPost f source q a left
   call-same f p q a left e post = subst (λ (x : Planes). SinglePost (f .described) (f .stride) (partOf (f .source) source) x a left) e post
 
   finished-alone : (fs : List ConvoyFrame) (p : Planes) (a : YuvAnswer) (n : ℕ) (q : Planes) → AllIn (sizesOf source p) fs → AllApart fs
@@ -74,7 +76,8 @@ module _ (source : List ℕ) where
   )
   refused-alone fs p a n q all apart (went-on {f = f} {fs = gs} {n = m} left post run) e is =
       let t = withParts f p left in
-      let later = refused-alone gs t a m q (all-sizes source p t gs (placed-sizes f source p (all .0) Finished left post) (all .1)) (apart .1) run e is in
+      let later = refused-alone gs t a m q (all-sizes source p t gs (placed-sizes f source p (all .0) Finished left post) (all .1)) (apart .1)
+      run e is in
       let same = parts-kept f (nth gs m) p left (all .0) post (clear-at f gs m (later .0) (apart .0)) in (
         omega (arith, later .0),
         subst (CallPost (nth gs m) source p (Refused e)) same (call-same (nth gs m) t p (Refused e) (partsOf (nth gs m) t) same (later .1)),
@@ -92,7 +95,8 @@ module _ (source : List ℕ) where
   unbegun-kept fs p a n q all apart (went-on {f = f} {fs = gs} {n = k} left post run) zero l m = absurd (omega arith)
   unbegun-kept fs p a n q all apart (went-on {f = f} {fs = gs} {n = k} left post run) (suc j) l m =
       let t = withParts f p left in
-      unbegun-kept gs t a k q (all-sizes source p t gs (placed-sizes f source p (all .0) Finished left post) (all .1)) (apart .1) run j (omega arith) (omega arith)
+      unbegun-kept gs t a k q (all-sizes source p t gs (placed-sizes f source p (all .0) Finished left post) (all .1)) (apart .1) run j (omega arith)
+      (omega arith)
       ∙ parts-kept f (nth gs j) p left (all .0) post (clear-at f gs j (omega arith) (apart .0))
 
 -- ---- of a call

@@ -58,7 +58,8 @@ single-refused (Frame d) stride source p e q post =
     let w = refused-writes-nothing (frameCall d stride source (p .y) (p .u) (p .v) (Refused e) (q .y) (q .u) (q .v)) refl post in
     planes-equal (w .0) (w .1) (w .2)
 
-pub single-sizes : (d : Described) (stride : ℕ) (source : List ℕ) (p : Planes) (a : YuvAnswer) (q : Planes) → SinglePost d stride source p a q → SameSizes p q
+pub single-sizes : (d : Described) (stride : ℕ) (source : List ℕ) (p : Planes) (a : YuvAnswer) (q : Planes) → SinglePost d stride source p a q
+    → SameSizes p q
 single-sizes Malformed stride source p a q post = sizes-same (post .1)
 single-sizes (Frame d) stride source p a q post =
     record { y = post .planes .luma .size; u = post .planes .cb .size; v = post .planes .cr .size }

@@ -58,7 +58,8 @@ crPlane = record {
 }
 
 module _ (source : List ℕ) where
-  pub run-sizes : (fs : List ConvoyFrame) (p : Planes) (a : YuvAnswer) (n : ℕ) (q : Planes) → AllIn (sizesOf source p) fs → Run source fs p a n q → SameSizes p q
+  pub run-sizes : (fs : List ConvoyFrame) (p : Planes) (a : YuvAnswer) (n : ℕ) (q : Planes) → AllIn (sizesOf source p) fs → Run source fs p a n q
+      → SameSizes p q
   run-sizes fs p a n q all ended = sizes-same refl
   run-sizes fs p a n q all (stopped left post) = sizes-same refl
   run-sizes fs p a n q all (went-on {f = f} {fs = gs} {n = m} left post run) =
@@ -87,7 +88,8 @@ module _ (s : Plane) (source : List ℕ) where
   byte-kept fs p a n q all (stopped left post) i out = refl
   byte-kept fs p a n q all (went-on {f = f} {fs = gs} {n = m} left post run) i out =
       let t = withParts f p left in
-      byte-kept gs t a m q (all-sizes source p t gs (placed-sizes f source p (all .0) Finished left post) (all .1)) run i (λ j l. out (suc j) (omega arith))
+      byte-kept gs t a m q (all-sizes source p t gs (placed-sizes f source p (all .0) Finished left post) (all .1)) run i
+      (λ j l. out (suc j) (omega arith))
       ∙ call-elsewhere f p left (all .0) post .byte i (out 0 (omega arith))
 
   -- the part of a frame that overlaps none of them is as before
@@ -98,4 +100,5 @@ module _ (s : Plane) (source : List ℕ) where
   part-unwritten g fs p a n q all clear (went-on {f = f} {fs = gs} {n = m} left post run) =
       let t = withParts f p left in
       part-unwritten g gs t a m q (all-sizes source p t gs (placed-sizes f source p (all .0) Finished left post) (all .1)) (clear .1) run
-      ∙ part-kept (s .part f) (s .part g) (s .bytes p) (s .bytes t) (call-elsewhere f p left (all .0) post) (λ o. s .clear g f (clear .0) (o .0, (o .1 .1, o .1 .0)))
+      ∙ part-kept (s .part f) (s .part g) (s .bytes p) (s .bytes t) (call-elsewhere f p left (all .0) post)
+      (λ o. s .clear g f (clear .0) (o .0, (o .1 .1, o .1 .0)))

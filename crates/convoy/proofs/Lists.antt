@@ -42,7 +42,8 @@ clear-at f (g ∷ gs) zero l c = c .0
 clear-at f (g ∷ gs) (suc j) l c = clear-at f gs j (omega arith) (c .1)
 
 -- buffers of the same lengths serve as well
-pub inside-sizes : (source : List ℕ) (p q : Planes) (f : ConvoyFrame) → SameSizes p q → FrameInside f (sizesOf source p) → FrameInside f (sizesOf source q)
+pub inside-sizes : (source : List ℕ) (p q : Planes) (f : ConvoyFrame) → SameSizes p q → FrameInside f (sizesOf source p)
+    → FrameInside f (sizesOf source q)
 inside-sizes source p q f s i =
     record { source = i .source; y = omega (arith, i .y, s .y); u = omega (arith, i .u, s .u); v = omega (arith, i .v, s .v) }
 
@@ -56,11 +57,13 @@ in-from : (c : Convoy) (n : Lengths) (k many : ℕ) → ((j : ℕ) → j < k + m
 in-from c n k zero all = tt
 in-from c n k (suc m) all = (all k (omega arith), in-from c n (suc k) m (λ j l. all j (omega arith)))
 
-clear-from : (c : Convoy) (f : ConvoyFrame) (k many : ℕ) → ((j : ℕ) → k ≤ j → j < k + many → FramesOverlap f (frameAt c j) → ⊥) → Clear f (framesFrom c k many)
+clear-from : (c : Convoy) (f : ConvoyFrame) (k many : ℕ) → ((j : ℕ) → k ≤ j → j < k + many → FramesOverlap f (frameAt c j) → ⊥)
+    → Clear f (framesFrom c k many)
 clear-from c f k zero all = tt
 clear-from c f k (suc m) all = (all k (omega arith) (omega arith), clear-from c f (suc k) m (λ j l n. all j (omega arith) (omega arith)))
 
-apart-from : (c : Convoy) (k many : ℕ) → ((i j : ℕ) → i < j → j < k + many → FramesOverlap (frameAt c i) (frameAt c j) → ⊥) → AllApart (framesFrom c k many)
+apart-from : (c : Convoy) (k many : ℕ) → ((i j : ℕ) → i < j → j < k + many → FramesOverlap (frameAt c i) (frameAt c j) → ⊥)
+    → AllApart (framesFrom c k many)
 apart-from c k zero all = tt
 apart-from c k (suc m) all =
     (clear-from c (frameAt c k) (suc k) m (λ j l n. all k j (omega arith) (omega arith)), apart-from c (suc k) m (λ i j l n. all i j l (omega arith)))

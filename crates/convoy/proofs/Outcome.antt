@@ -76,6 +76,7 @@ one-outcome k j post post′ c s b = go (isBroken k) refl
         subst (λ (x : Planes). Run (k .source) (framesOf (k .convoy)) x (r .answer) (r .done) (j .after)) b
         (subst (λ (x : List ℕ). Run x (framesOf (k .convoy)) (j .before) (r .answer) (r .done) (j .after)) s
         (subst (λ (x : Convoy). Run (j .source) (framesOf x) (j .before) (r .answer) (r .done) (j .after)) c (post′ .run (broken ∙ e)))) in
-        let same = one-run (k .source) (framesOf (k .convoy)) (k .before) (k .result .answer) (k .result .done) (k .after) (r .answer) (r .done) (j .after)
+        let same = one-run (k .source) (framesOf (k .convoy)) (k .before) (k .result .answer) (k .result .done) (k .after) (r .answer) (r .done)
+        (j .after)
         (post .run e) run in
         (result-equal (k .result) (j .result) (same .0) (same .1), same .2)

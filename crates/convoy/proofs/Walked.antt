@@ -32,7 +32,8 @@ walked-none source c p = record {
 
 module _ (source : List ℕ) (c : Convoy) (k : ℕ) (p₀ p : Planes) (w : Walked source c k p₀ p) where
   -- the next frame's parts lie inside, since the buffers are as long as they were
-  pub next-inside : k < c .count → AllInside c (lengthsOf source (p₀ .y) (p₀ .u) (p₀ .v)) → FrameInside (frameAt c k) (lengthsOf source (p .y) (p .u) (p .v))
+  pub next-inside : k < c .count → AllInside c (lengthsOf source (p₀ .y) (p₀ .u) (p₀ .v))
+      → FrameInside (frameAt c k) (lengthsOf source (p .y) (p .u) (p .v))
   next-inside l all =
       let i = all k l in
       record {

@@ -87,8 +87,8 @@ fn convert_frames(
     }
 }
 
-// Converts the frames of a convoy as single calls in order would, or answers 18 before any is begun. The first frame that is refused ends it: its parts
-// and those of later frames are not written.
+// Converts the frames of a convoy as single calls in order would, or answers 18 before any is begun. The first frame that is refused ends it: its
+// parts and those of later frames are not written.
 pub fn convert_convoy(
     convoy: Convoy,
     source: &[u8],

@@ -72,7 +72,8 @@ outside-found f n (inr (inl x)) =
 outside-found f n (inr (inr (inl x))) =
     or-left _ _ (or-right (not (isInside (f .source) (n .source)) || not (isInside (f .y) (n .y))) _ (is-not-inside (f .u) (n .u) x))
 outside-found f n (inr (inr (inr x))) =
-    or-right (not (isInside (f .source) (n .source)) || not (isInside (f .y) (n .y)) || not (isInside (f .u) (n .u))) _ (is-not-inside (f .v) (n .v) x)
+    or-right (not (isInside (f .source) (n .source)) || not (isInside (f .y) (n .y)) || not (isInside (f .u) (n .u))) _
+    (is-not-inside (f .v) (n .v) x)
 
 overlap-yes : (f g : ConvoyFrame) → doFramesOverlap f g ≡ true → FramesOverlap f g
 overlap-yes f g e = go (or-true _ (areOverlapping (f .v) (g .v)) e)
@@ -107,7 +108,9 @@ any-found test c k (suc n) e = go (or-true (test (frameAt c k)) (anyFrame test (
     go : (test (frameAt c k) ≡ true) ⊎ (anyFrame test (framesFrom c (suc k) n) ≡ true)
         → (anyFrame test (framesFrom c (suc k) n) ≡ true → Passes test c (suc k) n) → Passes test c k (suc n)
     go (inl e) later = record { place = k; least = omega arith; most = omega arith; passes = e }
-    go (inr e) later = let p = later e in record { place = p .place; least = omega (arith, p .least); most = omega (arith, p .most); passes = p .passes }
+    go (inr e) later =
+        let p = later e in
+        record { place = p .place; least = omega (arith, p .least); most = omega (arith, p .most); passes = p .passes }
 
 any-one : (test : ConvoyFrame → Bool) (c : Convoy) (k many j : ℕ) → k ≤ j → j < k + many → test (frameAt c j) ≡ true
     → anyFrame test (framesFrom c k many) ≡ true
@@ -137,10 +140,24 @@ two-found c k (suc n) e =
         → (anyOverlap (framesFrom c (suc k) n) ≡ true → Two c (suc k) n) → Two c k (suc n)
     go (inl e) later =
         let p = any-found (doFramesOverlap (frameAt c k)) c (suc k) n e in
-        record { first = k; second = p .place; least = omega arith; order = omega (arith, p .least); most = omega (arith, p .most); overlap = p .passes }
+        record {
+          first = k;
+          second = p .place;
+          least = omega arith;
+          order = omega (arith, p .least);
+          most = omega (arith, p .most);
+          overlap = p .passes;
+        }
     go (inr e) later =
         let t = later e in
-        record { first = t .first; second = t .second; least = omega (arith, t .least); order = t .order; most = omega (arith, t .most); overlap = t .overlap }
+        record {
+          first = t .first;
+          second = t .second;
+          least = omega (arith, t .least);
+          order = t .order;
+          most = omega (arith, t .most);
+          overlap = t .overlap;
+        }
 
 two-one : (c : Convoy) (k many i j : ℕ) → k ≤ i → i < j → j < k + many → doFramesOverlap (frameAt c i) (frameAt c j) ≡ true
     → anyOverlap (framesFrom c k many) ≡ true
@@ -170,7 +187,8 @@ module _ (c : Convoy) (n : Lengths) where
           outside (p .place) (omega (arith, p .most)) (outside-yes (frameAt c (p .place)) n (p .passes))
       more (inr e) =
           let t = two-found c 0 (c .count) e in
-          overlapping (t .first) (t .second) (t .order) (omega (arith, t .most)) (overlap-yes (frameAt c (t .first)) (frameAt c (t .second)) (t .overlap))
+          overlapping (t .first) (t .second) (t .order) (omega (arith, t .most))
+          (overlap-yes (frameAt c (t .first)) (frameAt c (t .second)) (t .overlap))
 
       go : (ltb 64 (c .count) ≡ true) ⊎ (anyOutside n (framesOf c) || anyOverlap (framesOf c) ≡ true) → Broken c n
       go (inl e) = too-many (ltb-true 64 (c .count) e)

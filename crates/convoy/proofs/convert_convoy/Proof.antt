@@ -19,8 +19,9 @@ convert-frames-requires : tie.Need-convert-frames-requires
 convert-frames-requires c κs =
     let i = c .before .before .before in
     let a = i .before .before .before .before .before .before .args in
-    let u = unbroken (a .convoy) (lengthsOf (a .source .now) (a .y .now) (a .u .now) (a .v .now)) (sym (i .before .is-broken .ensures) ∙ i .if1 .left) in
-    (u .few, all-inside (a .convoy) (lengthsOf (a .source .now) (a .y .now) (a .u .now) (a .v .now)) u)
+    let n = lengthsOf (a .source .now) (a .y .now) (a .u .now) (a .v .now) in
+    let u = unbroken (a .convoy) n (sym (i .before .is-broken .ensures) ∙ i .if1 .left) in
+    (u .few, all-inside (a .convoy) n u)
 
 returns-2 : tie.Need-returns-2
 returns-2 c =

@@ -47,7 +47,8 @@ after-call k =
     let p₀ = planesOf (a .y .now) (a .u .now) (a .v .now) in
     let p = planesOf (l .loop .y) (l .loop .u) (l .loop .v) in
     let inside = next-inside (a .source .now) (a .t1) (l .loop .k) p₀ p (l .loop .inv) (t .loop-test .taken) (s .pre .1) in
-    sizes-then (l .loop .inv .sizes) (called-sizes (frameAt (a .t1) (l .loop .k)) (a .source .now) p inside (k .convert-frame .result) (left k) (k .convert-frame .ensures))
+    sizes-then (l .loop .inv .sizes) (called-sizes (frameAt (a .t1) (l .loop .k)) (a .source .now) p inside (k .convert-frame .result) (left k)
+    (k .convert-frame .ensures))
 
 returns : tie.Need-returns Inv-loop μ-loop
 returns c =

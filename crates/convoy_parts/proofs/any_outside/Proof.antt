@@ -25,7 +25,8 @@ returns c =
     let i = c .before in
     let l = i .before .before in
     let a = l .before .before .args in
-    sym (l .before .loop .inv .1 ∙ any-here (λ (f : ConvoyFrame). isFrameOutside f (a .lent)) (a .t1) (l .before .loop .k) (a .t1 .count) (l .loop-test .taken)
+    sym (l .before .loop .inv .1 ∙ any-here (λ (f : ConvoyFrame). isFrameOutside f (a .lent)) (a .t1) (l .before .loop .k) (a .t1 .count)
+    (l .loop-test .taken)
     (sym (i .is-outside .ensures) ∙ c .if1 .taken))
 
 loop-again : tie.Need-loop-again Inv-loop μ-loop
@@ -34,7 +35,8 @@ loop-again c =
     let l = i .before .before in
     let a = l .before .before .args in (
       omega arith,
-      l .before .loop .inv .1 ∙ any-later (λ (f : ConvoyFrame). isFrameOutside f (a .lent)) (a .t1) (l .before .loop .k) (a .t1 .count) (l .loop-test .taken)
+      l .before .loop .inv .1 ∙ any-later (λ (f : ConvoyFrame). isFrameOutside f (a .lent)) (a .t1) (l .before .loop .k) (a .t1 .count)
+          (l .loop-test .taken)
           (sym (i .is-outside .ensures) ∙ c .if1 .left),
     )
 

@@ -1,5 +1,5 @@
--- `any_overlap` meets its contract. The invariants: the test of all frames is that of the frames from k on; frame k's test of those after it is that of
--- the frames from j on.
+-- `any_overlap` meets its contract. The invariants: the test of all frames is that of the frames from k on; frame k's test of those after it
+-- is that of the frames from j on.
 -- Assumes nothing.
 use Prim.Native.Nat.{_+_, _-_, _≤_}
 use mathlib.Core.Path.{_≡_, refl, sym, ap, _∙_}

@@ -22,7 +22,8 @@ unfolding brokenParts
 returns-3 c =
     let i = c .before in
     let o = i .before in
-    rw (le-ltb 64 (o .before .before .before .args .convoy .count) (o .before .if1 .left), ← o .any-outside .ensures, i .if2 .left) (c .any-overlap .ensures)
+    rw (le-ltb 64 (o .before .before .before .args .convoy .count) (o .before .if1 .left), ← o .any-outside .ensures, i .if2 .left)
+    (c .any-overlap .ensures)
 
 pub is-broken-spec : {M : Type 1} → statement M
 is-broken-spec = tie.close (tie.spec returns (λ c κs. search needs) returns-2 (λ c κs. search needs) returns-3)

@@ -1,0 +1,2 @@
+-- Laws of a convoy from numbers.
+pub mod Frames

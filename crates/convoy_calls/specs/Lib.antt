@@ -1,0 +1,3 @@
+-- A convoy from numbers.
+pub mod Numbers
+pub mod Calls
