@@ -113,12 +113,14 @@ each-alone k post none = record {
         subst (λ (f : ConvoyFrame). CallPost f (k .source) (k .before) (Refused e) (partsOf f (k .before)))
             (given-at c (k .result .done) (below (k .result .done) (x .0))) (x .1),
       );
-  unbegun = λ j l m.
-      subst (λ (f : ConvoyFrame). partsOf f (k .after) ≡ partsOf f (k .before)) (given-at c j m)
-      (unbegun-kept (k .source) fs (k .before) (k .result .answer) (k .result .done) (k .after) all apart run j l (omega (arith, size)));
-  y-others = others lumaPlane (sizes .y);
-  u-others = others cbPlane (sizes .u);
-  v-others = others crPlane (sizes .v);
+  unwritten = record {
+    unbegun = λ j l m.
+        subst (λ (f : ConvoyFrame). partsOf f (k .after) ≡ partsOf f (k .before)) (given-at c j m)
+        (unbegun-kept (k .source) fs (k .before) (k .result .answer) (k .result .done) (k .after) all apart run j l (omega (arith, size)));
+    y-others = others lumaPlane (sizes .y);
+    u-others = others cbPlane (sizes .u);
+    v-others = others crPlane (sizes .v);
+  };
 }
   where
     c : Convoy

@@ -30,7 +30,7 @@ single-one (Frame d) stride source p a q b r x y =
     (frameCall d stride source (p .y) (p .u) (p .v) b (r .y) (r .u) (r .v)) x y (record { size = refl; others = refl }) (λ _ _ _ _ _ _. refl) in
     (same .0, planes-equal (same .1) (same .2) (same .3))
 
-call-one : (f : ConvoyFrame) (source : List ℕ) (p : Planes) (a : YuvAnswer) (q : Planes) (b : YuvAnswer) (r : Planes) → CallPost f source p a q
+pub call-one : (f : ConvoyFrame) (source : List ℕ) (p : Planes) (a : YuvAnswer) (q : Planes) (b : YuvAnswer) (r : Planes) → CallPost f source p a q
     → CallPost f source p b r → (a ≡ b) × (q ≡ r)
 call-one f source p a q b r x y = single-one (f .described) (f .stride) (partOf (f .source) source) (partsOf f p) a q b r x y
 

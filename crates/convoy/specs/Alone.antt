@@ -19,6 +19,14 @@ pub record OthersKept (part : ConvoyFrame → BufferPart) (c : Convoy) (done : �
   pub size : length after ≡ length before
   pub byte : (i : ℕ) → ((j : ℕ) → j < done → InPart (part (frameAt c j)) i → ⊥) → getD after i 0 ≡ getD before i 0
 
+-- RULES 15.4: what is not written, of a refused call too: the parts of the refused frame and of later ones, and every byte of no finished frame's
+-- part; after 18, with no frame finished, that is every byte
+pub record Unwritten (k : ConvoyCall) : Type 0 where
+  pub unbegun : (j : ℕ) → k .result .done ≤ j → j < k .convoy .count → let f = frameAt (k .convoy) j in partsOf f (k .after) ≡ partsOf f (k .before)
+  pub y-others : OthersKept (λ (f : ConvoyFrame). f .y) (k .convoy) (k .result .done) (k .before .y) (k .after .y)
+  pub u-others : OthersKept (λ (f : ConvoyFrame). f .u) (k .convoy) (k .result .done) (k .before .u) (k .after .u)
+  pub v-others : OthersKept (λ (f : ConvoyFrame). f .v) (k .convoy) (k .result .done) (k .before .v) (k .after .v)
+
 -- RULES 15.4
 pub record AsAlone (k : ConvoyCall) : Type 0 where
   -- each finished frame's parts are in the end what its call alone, over the buffers as they were lent, leaves in them
@@ -29,11 +37,7 @@ pub record AsAlone (k : ConvoyCall) : Type 0 where
   pub refused : (e : YuvError) → k .result .answer ≡ Refused e
       → (k .result .done < k .convoy .count)
       × (let f = frameAt (k .convoy) (k .result .done) in CallPost f (k .source) (k .before) (Refused e) (partsOf f (k .before)))
-  -- the parts of the refused frame and of later ones are as they were lent
-  pub unbegun : (j : ℕ) → k .result .done ≤ j → j < k .convoy .count → let f = frameAt (k .convoy) j in partsOf f (k .after) ≡ partsOf f (k .before)
-  pub y-others : OthersKept (λ (f : ConvoyFrame). f .y) (k .convoy) (k .result .done) (k .before .y) (k .after .y)
-  pub u-others : OthersKept (λ (f : ConvoyFrame). f .u) (k .convoy) (k .result .done) (k .before .u) (k .after .u)
-  pub v-others : OthersKept (λ (f : ConvoyFrame). f .v) (k .convoy) (k .result .done) (k .before .v) (k .after .v)
+  pub unwritten : Unwritten k
 
 -- RULES 15.4: each frame as if alone
 abbrev pub EachAlone : Type 0

@@ -1,19 +1,20 @@
 -- The frames of a convoy from numbers, one after the other.
 -- Assumes nothing.
-use Prim.Native.Nat.{ℕ, zero, suc, _+_, _≤_, _<_}
+use Prim.Native.Nat.{ℕ, zero, suc, _+_, _*_, _≤_, _<_}
 use mathlib.Core.Path.{_≡_, refl, sym, ap, _∙_}
-use mathlib.Core.Bool.{Bool, true, false}
+use mathlib.Core.Bool.{Bool, true, false, cond}
 use mathlib.Core.List.{List}
 use native.Mathlib.Omega.{arith}
-use borrow.Author.Tests.{eqb-true, eqb-false}
+use borrow.Author.Tests.{eqb-true, eqb-false, le-ltb}
 use lib.Dec.{eqb}
 use lib.Ieee.{Float}
-use lib.ListN.{length, getD, set, length-set}
-use lib.Seq.{ext-getD, getD-set-same, getD-set-other}
+use lib.ListN.{length, getD, set, drop, length-set}
+use lib.Seq.{ext-getD, getD-set-same, getD-set-other, getD-take, getD-drop}
+use Rattle.call_numbers.specs.Codes.{at}
+use Rattle.convoy_parts.specs.declared.Described.the-variants.{Malformed}
 use Rattle.convoy_parts.specs.declared.ConvoyFrame.{ConvoyFrame}
-use Rattle.convoy_parts.specs.declared.Convoy.{Convoy}
 use Rattle.convoy_parts.specs.Parts.{noFrame, frameAt}
-use Rattle.convoy_calls.specs.Numbers.{frameOf, listFrom, convoyOf}
+use Rattle.convoy_calls.specs.Numbers.{numbersAt, customAt, describedBy, frameOf, listFrom, convoyOf}
 
 pub list-length : (f : ℕ → ConvoyFrame) (k n : ℕ) → length (listFrom f k n) ≡ n
 list-length f k zero = refl
@@ -55,3 +56,17 @@ pub convoy-frame : (count : ℕ) (numbers : List ℕ) (customs : List Float) (pa
 unfolding convoyOf
 convoy-frame count numbers customs parts k l =
     list-at (frameOf numbers customs parts) 0 64 k l ∙ ap (frameOf numbers customs parts) (let e : 0 + k ≡ k = omega arith in e)
+
+-- what its sixteen numbers describe, and its source's stride
+pub frame-described : (numbers : List ℕ) (customs : List Float) (parts : List ℕ) (k : ℕ) → 16 * k + 16 ≤ length numbers
+    → frameOf numbers customs parts k .described ≡ describedBy (numbersAt numbers k) (customAt customs k)
+unfolding frameOf
+frame-described numbers customs parts k l =
+    ap (λ (b : Bool). cond b Malformed (describedBy (numbersAt numbers k) (customAt customs k))) (le-ltb (length numbers) (16 * k + 16) l)
+
+pub frame-stride : (numbers : List ℕ) (customs : List Float) (parts : List ℕ) (k : ℕ)
+    → frameOf numbers customs parts k .stride ≡ at (numbersAt numbers k) 0
+unfolding frameOf
+frame-stride numbers customs parts k =
+    sym (getD-take 16 (drop (16 * k) numbers) 0 0 (omega arith) ∙ getD-drop (16 * k) numbers 0 0
+    ∙ ap (λ (i : ℕ). getD numbers i 0) (let e : 16 * k + 0 ≡ 16 * k = omega arith in e))

@@ -144,7 +144,7 @@ fn tell_convoy(answered: ConvoyAnswer, told: &mut [usize]) -> u32
     requires { ⌜ 3 ≤ length (now told) ⌝ }
     ensures { λ n. ⌜ (n ≡ numbersOf (answered .answer) .number)
         × (now (told .exit) ≡ set (set (set (now (told .entry)) 0 (numbersOf (answered .answer) .expected)) 1
-            (numbersOf (answered .answer) .received)) 2
+        (numbersOf (answered .answer) .received)) 2
         (answered .done)) ⌝ }
 {
     let answer = answered.answer;
@@ -168,7 +168,7 @@ pub fn call_convoy(
 ) -> u32
     ensures { λ n. ⌜ ConvoyKept (exportedConvoy count (now (numbers .entry)) (now (customs .entry)) (now (parts .entry)) (now (source .entry))
         (planesOf (now (y .entry)) (now (u .entry)) (now (v .entry))) n (now (told .exit)) (planesOf (now (y .exit)) (now (u .exit)) (now (v .exit))))
-            ⌝ }
+        ⌝ }
 {
     let frames = convoy_from_numbers(count, numbers, customs, parts);
     let answered = convoy::convert_convoy(frames, source, y, u, v);

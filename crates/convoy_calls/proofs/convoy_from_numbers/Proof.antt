@@ -27,7 +27,7 @@ loop-again c =
     let l = t .before in
     let a = l .before .before .before .before .args in
     filled-next (frameOf (a .numbers .now) (a .customs .now) (a .parts .now)) (l .loop .frames) (l .loop .k) (c .frame-of .result)
-        (t .loop-test .taken)
+    (t .loop-test .taken)
     (c .frame-of .ensures) (l .loop .inv)
 
 returns : tie.Need-returns Inv-loop μ-loop
