@@ -23,6 +23,8 @@ ghost use Rattle.yuv_error.specs.Numbers.{numbersOf};
 ghost use Rattle.segvartin.specs.Calls.{exportedFrame, FrameAnswered, FrameKept};
 ghost use Rattle.segvartin.specs.Calls.{exportedOpening, OpenAnswered, OpenKept};
 ghost use Rattle.segvartin.specs.Calls.{exportedBand, BandAnswered, BandKept};
+ghost use Rattle.convoy.specs.Run.{planesOf};
+ghost use Rattle.convoy_calls.specs.Calls.{exportedConvoy, ConvoyKept};
 ghost use Rattle.segvartin.specs.Counts.{exportedCounts, CountsAnswered, CountsKept};
 ghost use Rattle.segvartin.specs.Summary.{exportedBuild, BuildKept, exportedCheck, asNumber, CheckKept};
 ghost use Rattle.segvartin.specs.Summary.{exportedFind, foundCount, foundPlace, FindKept, exportedUpdate, UpdateKept};
@@ -73,6 +75,30 @@ pub extern "C" fn segvartin_call_frame(
         (now (y .entry)) (now (u .entry)) (now (v .entry)) n (now (told .exit)) (now (y .exit)) (now (u .exit)) (now (v .exit))) ⌝ }
 {
     call_numbers::tell_answer(frame_answer(numbers, custom, source, y, u, v), told)
+}
+
+// Converts a convoy of up to 64 frames over one source and one buffer for each plane (0), as single calls in order would; or answers the number of
+// one refusal: 18 before any frame is begun, where there are more than 64, a part reaches outside its buffer or plane parts of two frames overlap;
+// else that of the first frame that is refused, 1 for numbers without a meaning among them, with its own parts and those of later frames as they
+// were. numbers: for each frame its source's stride, then the description with rounding and window. customs: for each frame kr and kb. parts: for
+// each frame offset and length in the source, in Y, in U and in V. told: expected, received, and how many frames are finished, which is the
+// place of the refused one.
+#[no_mangle]
+pub extern "C" fn segvartin_call_convoy(
+    count: usize,
+    numbers: &[u32],
+    customs: &[f32],
+    parts: &[u64],
+    source: &[u8],
+    y: &mut [u8],
+    u: &mut [u8],
+    v: &mut [u8],
+    told: &mut [usize; 3],
+) -> u32
+    ensures { λ n. ⌜ ConvoyKept (exportedConvoy count (now (numbers .entry)) (now (customs .entry)) (now (parts .entry)) (now (source .entry))
+        (planesOf (now (y .entry)) (now (u .entry)) (now (v .entry))) n (now (told .exit)) (planesOf (now (y .exit)) (now (u .exit)) (now (v .exit)))) ⌝ }
+{
+    convoy_calls::call_convoy(count, numbers, customs, parts, source, y, u, v, told)
 }
 
 // The opening, once the numbers have a meaning.
