@@ -76,7 +76,9 @@ use Rattle.y4m_reader.specs.Reading.{fileRules as y4mFileRules, ReadPost as Y4m
 use Rattle.y4m_writer.specs.Writing.{writeRules as y4mWriteRules}
 use Rattle.y4m_picture.specs.Picture.{pictureRules}
 use Rattle.y4m_calls.specs.Calls.{rulesOfY4mReading, rulesOfY4mWriting, rulesOfY4mPicture}
-use Rattle.demands.specs.Demands.{Replied, CountsReplied, Demand1, Demand2, Demand3, WholeFrame, FrameBytes}
+use Rattle.convoy.proofs.Answers.{convoy-lowest, unwritten as convoy-unwritten}
+use Rattle.demands.proofs.ConvoyTold.{convoy-met, convoy-told}
+use Rattle.demands.specs.Demands.{asConvoy, Replied, CountsReplied, Demand1, Demand2, Demand3, WholeFrame, FrameBytes}
 
 -- the promise's equation, read as the sentence of RULES 7.1
 lowest : (rules : List Rule) {x : Numbers} → inOrder 0 rules ≡ true → x ≡ firstOf rules → Lowest rules x
@@ -211,6 +213,7 @@ demand-1 = record {
     lowest = lowest (pictureRules f y u v (length before)) refl (p .answered);
     writes-nothing = λ l. unwritten (r .answer) _ l (p .written);
   };
+  convoy = λ k p. record { lowest = convoy-lowest k p; writes-nothing = λ l. convoy-unwritten k p };
   request = λ input output r output′ p. record { lowest = lowest (requestRules input) refl (p .answered); writes-nothing = request-writes-nothing r p };
   linked-frame = λ k p. record { lowest = lowest (rulesOfFrame k) refl (frame-first p); writes-nothing = frame-writes-nothing p };
   linked-opening = λ k p. (lowest (rulesOfOpening k) refl (open-first p), open-done p);
@@ -249,6 +252,10 @@ demand-1 = record {
   linked-y4m-picture = λ k p. record {
     lowest = lowest (rulesOfY4mPicture k) refl (alone (rulesOfY4mPicture k) (p .written .answer) (refl, (refl, tt)) (p .number) (p .wrote .answered));
     writes-nothing = λ l. unwritten (p .written .answer) _ (rw (p .number) at l) (p .wrote .written);
+  };
+  linked-convoy = λ k p. record {
+    lowest = rw (convoy-told k p) at (convoy-lowest (asConvoy k) (convoy-met k p));
+    writes-nothing = λ l. convoy-unwritten (asConvoy k) (convoy-met k p);
   };
 }
 

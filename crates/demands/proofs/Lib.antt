@@ -1,4 +1,5 @@
 -- The proofs of the demands.
+pub mod ConvoyTold
 pub mod Demands
 pub mod Grey
 pub mod Counts
@@ -8,3 +9,4 @@ pub mod ShiftPairs
 pub mod ShiftMoves
 pub mod Y4mParts
 pub mod Y4mFiles
+pub mod Convoys

@@ -1,10 +1,10 @@
 -- The three demands, one after the other, and what else is claimed of all calls. Each cites definitions alone: the promises of the calls
 -- (`FramePost`, `OpenPost`, `BandPost`, `CountsPost`, `ReadPost`, `WritePost`, `RecordPost`, `MovePost`, `BuildPost`, `CheckPost`, `FindPost`,
--- `UpdatePost`, `PairingPost`, `PicturePost`, `RequestPost`, `Begins`, and `..Kept` of the calls that C and Rust link, the very predicates of
--- their `ensures`), which hold of every call whatever it is given, and the rules, rows, planes, curves, files, summaries and reports that they
--- speak of. Their proofs are `demand-1`, `demand-2` and `demand-3` of proofs/Demands.antt, `grey` of Grey.antt, `counts` of Counts.antt,
+-- `UpdatePost`, `PairingPost`, `PicturePost`, `ConvoyPost`, `RequestPost`, `Begins`, and `..Kept` of the calls that C and Rust link, the very
+-- predicates of their `ensures`), which hold of every call whatever it is given, and the rules, rows, planes, curves, files, summaries, reports and
+-- convoys that they speak of. Their proofs are `demand-1`, `demand-2` and `demand-3` of proofs/Demands.antt, `grey` of Grey.antt, `counts` of Counts.antt,
 -- `shift-files` of ShiftFiles.antt, `shift-moves` of ShiftMoves.antt, `shift-summaries` of ShiftSummaries.antt, `shift-pairs` of
--- ShiftPairs.antt and `y4m-files` of Y4mFiles.antt.
+-- ShiftPairs.antt, `y4m-files` of Y4mFiles.antt and `convoys` of Convoys.antt.
 -- Assumes nothing.
 use Prim.Native.Nat.{ℕ, _+_, _*_, _-_, _/_, _^_, _≤_, _<_, min}
 use mathlib.Core.Path.{_≡_}
@@ -21,7 +21,7 @@ use Rattle.yuv_error.specs.declared.YuvAnswer.{YuvAnswer}
 use Rattle.yuv_error.specs.declared.YuvAnswer.the-variants.{Finished}
 use Rattle.yuv_error.specs.Numbers.{Numbers, numbers, numbersOf}
 use Rattle.yuv_error.specs.Rules.{Rule, rule, matrixRules}
-use Rattle.yuv_error.specs.Lowest.{Lowest}
+use Rattle.yuv_error.specs.Lowest.{NoneHolds, Lowest}
 use Rattle.sharp_gamma.specs.declared.SharpYuvGammaTransfer.{SharpYuvGammaTransfer}
 use Rattle.sharp_gamma.specs.Fraction.{_over_}
 use Rattle.sharp_gamma.specs.Curve.{curveOf, underCurve, underInverse}
@@ -31,7 +31,7 @@ use Rattle.definitions.specs.declared.FrameDescription.{FrameDescription}
 use Rattle.definitions.specs.declared.YuvSettings.{YuvSettings}
 use Rattle.definitions.specs.Row.{pixelsOf}
 use Rattle.definitions.specs.Image.{Image, pixelSize, sourceRowSize, chromaSize, chromaRows, frameImage, lumaAt, cbAt, crAt}
-use Rattle.yuv_error.specs.Lent.{openingRules}
+use Rattle.yuv_error.specs.Lent.{lengthsOf, openingRules}
 use Rattle.sharp_rgba_to_yuv.specs.FrameCall.{FrameCall, rulesOf as frameRules, imageOf, FramePost, Unwritten}
 use Rattle.band_calls.specs.declared.FrameAnswer.{FrameAnswer}
 use Rattle.band_calls.specs.BandCall.{OpenPost, BandCall, rulesOf as bandRules, BandPost, Untouched}
@@ -105,6 +105,16 @@ use Rattle.y4m_picture.specs.Means.{planesMade}
 use Rattle.y4m_calls.specs.Calls.{ExportedY4mReading, rulesOfY4mReading, Y4mReadingKept}
 use Rattle.y4m_calls.specs.Calls.{ExportedY4mWriting, widthGiven, heightGiven, samplingGiven, rulesOfY4mWriting, Y4mWritingKept}
 use Rattle.y4m_calls.specs.Calls.{ExportedY4mPicture, frameOfPicture, rulesOfY4mPicture, Y4mPictureKept}
+use Rattle.segvartin.specs.Lists.{answerTold}
+use Rattle.buffer_parts.specs.Parts.{partOf, TestsAreExact}
+use Rattle.convoy_parts.specs.declared.ConvoyFrame.{ConvoyFrame}
+use Rattle.convoy_parts.specs.Parts.{frameAt, framesOf, Broken, BrokenIsExact}
+use Rattle.convoy.specs.declared.ConvoyAnswer.{ConvoyAnswer}
+use Rattle.convoy.specs.Run.{planesOf as threePlanes, partsOf, Run, ConvoyCall, ConvoyPost}
+use Rattle.convoy.specs.Turn.{turnRules, convoyRules}
+use Rattle.convoy.specs.Alone.{Unwritten as ConvoyUnwritten, AsAlone, OneOutcome}
+use Rattle.convoy_calls.specs.Numbers.{numbersAt, customAt, frameOf as convoyFrame}
+use Rattle.convoy_calls.specs.Calls.{ExportedConvoy, convoyWith, ConvoyKept}
 
 -- ---- 1. Every call answers finished work or one numbered refusal, for all sizes, strides, buffers and settings; a refusal writes no byte.
 
@@ -126,9 +136,13 @@ CountsReplied input bytes =
     (x : Numbers) → Lowest (rule 1 (malformed input) 0 0 ∷ []) x
     → (x .number ≡ 0 → bytes ≡ lines (countOf (rangeOf input) (matrixOf input)) 256) × (1 ≤ x .number → bytes ≡ refusalLine (x .number))
 
+-- RULES 10.9: a convoy that came as numbers, with the answer and the place that were told
+abbrev pub asConvoy : ExportedConvoy → ConvoyCall
+asConvoy k = convoyWith k (record { answer = answerTold (k .number) (k .told); done = doneTold (k .told) })
+
 -- RULES 7.1, 7.2: of the calls of Rattle, which are frame, opening, band, a count of colours, reading and writing a shift file, one record of it,
 -- moving a file to its other form, building, checking, asking and updating its summary, pairing two files, reading and writing a Y4M file, one
--- picture of it, and a request of the program; then of those that C and Rust link, whose numbers come first to be refused
+-- picture of it, a convoy of frames, and a request of the program; then of those that C and Rust link, whose numbers come first to be refused
 pub record Demand1 : Type 0 where
   pub frame : (k : FrameCall) → FramePost k → Answered (frameRules k) (numbersOf (k .answer)) (Unwritten k)
   pub opening : (d : FrameDescription) (r : FrameAnswer) → OpenPost d r → Lowest (openingRules d) (numbersOf (r .answer))
@@ -160,6 +174,8 @@ pub record Demand1 : Type 0 where
       → Answered (y4mWriteRules code w h pictures (length before)) (numbersOf (r .answer)) (after ≡ before)
   pub y4m-picture : (f : PictureFrame) (y u v before : List ℕ) (r : Y4mWritten) (after : List ℕ) → PicturePost f y u v before r after
       → Answered (pictureRules f y u v (length before)) (numbersOf (r .answer)) (after ≡ before)
+  -- a convoy that is refused keeps the bytes of the refused frame and of later ones, and every other byte but those of finished frames
+  pub convoy : (k : ConvoyCall) → ConvoyPost k → Answered (convoyRules k) (numbersOf (k .result .answer)) (ConvoyUnwritten k)
   pub request : (input output : List ℕ) (response : Response) (output′ : List ℕ) → RequestPost input output response output′
       → Answered (requestRules input) (responseNumbers response) (output′ ≡ output)
   -- and what the program writes for it: the planes where no condition holds, or the line of the first number whose condition holds
@@ -194,6 +210,8 @@ pub record Demand1 : Type 0 where
       → Answered (rulesOfY4mWriting k) (numbers (k .number) 0 0) (k .output′ ≡ k .output)
   pub linked-y4m-picture : (k : ExportedY4mPicture) → Y4mPictureKept k
       → Answered (rulesOfY4mPicture k) (numbers (k .number) 0 0) (k .output′ ≡ k .output)
+  pub linked-convoy : (k : ExportedConvoy) → ConvoyKept k
+      → Answered (convoyRules (asConvoy k)) (numbersTold (k .number) (k .told)) (ConvoyUnwritten (asConvoy k))
 
 -- ---- 2. Frames of 1 to 16,384 pixels a side, anywhere in a source of at most 16,384 a side in whole rows, with any channel order, sampling, range,
 -- transfer, rounding and accepted matrix: every byte of the planes is the one that the rules name, which is that of the Rust over our stated curve
@@ -722,3 +740,56 @@ pub record Y4mFiles : Type 0 where
       → (k .number ≡ 19) ↔ (WholePicture (frameOfPicture (k .numbers)) (k .y) (k .u) (k .v) → ⊥)
   pub linked-picture-written : (k : ExportedY4mPicture) (p : Y4mPictureKept k) → k .number ≡ 0
       → (p .written .answer ≡ Finished) × (k .told ≡ p .written .size ∷ [])
+
+-- ---- A convoy: up to 64 frames in one call. 18 is answered, before any frame is begun, exactly where there are more, a part reaches outside its buffer,
+-- or plane parts of two frames overlap. Otherwise the effect is that of single calls in order, up to the first that is refused: its place from 0 and its
+-- refusal are told, the earlier frames stand as their calls alone leave them, and no other byte is written.
+
+-- RULES 15.2: 18's condition, of the buffers that a call is lent
+abbrev pub IsBroken : ConvoyCall → Type 0
+IsBroken k = Broken (k .convoy) (lengthsOf (k .source) (k .before .y) (k .before .u) (k .before .v))
+
+-- RULES 10.9, 15.4: a single call by the numbers of frame j of a convoy, all sixteen of them given, on that frame's parts of the buffers as they were lent
+pub record SingleOf (k : ExportedConvoy) (j : ℕ) (e : ExportedFrame) : Type 0 where
+  pub given : 16 * j + 16 ≤ length (k .numbers)
+  pub numbers : e .numbers ≡ numbersAt (k .numbers) j
+  pub custom : e .custom ≡ customAt (k .customs) j
+  pub source : e .source ≡ partOf (frameAt (asConvoy k .convoy) j .source) (k .source)
+  pub planes : threePlanes (e .y) (e .u) (e .v) ≡ partsOf (frameAt (asConvoy k .convoy) j) (k .before)
+
+-- RULES 15.1, 15.2, 15.3, 15.4, 10.9
+pub record Convoys : Type 0 where
+  -- of the definitions
+  pub tests-are-exact : TestsAreExact
+  pub broken-is-exact : BrokenIsExact
+  -- 18, exactly where the convoy is broken; then no frame is begun
+  pub only-broken : (k : ConvoyCall) → ConvoyPost k → (numbersOf (k .result .answer) .number ≡ 18) ↔ IsBroken k
+  pub broken-keeps : (k : ConvoyCall) → ConvoyPost k → IsBroken k
+      → (numbersOf (k .result .answer) ≡ numbers 18 0 0) × (k .result .done ≡ 0) × (k .after ≡ k .before)
+  -- otherwise single calls in order, which have one outcome; and each frame is as if its call were the only one
+  pub in-order : (k : ConvoyCall) → ConvoyPost k → (IsBroken k → ⊥)
+      → Run (k .source) (framesOf (k .convoy)) (k .before) (k .result .answer) (k .result .done) (k .after)
+  pub one-outcome : OneOutcome
+  pub each-alone : (k : ConvoyCall) → ConvoyPost k → (IsBroken k → ⊥) → AsAlone k
+  -- of no frame before the place that is told does a condition hold, and of that frame the refusal is the first that does
+  pub first-refused : (k : ConvoyCall) → ConvoyPost k → (IsBroken k → ⊥) → 1 ≤ numbersOf (k .result .answer) .number
+      → (k .result .done < k .convoy .count) × Lowest (turnRules (frameAt (k .convoy) (k .result .done))) (numbersOf (k .result .answer))
+      × ((j : ℕ) → j < k .result .done → NoneHolds (turnRules (frameAt (k .convoy) j)))
+  -- where none has one, all are finished; and no frame at all is finished work
+  pub accepted : (k : ConvoyCall) → ConvoyPost k → (IsBroken k → ⊥)
+      → ((j : ℕ) → j < k .convoy .count → NoneHolds (turnRules (frameAt (k .convoy) j)))
+      → (k .result .answer ≡ Finished) × (k .result .done ≡ k .convoy .count)
+  pub no-frames : (k : ConvoyCall) → ConvoyPost k → k .convoy .count ≡ 0
+      → (k .result .answer ≡ Finished) × (k .result .done ≡ 0) × (k .after ≡ k .before)
+  -- for who links the library: the number and what is told are those of such a call
+  pub linked : (k : ExportedConvoy) → ConvoyKept k
+      → ConvoyPost (asConvoy k) × (numbersOf (asConvoy k .result .answer) ≡ numbersTold (k .number) (k .told))
+  pub linked-frame : (k : ExportedConvoy) (j : ℕ) → j < 64
+      → frameAt (asConvoy k .convoy) j ≡ convoyFrame (k .numbers) (k .customs) (k .parts) j
+  -- a finished frame has the planes that `segvartin_call_frame` leaves, and the refused one its answer
+  pub linked-finished : (k : ExportedConvoy) → ConvoyKept k → (IsBroken (asConvoy k) → ⊥) → (j : ℕ) → j < doneTold (k .told)
+      → (e : ExportedFrame) → FrameKept e → SingleOf k j e
+      → (e .number ≡ 0) × (threePlanes (e .y′) (e .u′) (e .v′) ≡ partsOf (frameAt (asConvoy k .convoy) j) (k .after))
+  pub linked-refused : (k : ExportedConvoy) → ConvoyKept k → (IsBroken (asConvoy k) → ⊥) → 1 ≤ k .number
+      → (e : ExportedFrame) → FrameKept e → SingleOf k (doneTold (k .told)) e
+      → numbersTold (e .number) (e .told) ≡ numbersTold (k .number) (k .told)
