@@ -79,7 +79,8 @@ module _ (k : ConvoyCall) (post : ConvoyPost k) where
       by-answer : isBroken k ≡ false → (a : YuvAnswer) → k .result .answer ≡ a → numbersOf (k .result .answer) ≡ firstOf rest
       by-answer e Finished is =
           let all = each-alone k post e .all is in
-          ap numbersOf is ∙ ap (λ (b : Bool). firstOf (cond b (turnRules next) [])) (sym (le-ltb (k .result .done) (k .convoy .count) (omega (arith, all))))
+          ap numbersOf is ∙ ap (λ (b : Bool). firstOf (cond b (turnRules next) []))
+          (sym (le-ltb (k .result .done) (k .convoy .count) (omega (arith, all))))
       by-answer e (Refused r) is =
           let x = each-alone k post e .refused r is in
           ap numbersOf is
@@ -161,7 +162,8 @@ module _ (k : ConvoyCall) (post : ConvoyPost k) where
       let below : j < k .convoy .count = omega (arith, done-most) in (
         below,
         turn-lowest f (numbers 0 0 0)
-            (call-answered f (k .source) (k .before) Finished (partsOf f (k .after)) (inside (not-broken whole) j below) (alone whole .finished j l)) .finished .0 refl,
+            (call-answered f (k .source) (k .before) Finished (partsOf f (k .after)) (inside (not-broken whole) j below)
+            (alone whole .finished j l)) .finished .0 refl,
       )
     where
       done-most : k .result .done ≤ k .convoy .count
@@ -176,13 +178,16 @@ module _ (k : ConvoyCall) (post : ConvoyPost k) where
       → (k .result .done < k .convoy .count) × Lowest (turnRules next) (numbersOf (k .result .answer))
   refused-lowest whole l = by-answer (k .result .answer) refl
     where
-      by-answer : (a : YuvAnswer) → k .result .answer ≡ a → (k .result .done < k .convoy .count) × Lowest (turnRules next) (numbersOf (k .result .answer))
-      by-answer Finished is = absurd (let z : numbersOf (k .result .answer) .number ≡ 0 = ap (λ (a : YuvAnswer). numbersOf a .number) is in omega arith)
+      by-answer : (a : YuvAnswer) → k .result .answer ≡ a
+          → (k .result .done < k .convoy .count) × Lowest (turnRules next) (numbersOf (k .result .answer))
+      by-answer Finished is =
+          absurd (let z : numbersOf (k .result .answer) .number ≡ 0 = ap (λ (a : YuvAnswer). numbersOf a .number) is in omega arith)
       by-answer (Refused e) is =
           let x = alone whole .refused e is in (
             x .0,
             turn-lowest next (numbersOf (k .result .answer)) (ap numbersOf is
-                ∙ call-answered next (k .source) (k .before) (Refused e) (partsOf next (k .before)) (inside (not-broken whole) (k .result .done) (x .0)) (x .1)),
+                ∙ call-answered next (k .source) (k .before) (Refused e) (partsOf next (k .before))
+                (inside (not-broken whole) (k .result .done) (x .0)) (x .1)),
           )
 
   -- a convoy is finished where none of its frames has a condition that holds

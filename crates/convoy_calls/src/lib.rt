@@ -26,6 +26,7 @@ const FRAME_CUSTOMS: usize = 2;
 // Offset and length in each of the four buffers.
 const FRAME_PARTS: usize = 8;
 
+// The frames that a convoy has room for.
 const MAX_FRAMES: usize = 64;
 
 // Float i, or NaN where it is not given.
@@ -143,9 +144,8 @@ pub fn convoy_from_numbers(count: usize, numbers: &[u32], customs: &[f32], parts
 fn tell_convoy(answered: ConvoyAnswer, told: &mut [usize]) -> u32
     requires { ⌜ 3 ≤ length (now told) ⌝ }
     ensures { λ n. ⌜ (n ≡ numbersOf (answered .answer) .number)
-        × (now (told .exit) ≡ set (set (set (now (told .entry)) 0 (numbersOf (answered .answer) .expected)) 1
-        (numbersOf (answered .answer) .received)) 2
-        (answered .done)) ⌝ }
+        × (now (told .exit) ≡ set (set (set (now (told .entry)) 0 (numbersOf (answered .answer) .expected))
+        1 (numbersOf (answered .answer) .received)) 2 (answered .done)) ⌝ }
 {
     let answer = answered.answer;
     let number = call_numbers::tell_answer(answer, told);
@@ -167,8 +167,8 @@ pub fn call_convoy(
     told: &mut [usize; 3],
 ) -> u32
     ensures { λ n. ⌜ ConvoyKept (exportedConvoy count (now (numbers .entry)) (now (customs .entry)) (now (parts .entry)) (now (source .entry))
-        (planesOf (now (y .entry)) (now (u .entry)) (now (v .entry))) n (now (told .exit)) (planesOf (now (y .exit)) (now (u .exit)) (now (v .exit))))
-        ⌝ }
+        (planesOf (now (y .entry)) (now (u .entry)) (now (v .entry))) n (now (told .exit))
+        (planesOf (now (y .exit)) (now (u .exit)) (now (v .exit)))) ⌝ }
 {
     let frames = convoy_from_numbers(count, numbers, customs, parts);
     let answered = convoy::convert_convoy(frames, source, y, u, v);

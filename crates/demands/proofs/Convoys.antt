@@ -37,7 +37,8 @@ use Rattle.demands.specs.Demands.{asConvoy, IsBroken, SingleOf, Convoys}
 
 -- a frame call by numbers is the single call of what they describe
 single : (e : ExportedFrame) (a : YuvAnswer) → FrameAnswered e a
-    → SinglePost (describedBy (e .numbers) (e .custom)) (at (e .numbers) 0) (e .source) (planesOf (e .y) (e .u) (e .v)) a (planesOf (e .y′) (e .u′) (e .v′))
+    → SinglePost (describedBy (e .numbers) (e .custom)) (at (e .numbers) 0) (e .source) (planesOf (e .y) (e .u) (e .v)) a
+    (planesOf (e .y′) (e .u′) (e .v′))
 single e a p = go (isMalformed 1 (e .numbers)) p
   where
     go : (b : Bool) → either b ((a ≡ Refused MalformedRequest) × Unwritten (frameWith e a)) (FramePost (frameWith e a))
@@ -47,7 +48,8 @@ single e a p = go (isMalformed 1 (e .numbers)) p
     go false p = p
 
 -- a single call with a convoy's frame's description, stride, source and planes is that frame's
-turn : (f : ConvoyFrame) (source : List ℕ) (before : Planes) (d : Described) (stride : ℕ) (bytes : List ℕ) (planes : Planes) (a : YuvAnswer) (left : Planes)
+turn : (f : ConvoyFrame) (source : List ℕ) (before : Planes) (d : Described) (stride : ℕ) (bytes : List ℕ) (planes : Planes) (a : YuvAnswer)
+    (left : Planes)
     → d ≡ f .described → stride ≡ f .stride → bytes ≡ partOf (f .source) source → planes ≡ partsOf f before → SinglePost d stride bytes planes a left
     → CallPost f source before a left
 turn f source before d stride bytes planes a left ed es eb ep post =
@@ -85,7 +87,8 @@ module _ (k : ExportedConvoy) (p : ConvoyKept k) (whole : IsBroken (asConvoy k) 
 
     its-call : CallPost f (k .source) (k .before) (q .answer) (planesOf (e .y′) (e .u′) (e .v′))
     its-call =
-        turn f (k .source) (k .before) (describedBy (e .numbers) (e .custom)) (at (e .numbers) 0) (e .source) (planesOf (e .y) (e .u) (e .v)) (q .answer)
+        turn f (k .source) (k .before) (describedBy (e .numbers) (e .custom)) (at (e .numbers) 0) (e .source) (planesOf (e .y) (e .u) (e .v))
+        (q .answer)
         (planesOf (e .y′) (e .u′) (e .v′)) described stride (s .source) (s .planes) (single e (q .answer) (q .answered))
 
   finished : (j : ℕ) → j < doneTold (k .told) → (e : ExportedFrame) → FrameKept e → SingleOf k j e

@@ -2,8 +2,8 @@
 -- (`FramePost`, `OpenPost`, `BandPost`, `CountsPost`, `ReadPost`, `WritePost`, `RecordPost`, `MovePost`, `BuildPost`, `CheckPost`, `FindPost`,
 -- `UpdatePost`, `PairingPost`, `PicturePost`, `ConvoyPost`, `RequestPost`, `Begins`, and `..Kept` of the calls that C and Rust link, the very
 -- predicates of their `ensures`), which hold of every call whatever it is given, and the rules, rows, planes, curves, files, summaries, reports and
--- convoys that they speak of. Their proofs are `demand-1`, `demand-2` and `demand-3` of proofs/Demands.antt, `grey` of Grey.antt, `counts` of Counts.antt,
--- `shift-files` of ShiftFiles.antt, `shift-moves` of ShiftMoves.antt, `shift-summaries` of ShiftSummaries.antt, `shift-pairs` of
+-- convoys that they speak of. Their proofs are `demand-1`, `demand-2` and `demand-3` of proofs/Demands.antt, `grey` of Grey.antt, `counts` of
+-- Counts.antt, `shift-files` of ShiftFiles.antt, `shift-moves` of ShiftMoves.antt, `shift-summaries` of ShiftSummaries.antt, `shift-pairs` of
 -- ShiftPairs.antt, `y4m-files` of Y4mFiles.antt and `convoys` of Convoys.antt.
 -- Assumes nothing.
 use Prim.Native.Nat.{ℕ, _+_, _*_, _-_, _/_, _^_, _≤_, _<_, min}
@@ -741,15 +741,16 @@ pub record Y4mFiles : Type 0 where
   pub linked-picture-written : (k : ExportedY4mPicture) (p : Y4mPictureKept k) → k .number ≡ 0
       → (p .written .answer ≡ Finished) × (k .told ≡ p .written .size ∷ [])
 
--- ---- A convoy: up to 64 frames in one call. 18 is answered, before any frame is begun, exactly where there are more, a part reaches outside its buffer,
--- or plane parts of two frames overlap. Otherwise the effect is that of single calls in order, up to the first that is refused: its place from 0 and its
--- refusal are told, the earlier frames stand as their calls alone leave them, and no other byte is written.
+-- ---- A convoy: up to 64 frames in one call. 18 is answered, before any frame is begun, exactly where there are more, a part reaches outside its
+-- buffer, or plane parts of two frames overlap. Otherwise the effect is that of single calls in order, up to the first that is refused: its place
+-- from 0 and its refusal are told, the earlier frames stand as their calls alone leave them, and no other byte is written.
 
 -- RULES 15.2: 18's condition, of the buffers that a call is lent
 abbrev pub IsBroken : ConvoyCall → Type 0
 IsBroken k = Broken (k .convoy) (lengthsOf (k .source) (k .before .y) (k .before .u) (k .before .v))
 
--- RULES 10.9, 15.4: a single call by the numbers of frame j of a convoy, all sixteen of them given, on that frame's parts of the buffers as they were lent
+-- RULES 10.9, 15.4: a single call by the numbers of frame j of a convoy, all sixteen of them given, on that frame's parts of the buffers as they
+-- were lent
 pub record SingleOf (k : ExportedConvoy) (j : ℕ) (e : ExportedFrame) : Type 0 where
   pub given : 16 * j + 16 ≤ length (k .numbers)
   pub numbers : e .numbers ≡ numbersAt (k .numbers) j

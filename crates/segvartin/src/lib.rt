@@ -96,7 +96,8 @@ pub extern "C" fn segvartin_call_convoy(
     told: &mut [usize; 3],
 ) -> u32
     ensures { λ n. ⌜ ConvoyKept (exportedConvoy count (now (numbers .entry)) (now (customs .entry)) (now (parts .entry)) (now (source .entry))
-        (planesOf (now (y .entry)) (now (u .entry)) (now (v .entry))) n (now (told .exit)) (planesOf (now (y .exit)) (now (u .exit)) (now (v .exit)))) ⌝ }
+        (planesOf (now (y .entry)) (now (u .entry)) (now (v .entry))) n (now (told .exit))
+        (planesOf (now (y .exit)) (now (u .exit)) (now (v .exit)))) ⌝ }
 {
     convoy_calls::call_convoy(count, numbers, customs, parts, source, y, u, v, told)
 }
