@@ -807,6 +807,63 @@ def y4m_picture_call(w, h, sampling, strides, planes, output):
     return put(output, made), len(made)
 
 
+# ---- chapter 15
+
+MOST_FRAMES = 64
+Part = namedtuple('Part', 'offset length')
+# by: settings, w, h, plane strides and window, or None for codes without a meaning; parts: of source, Y, U, V
+ConvoyFrame = namedtuple('ConvoyFrame', 'by stride parts')
+
+
+def bytes_of(part):
+    """15.1: the numbers of the bytes of a part."""
+    return range(part.offset, part.offset + part.length)
+
+
+def is_inside(part, n):
+    return part.offset + part.length <= n
+
+
+def shared_bytes(a, b):
+    """15.1: the numbers of the bytes that are of both."""
+    return range(max(bytes_of(a).start, bytes_of(b).start), min(bytes_of(a).stop, bytes_of(b).stop))
+
+
+def cut(part, buffer):
+    return buffer[part.offset:part.offset + part.length]
+
+
+def is_broken(frames, lengths):
+    """15.2: 18, for the lengths of source, Y, U, V."""
+    if len(frames) > MOST_FRAMES or not all(is_inside(part, n) for frame in frames for part, n in zip(frame.parts, lengths)):
+        return True
+    pairs = [(frames[j], frames[k]) for k in range(len(frames)) for j in range(k)]
+    return any(bool(shared_bytes(a.parts[plane], b.parts[plane])) for a, b in pairs for plane in (1, 2, 3))
+
+
+def turn(frame, source, planes):
+    """15.3: the call of one frame on its parts of the buffers. Answers three numbers."""
+    if frame.by is None:
+        return 1, 0, 0
+    s, w, h, strides, window = frame.by
+    left = [bytearray(cut(part, plane)) for part, plane in zip(frame.parts[1:], planes)]
+    answer = frame_call(s, w, h, cut(frame.parts[0], source), [frame.stride, *strides], left, window)
+    for part, plane, data in zip(frame.parts[1:], planes, left):
+        plane[part.offset:part.offset + part.length] = data
+    return answer
+
+
+def convoy_call(frames, source, planes):
+    """15.3: three numbers and how many frames are finished."""
+    if is_broken(frames, [len(source), *map(len, planes)]):
+        return (18, 0, 0), 0
+    for place, frame in enumerate(frames):
+        answer = turn(frame, source, planes)
+        if answer[0]:
+            return answer, place
+    return (0, 0, 0), len(frames)
+
+
 # ---- the examples, by the number of their rule
 
 EXAMPLES = {}
@@ -1880,6 +1937,61 @@ def _():
         yield f'y4m_picture, numbers {numbers(given)}, planes of {", ".join(map(str, lengths))}, output of {room} bytes: {told(*answer)}'
 
 
+def settings_of(description, kr, kb):
+    order, sampling, range_, matrix, transfer, rounding = (values[code] for code, values in
+                                                           zip(codes_of(description), (CODES | {'matrix': CODES['matrix'] + ['Custom']}).values()))
+    return Settings(order, sampling, range_, matrix, transfer, rounding, kr, kb)
+
+
+def convoy_of(count, given, customs, parts):
+    """10.9: the frames of a convoy by numbers; those past 64 are never looked at."""
+    frames = []
+    for k in range(min(count, MOST_FRAMES + 1)):
+        of_frame = given[16 * k:16 * k + 16]
+        kr, kb = (customs[i] if i < len(customs) else float('nan') for i in (2 * k, 2 * k + 1))
+        eight = [parts[i] if i < len(parts) else 0 for i in range(8 * k, 8 * k + 8)]
+        by = None
+        if len(of_frame) == 16 and not is_malformed('frame', of_frame):
+            description = of_frame[1:]
+            by = settings_of(description, kr, kb), *description[:2], description[7:10], window_of(description)
+        frames.append(ConvoyFrame(by, of_frame[0] if of_frame else 0, [Part(*eight[i:i + 2]) for i in (0, 2, 4, 6)]))
+    return frames
+
+
+@example('10.9')
+def _():
+    # three pixels side by side, each a frame; their planes stand in the opposite order
+    source = bytes([255, 0, 0, 0, 255, 0, 255, 255, 255])
+    one = (3, 1, 1, 0, 0, 1, 0, 0, 1, 1, 1, 0, 0, 0, 1, 1)
+    given, parts = one * 3, sum(((3 * k, 3) + (2 - k, 1) * 3 for k in range(3)), ())
+    custom, strange, wide = one[:6] + (6,) + one[7:], one[:6] + (7,) + one[7:], (2,) + one[1:]
+
+    def line(said, count, given, customs, parts):
+        planes = [filled(3) for _ in range(3)]
+        answer, done = convoy_call(convoy_of(count, given, customs, parts), source, planes)
+        return f'{said}: {told(*answer, done)}; {plane_text(planes)}'
+    yield 'the buffers of Example 15.3, the planes of EE before; Y, U, V after the call, in hexadecimal'
+    yield f'numbers {numbers(given)}'
+    yield f'parts {numbers(parts)}'
+    yield line('count 3', 3, given, (), parts)
+    yield line('count 2', 2, given, (), parts)
+    yield line('count 0', 0, given, (), parts)
+    yield line('count 3, the last number left out', 3, given[:-1], (), parts)
+    yield line('count 3, no numbers', 3, (), (), parts)
+    yield line('count 4', 4, given, (), parts)
+    yield line('count 3, the matrix of frame 1 7', 3, one + strange + one, (), parts)
+    yield line('count 3, the matrix of frame 1 6, no kr and kb', 3, one + custom + one, (), parts)
+    yield line('the same, kr and kb 0.25 of frames 0 and 1', 3, one + custom + one, (0.25,) * 4, parts)
+    yield line('the same, kr of frames 0 and 1 and kb of frame 0 0.25', 3, one + custom + one, (0.25,) * 3, parts)
+    yield line('count 3, the stride of frame 2 2', 3, one + one + wide, (), parts)
+    yield line('count 3, the last of the parts left out', 3, given, (), parts[:-1])
+    yield line('count 3, the parts of frame 2 left out', 3, given, (), parts[:-8])
+    yield line('count 3, the parts of frame 1 for frame 2 too', 3, given, (), parts[:-8] + parts[8:16])
+    yield line('count 64, numbers and parts of three frames', 64, given, (), parts)
+    yield line('count 65, numbers and parts of three frames', 65, given, (), parts)
+    yield line('count 18446744073709551615, nothing in the lists', 2 ** 64 - 1, (), (), ())
+
+
 # ---- chapter 11
 
 TWO = [record_of(1400, 3, 2, [bytes([0x10, 0x11, 0x12, 0x20, 0x21, 0x22]), bytes([0x30, 0x31]), bytes([0x40, 0x41])]),
@@ -2618,6 +2730,135 @@ def _():
                                                                                                      (3, 2, 0, 2, 3, 2), (4, 3, 2), 0)):
         number, size = y4m_picture_call(*given[:3], given[3:], [bytes(count) for count in lengths], filled(room))
         yield f'{said}, {numbers(given)}, lengths {numbers(lengths)}, output of {room} bytes: {number}, size {size}'
+
+
+# ---- chapter 15
+
+FULL = Settings(range_='Full')
+
+
+def pixel_frame(k, place, s=FULL, stride=3):
+    """A frame of one pixel, the k-th of a source of three bytes a pixel; its planes stand at byte `place` of each buffer."""
+    return ConvoyFrame((s, 1, 1, (1, 1, 1), None), stride, [Part(3 * k, 3)] + [Part(place, 1)] * 3)
+
+
+def with_part(frame, plane, *part):
+    parts = list(frame.parts)
+    parts[plane] = Part(*part)
+    return frame._replace(parts=parts)
+
+
+@example('15.1')
+def _():
+    yield 'a part as its offset and its length'
+    for part in (Part(3, 2), Part(3, 1), Part(3, 0)):
+        yield f'{numbers(part)}: bytes ' + (', '.join(map(str, bytes_of(part))) or 'none')
+    for n, part in ((8, (0, 8)), (8, (3, 5)), (8, (3, 6)), (8, (7, 1)), (8, (8, 0)), (8, (8, 1)), (8, (9, 0)), (0, (0, 0)), (0, (0, 1)), (0, (1, 0)),
+                    (8, (18446744073709551615, 2)), (8, (18446744073709551608, 16)), (8, (4, 18446744073709551612))):
+        part = Part(*part)
+        inside = 'inside' if is_inside(part, n) else 'not inside'
+        yield f'{numbers(part)} in a buffer of {n} bytes: offset + length {part.offset + part.length}, {inside}'
+    for a, b in (((0, 4), (4, 4)), ((4, 4), (0, 4)), ((0, 5), (4, 4)), ((4, 4), (0, 5)), ((3, 2), (3, 2)), ((0, 8), (3, 1)), ((3, 1), (0, 8)),
+                 ((3, 0), (0, 8)), ((0, 8), (8, 0)), ((3, 0), (3, 0)), ((3, 0), (3, 1)), ((0, 18446744073709551615), (18446744073709551614, 1))):
+        shared = shared_bytes(Part(*a), Part(*b))
+        said = f'byte {shared[0]} is' if len(shared) == 1 else f'bytes {shared[0]} to {shared[-1]} are' if shared else ''
+        yield f'{numbers(a)} and {numbers(b)}: ' + (f'overlap, {said} of both' if shared else 'do not overlap')
+    buffer, part = bytearray(range(0x10, 0x18)), Part(3, 2)
+    yield f'{numbers(part)} of {hexes(buffer)}, in hexadecimal: {hexes(cut(part, buffer))}'
+    buffer[3:5] = b'\xaa\xbb'
+    yield f'that replaced by AA BB: {hexes(buffer)}'
+
+
+@example('15.2')
+def _():
+    yield 'source of 9 bytes, Y, U and V of 8; two frames, of each a part of the source, of Y, U and V, as offset and length'
+    one, two = pixel_frame(0, 2), pixel_frame(1, 3)
+
+    def line(said, *frames):
+        return f'{said}: ' + ('18' if is_broken(frames, (9, 8, 8, 8)) else 'not 18')
+
+    def parts_text(frame):
+        return ', '.join(f'{part.offset} {part.length}' for part in frame.parts)
+    yield line(f'{parts_text(one)} and {parts_text(two)}', one, two)
+    yield line('the same, exchanged', two, one)
+    names = ('source', 'Y', 'U', 'V')
+    for name, *part in (('Y', 2, 1), ('U', 2, 1), ('V', 2, 1), ('Y', 0, 8), ('Y', 0, 2), ('Y', 0, 3), ('Y', 2, 0), ('Y', 7, 1), ('Y', 7, 2), ('Y', 8, 0),
+                        ('Y', 9, 0), ('U', 8, 1), ('V', 18446744073709551615, 2), ('source', 0, 3), ('source', 0, 9), ('source', 7, 3), ('source', 10, 0)):
+        yield line(f'the second with {name} {numbers(part)}', one, with_part(two, names.index(name), *part))
+    yield line('the second with codes without a meaning', one, two._replace(by=None))
+    yield line('the second with codes without a meaning, and Y 2 1', one, with_part(two, 1, 2, 1)._replace(by=None))
+    yield line('the first alone', one)
+    yield line('no frames')
+    none = ConvoyFrame(None, 0, [Part(0, 0)] * 4)
+    yield line('64 frames, all parts 0 0', *[none] * 64)
+    yield line('65 frames, all parts 0 0', *[none] * 65)
+
+
+THREE_PIXELS = bytes([255, 0, 0, 0, 255, 0, 255, 255, 255])
+
+
+def convoy_line(said, *frames):
+    planes = [filled(3) for _ in range(3)]
+    answer, done = convoy_call(frames, THREE_PIXELS, planes)
+    return f'{answer_line(said, answer)}, done {done}; {plane_text(planes)}'
+
+
+@example('15.3')
+def _():
+    yield f'source {numbers(THREE_PIXELS)}: red, green, white; Y, U and V of 3 bytes, EE before; after the call, in hexadecimal'
+    yield 'each frame 1 × 1, Rgb, 4:2:0, Full, Bt601, Srgb, stride 3, plane strides 1; frame k has pixel k, and byte 2 − k of each plane'
+    frames = [pixel_frame(k, 2 - k) for k in range(3)]
+    yield convoy_line('all three', *frames)
+    yield convoy_line('the first two', *frames[:2])
+    yield convoy_line('no frames')
+    yield convoy_line('the three with pixel 0 each', *(frame._replace(parts=frames[0].parts[:1] + frame.parts[1:]) for frame in frames))
+    for place in range(3):
+        changed = [frame._replace(stride=2) if k == place else frame for k, frame in enumerate(frames)]
+        yield convoy_line(f'all three, the stride of frame {place} 2', *changed)
+    yield convoy_line('all three, frame 1 with codes without a meaning', frames[0], frames[1]._replace(by=None), frames[2])
+    s = Settings(matrix='Custom', kr=1.0, kb=0.0)
+    yield convoy_line('all three, frame 1 with Custom, kr 1, frame 2 with codes without a meaning', frames[0], pixel_frame(1, 1, s),
+                      frames[2]._replace(by=None))
+    yield convoy_line('all three, frame 1 with the part 1 0 of U', frames[0], with_part(frames[1], 2, 1, 0), frames[2])
+    yield convoy_line('all three, frame 2 with the part 1 1 of Y, which is that of frame 1', *frames[:2], with_part(frames[2], 1, 1, 1))
+    yield convoy_line('the same, frame 0 with codes without a meaning', frames[0]._replace(by=None), frames[1], with_part(frames[2], 1, 1, 1))
+    yield convoy_line('the same, frame 2 with the part 3 1 of Y', frames[0]._replace(by=None), frames[1], with_part(frames[2], 1, 3, 1))
+
+
+@example('15.4')
+def _():
+    yield 'a source of 3 × 2 pixels, Rgb, without padding: row 0 red, green, blue; row 1 white, black, 9 120 60'
+    source = bytes([255, 0, 0, 0, 255, 0, 0, 0, 255, 255, 255, 255, 0, 0, 0, 9, 120, 60])
+    buffers_ = [filled(8), filled(4), filled(4)]
+    frames = [
+        ConvoyFrame((Settings(sampling='4:2:2', range_='Full'), 1, 2, (2, 1, 1), Window(1, 0, 3, 2)), 9,
+                    [Part(0, 18), Part(1, 4), Part(0, 2), Part(2, 2)]),
+        ConvoyFrame((Settings(matrix='Bt709'), 2, 1, (2, 1, 1), None), 6, [Part(9, 6), Part(5, 2), Part(3, 1), Part(1, 1)]),
+        ConvoyFrame((Settings(), 1, 1, (1, 1, 1), None), 3, [Part(15, 3), Part(0, 1), Part(2, 1), Part(0, 2)])]
+    yield 'frame 0: 4:2:2, Full, Bt601, 1 × 2, left 1, top 0, W 3, H 2, stride 9, plane strides 2 1 1; parts source 0 18, Y 1 4, U 0 2, V 2 2'
+    yield 'frame 1: 4:2:0, Limited, Bt709, 2 × 1, stride 6, plane strides 2 1 1; parts source 9 6, Y 5 2, U 3 1, V 1 1'
+    yield 'frame 2: 4:2:0, Limited, Bt601, 1 × 1, stride 3, plane strides 1; parts source 15 3, Y 0 1, U 2 1, V 0 2, which overlaps that of frame 1'
+    yield 'Y of 8 bytes, U and V of 4, EE before; after a call, in hexadecimal'
+
+    def line(said, *given):
+        planes = [bytearray(plane) for plane in buffers_]
+        answer, done = convoy_call(given, source, planes)
+        return planes, f'{answer_line(said, answer)}, done {done}; {plane_text(planes)}'
+    yield line('frames 0, 1, 2', *frames)[1]
+    frames[2] = with_part(frames[2], 3, 0, 1)
+    yield line('frames 0, 1, 2, the last with the part 0 1 of V', *frames)[1]
+    frames[2] = frames[2]._replace(stride=2)
+    after, text = line('the same, the last with stride 2', *frames)
+    yield text
+    alone = []
+    for k in range(3):
+        planes, text = line(f'frame {k} alone', frames[k])
+        alone.append(planes)
+        yield text
+    for k in (0, 1):
+        for plane in range(3):
+            assert cut(frames[k].parts[plane + 1], after[plane]) == cut(frames[k].parts[plane + 1], alone[k][plane])
+    yield line('frame 1, then frame 0', frames[1], frames[0])[1]
 
 
 # ---- appendix A
