@@ -6,27 +6,29 @@
  * alone; calls on separate buffers may run on separate threads. A call takes less than 96 KiB of stack, segvartin_pair_shift_files less than 128.
  *
  * Call segvartin_frame, segvartin_open and segvartin_band, or the same calls with their numbers in structs: segvartin_convert_frame,
- * segvartin_open_frame and segvartin_convert_band. With choices that these do not have, which today are the rounding of the curve tables and a
- * window (the frame is a rectangle inside a larger source): segvartin_convert_frame_with, segvartin_open_frame_with and
- * segvartin_convert_band_with. How many colours share a luma, in a matrix and range: segvartin_luma_counts. A record of a shift file from planes:
- * segvartin_write_shift_record; a file from records: segvartin_write_shift_file; its records where they stand in it: segvartin_read_shift_file.
- * The same with records that say how their planes were made: segvartin_write_settings_record, segvartin_write_settings_file, and for files of either
- * form segvartin_read_any_shift_file; from one form to the other: segvartin_move_forward, segvartin_move_back. The summary of a file, by which the
- * record of a crossing is found: segvartin_build_summary, segvartin_check_summary, segvartin_find_record, segvartin_find_any_record,
- * segvartin_update_summary. Two files of one day held against each other: segvartin_pair_shift_files. A Y4M file from planes: segvartin_y4m_write, or
- * picture by picture segvartin_y4m_write_picture; its pictures where they stand in it: segvartin_y4m_read. All only pass numbers on to the library's
- * segvartin_call_ functions below.
+ * segvartin_open_frame and segvartin_convert_band. With choices that these do not have, which today are the rounding of the curve tables and a window
+ * (the frame is a rectangle inside a larger source): segvartin_convert_frame_with, segvartin_open_frame_with and segvartin_convert_band_with. Several
+ * frames in one call, as parts of shared buffers: segvartin_convert_convoy. How many colours share a luma, in a matrix and range:
+ * segvartin_luma_counts. A record of a shift file from planes: segvartin_write_shift_record; a file from records: segvartin_write_shift_file; its
+ * records where they stand in it: segvartin_read_shift_file. The same with records that say how their planes were made:
+ * segvartin_write_settings_record, segvartin_write_settings_file, and for files of either form segvartin_read_any_shift_file; from one form to the
+ * other: segvartin_move_forward, segvartin_move_back. The summary of a file, by which the record of a crossing is found: segvartin_build_summary,
+ * segvartin_check_summary, segvartin_find_record, segvartin_find_any_record, segvartin_update_summary. Two files of one day held against each other:
+ * segvartin_pair_shift_files. A Y4M file from planes: segvartin_y4m_write, or picture by picture segvartin_y4m_write_picture; its pictures where they
+ * stand in it: segvartin_y4m_read. All only pass numbers on to the library's segvartin_call_ functions below.
  *
- * docs/RULES.md has the rules that fix each byte and each answer; RULES 7.1 below names one of them. The library's twenty functions are the
+ * docs/RULES.md has the rules that fix each byte and each answer; RULES 7.1 below names one of them. The library's twenty-one functions are the
  * calls of its chapter 10.
  *
  * Every function answers finished work (0) or the number of one refusal, and a refusal writes no byte of a plane, of the carried row, of a record,
- * of a picture, of a file or of a summary, no entry, no count of colours and no report. This holds for all values of all numbers: sizes, strides,
- * lengths, codes, kr, kb, and all bytes of a file and of a summary. What no function can check, and the caller must see to:
- *   - a pointer is not NULL, also where its length is 0, and points to as many bytes as the length beside it says; counts to 256 numbers;
- *   - of what a call is lent (source, y, u, v, carried, counts, done, expected, received; records, file, output, size, count, read, form; summary,
- *     record, yes, found; report, broken; pictures, told) nothing that it may write overlaps anything else. What is only read may overlap: one file
- *     may be ours and theirs.
+ * of a picture, of a file or of a summary, no entry, no count of colours and no report; of several frames in one call, the refused one and those
+ * behind it write none. This holds for all values of all numbers: sizes, strides, lengths, offsets, codes, kr, kb, and all bytes of a file and of a
+ * summary. What no function can check, and the caller must see to:
+ *   - a pointer is not NULL, also where its length is 0, and points to as many bytes as the length beside it says; counts to 256 numbers; frames to
+ *     count of them, or to 64 where count is more;
+ *   - of what a call is lent (frames, source, y, u, v, carried, counts, done, expected, received; records, file, output, size, count, read, form;
+ *     summary, record, yes, found; report, broken; pictures, told) nothing that it may write overlaps anything else. What is only read may overlap:
+ *     one file may be ours and theirs.
  *
  * The caller's floating-point mode (rounding, denormals, trapped exceptions) does not matter: each call is made in the default mode, and the
  * caller's mode and exception flags are put back as they were. Only SEGVARTIN_FCC and SEGVARTIN_CUSTOM use floats at all; the calls on files
@@ -81,8 +83,8 @@ enum { SEGVARTIN_SRGB = 0, SEGVARTIN_REC709 = 1, SEGVARTIN_GAMMA2P2 = 2, SEGVART
 enum { SEGVARTIN_TRUNCATED = 0, SEGVARTIN_NEAREST = 1 };
 
 /*
- * What a call answers (RULES 7.1). Where several conditions hold, the first in the order below is answered: 15, 17, 19, 1, 2, 3, 4, 14, 5, 6 and so
- * on to 13, 20, 16. In parentheses: what *expected and *received get; where nothing stands there, and after finished work, both get 0.
+ * What a call answers (RULES 7.1). Where several conditions hold, the first in the order below is answered: 15, 17, 19, 18, 1, 2, 3, 4, 14, 5, 6 and
+ * so on to 13, 20, 16. In parentheses: what *expected and *received get; where nothing stands there, and after finished work, both get 0.
  */
 enum {
     SEGVARTIN_FINISHED = 0,
@@ -95,6 +97,9 @@ enum {
     /* Y4M files only: the text or the planes of a file break their rules; of what is to be written, w or h is not from 1 to 16384, the sampling is no
      * code, the bytes are not whole pictures, a stride is below its row, or a plane is not exactly its stride times its rows long */
     SEGVARTIN_MALFORMED_Y4M = 19,
+    /* several frames in one call only, before any is begun: there are more than 64, a part reaches outside its buffer, or parts of two frames in y,
+     * in u or in v share a byte */
+    SEGVARTIN_PARTS_MISMATCH = 18,
     /* a code of channels, sampling, range, matrix, transfer or rounding without a meaning; of segvartin_call_ also another count of numbers */
     SEGVARTIN_MALFORMED_REQUEST = 1,
     /* w or h is 0 */
@@ -131,6 +136,9 @@ enum {
 
 #define SEGVARTIN_MAX_SIDE 16384
 
+/* Frames of one call of segvartin_convert_convoy, at most (RULES 15.2). */
+#define SEGVARTIN_MAX_CONVOY 64
+
 /* Records of a shift file, at most (RULES 11.1). */
 #define SEGVARTIN_MAX_RECORDS 4096
 
@@ -148,27 +156,37 @@ enum {
  *                    SEGVARTIN_TRUNCATED, and where they are not, these four are 0, 0, width, height. luma_counts: range, matrix. Any other
  *                    count is refusal 1. A later version may take further numbers; a call that does not give them stays the call that it is
  *                    today
+ *                    convoy: sixteen for each frame, its stride and a description of fifteen. Where fewer are left for a frame, that frame is
+ *                    refused with 1. What stands behind those of the last frame is not looked at, here and in customs and parts
  *                    shift_record: crossing, width, height, y_stride, u_stride, v_stride. shift_record_settings: these, and sampling, range, matrix,
  *                    transfer, the last three 255 where they are not recorded. y4m_write: width, height, sampling. y4m_picture: these, and y_stride,
  *                    u_stride, v_stride
  *   custom           kr, kb
+ *   count            how many frames there are. It is not held against the lengths of numbers, customs and parts
+ *   customs          kr, kb of each frame; one that is not there is no number, and refused with 4 where it is looked at
+ *   parts            of each frame eight: offset and length in source, in y, in u and in v; one that is not there is 0
  *   first, entries   the record to begin with, and eleven numbers for each record from there on, as many as there are and as whole elevens fit:
  *                    the fields of segvartin_shift_record, in their order. shift_records_any: fifteen, those of segvartin_settings_record.
  *                    y4m_pictures: six for each picture, those of segvartin_y4m_picture
- *   told             gets expected, received, and in open and band the rows done: 0, and what they are after the band. shift_records: how many
- *                    records the file has, and how many entries were written; shift_records_any: then its form too, 1 with settings, else 0.
- *                    shift_write, shift_write_settings, shift_forward, shift_back: the size of the file that is written. shift_record,
+ *   told             gets expected, received, and in open and band the rows done: 0, and what they are after the band. convoy: expected,
+ *                    received, and how many frames are finished, the place of the refused one. shift_records: how many records the file has,
+ *                    and how many entries were written; shift_records_any: then its form too, 1 with settings, else 0. shift_write,
+ *                    shift_write_settings, shift_forward, shift_back: the size of the file that is written. shift_record,
  *                    shift_record_settings: expected, received, the record's size. summary_check: 1 for yes, 0 for no. summary_find: 1 and the
- *                    record's number, from 0; or 0 and 0. shift_pairs: the file that is none, 1 for ours and 2 for theirs; or 0.
- *                    y4m_pictures: width, height, sampling, how many pictures the file has, and how many entries were written. y4m_write,
- *                    y4m_picture: the size of the file or of the picture
+ *                    record's number, from 0; or 0 and 0. shift_pairs: the file that is none, 1 for ours and 2 for theirs; or 0. y4m_pictures:
+ *                    width, height, sampling, how many pictures the file has, and how many entries were written. y4m_write, y4m_picture: the
+ *                    size of the file or of the picture
  *   report           the fields of segvartin_pair_report, in their order
- *   the others       as below; numbers, custom, entries, report and told overlap nothing either. The nine shift_ calls, the four summary_ calls and
- *                    the three y4m_ calls need no mode
+ *   the others       as below; numbers, custom, customs, parts, entries, report and told overlap nothing either. The nine shift_ calls, the four
+ *                    summary_ calls and the three y4m_ calls need no mode
  */
 /* Made by tools/declarations.py from the library's source: change that, and run it. */
 uint32_t segvartin_call_frame(const uint32_t *numbers, size_t numbers_len, const float custom[2], const uint8_t *source, size_t source_len,
                               uint8_t *y, size_t y_len, uint8_t *u, size_t u_len, uint8_t *v, size_t v_len, size_t told[2]);
+
+uint32_t segvartin_call_convoy(size_t count, const uint32_t *numbers, size_t numbers_len, const float *customs, size_t customs_len,
+                               const uint64_t *parts, size_t parts_len, const uint8_t *source, size_t source_len, uint8_t *y, size_t y_len,
+                               uint8_t *u, size_t u_len, uint8_t *v, size_t v_len, size_t told[3]);
 
 uint32_t segvartin_call_open(const uint32_t *numbers, size_t numbers_len, const float custom[2], size_t told[3]);
 
@@ -265,6 +283,19 @@ SEGVARTIN_APART uint32_t segvartin_band_in_default_mode(const uint32_t *numbers,
     uint32_t number;
     segvartin_set_mode(SEGVARTIN_DEFAULT_MODE);
     number = segvartin_call_band(numbers, numbers_len, custom, source, source_len, y, y_len, u, u_len, v, v_len, carried, carried_len, told);
+    segvartin_set_mode(mode);
+    return number;
+}
+
+SEGVARTIN_APART uint32_t segvartin_convoy_in_default_mode(size_t count, const uint32_t *numbers, size_t numbers_len, const float *customs,
+                                                          size_t customs_len, const uint64_t *parts, size_t parts_len,
+                                                          const uint8_t *source, size_t source_len, uint8_t *y, size_t y_len, uint8_t *u,
+                                                          size_t u_len, uint8_t *v, size_t v_len, size_t told[3]) {
+    const uint32_t mode = segvartin_get_mode();
+    uint32_t number;
+    segvartin_set_mode(SEGVARTIN_DEFAULT_MODE);
+    number = segvartin_call_convoy(count, numbers, numbers_len, customs, customs_len, parts, parts_len, source, source_len, y, y_len, u, u_len, v,
+                                   v_len, told);
     segvartin_set_mode(mode);
     return number;
 }
@@ -551,6 +582,88 @@ static inline segvartin_answer segvartin_convert_band_with(segvartin_state_with 
     a.expected = told[0];
     a.received = told[1];
     state->done = told[2] & 0xffffffffu; /* the rows done are 32 bits */
+    return a;
+}
+
+/*
+ * Several frames in one call (RULES 15.1 to 15.4), each with its own description, over one source buffer and one buffer for each plane.
+ */
+
+/* A part of a buffer: length bytes from byte offset on. */
+typedef struct segvartin_part {
+    size_t offset, length;
+} segvartin_part;
+
+/*
+ * A frame of a convoy. A later version may have further fields: it must be made by segvartin_convoy_frame_of, and fields are then set by name.
+ *
+ *   frame            size, settings and plane strides by the rules of segvartin_frame
+ *   options          as in segvartin_convert_frame_with
+ *   stride           that of the source
+ *   source           where the frame's source stands in the source buffer: exactly stride * H bytes, H by the options. Several frames may have the
+ *                    same bytes, and other windows onto them
+ *   y, u, v          where its planes stand in the three buffers: exactly y_stride * h, u_stride * ch and v_stride * ch bytes
+ */
+typedef struct segvartin_convoy_frame {
+    segvartin_description frame;
+    segvartin_options options;
+    uint32_t stride;
+    segvartin_part source, y, u, v;
+} segvartin_convoy_frame;
+
+/* The frame that d describes, its size already set, with the choices of segvartin_options_of; its stride is 0, and its parts have no bytes. */
+static inline segvartin_convoy_frame segvartin_convoy_frame_of(const segvartin_description *d) {
+    static const segvartin_part none = {0, 0};
+    segvartin_convoy_frame f;
+    f.frame = *d;
+    f.options = segvartin_options_of(d);
+    f.stride = 0;
+    f.source = f.y = f.u = f.v = none;
+    return f;
+}
+
+/* Puts an offset and a length behind each other. */
+static inline void segvartin_put_part(uint64_t parts[2], segvartin_part part) {
+    parts[0] = part.offset;
+    parts[1] = part.length;
+}
+
+/*
+ * Converts frames in order, each as segvartin_convert_frame_with on its parts would (RULES 15.3). The first that is refused ends the call with its
+ * refusal, 1 to 4, 14 or 6 to 12: the frames before it stand, and it and those behind it write no byte. 18 is answered before any frame is begun, and
+ * then no byte is written. No byte outside the parts of finished frames is written. Answers 0, or a refusal.
+ *
+ *   frames           their parts lie inside the buffers, offset + length not wrapped, and of two frames the parts in y share no byte, nor those in u,
+ *                    nor those in v; else 18. Parts in source may. A part of no bytes shares none, and is outside where its offset is above the
+ *                    buffer's length. A frame with a code without a meaning is refused with 1 at its turn
+ *   count            how many frames there are: 0 is finished work, above SEGVARTIN_MAX_CONVOY is 18
+ *   source, y, u, v  the buffers, of any lengths
+ *   done             gets how many frames are finished, count after 0. Where a frame is refused that is its place, from 0; with 18 it is 0
+ */
+static inline segvartin_answer segvartin_convert_convoy(const segvartin_convoy_frame *frames, size_t count, segvartin_bytes source,
+                                                        segvartin_bytes_mut y, segvartin_bytes_mut u, segvartin_bytes_mut v, size_t *done) {
+    const size_t packed = count < SEGVARTIN_MAX_CONVOY ? count : SEGVARTIN_MAX_CONVOY; /* the library looks at no more */
+    uint32_t numbers[16 * SEGVARTIN_MAX_CONVOY];
+    float customs[2 * SEGVARTIN_MAX_CONVOY];
+    uint64_t parts[8 * SEGVARTIN_MAX_CONVOY];
+    size_t told[3], k;
+    segvartin_answer a;
+    for (k = 0; k < packed; k++) {
+        const segvartin_convoy_frame *f = frames + k;
+        numbers[16 * k] = f->stride;
+        segvartin_put_numbers(numbers + 16 * k + 1, &f->frame, &f->options);
+        customs[2 * k] = f->frame.kr;
+        customs[2 * k + 1] = f->frame.kb;
+        segvartin_put_part(parts + 8 * k, f->source);
+        segvartin_put_part(parts + 8 * k + 2, f->y);
+        segvartin_put_part(parts + 8 * k + 4, f->u);
+        segvartin_put_part(parts + 8 * k + 6, f->v);
+    }
+    a.number = segvartin_convoy_in_default_mode(count, numbers, 16 * packed, customs, 2 * packed, parts, 8 * packed, source.at, source.len, y.at,
+                                                y.len, u.at, u.len, v.at, v.len, told);
+    a.expected = told[0];
+    a.received = told[1];
+    *done = told[2];
     return a;
 }
 

@@ -2782,8 +2782,9 @@ def _():
     yield line(f'{parts_text(one)} and {parts_text(two)}', one, two)
     yield line('the same, exchanged', two, one)
     names = ('source', 'Y', 'U', 'V')
-    for name, *part in (('Y', 2, 1), ('U', 2, 1), ('V', 2, 1), ('Y', 0, 8), ('Y', 0, 2), ('Y', 0, 3), ('Y', 2, 0), ('Y', 7, 1), ('Y', 7, 2), ('Y', 8, 0),
-                        ('Y', 9, 0), ('U', 8, 1), ('V', 18446744073709551615, 2), ('source', 0, 3), ('source', 0, 9), ('source', 7, 3), ('source', 10, 0)):
+    for name, *part in (('Y', 2, 1), ('U', 2, 1), ('V', 2, 1), ('Y', 0, 8), ('Y', 0, 2), ('Y', 0, 3), ('Y', 2, 0), ('Y', 7, 1), ('Y', 7, 2),
+                        ('Y', 8, 0), ('Y', 9, 0), ('U', 8, 1), ('V', 18446744073709551615, 2), ('source', 0, 3), ('source', 0, 9),
+                        ('source', 7, 3), ('source', 10, 0)):
         yield line(f'the second with {name} {numbers(part)}', one, with_part(two, names.index(name), *part))
     yield line('the second with codes without a meaning', one, two._replace(by=None))
     yield line('the second with codes without a meaning, and Y 2 1', one, with_part(two, 1, 2, 1)._replace(by=None))

@@ -23,6 +23,9 @@ pub enum YuvError {
     /// 19: the text or the planes of a Y4M file break its rules; or, of what is to be written, width or height is not from 1 to 16,384, the bytes are not
     /// whole pictures, a stride is below its row, or a plane is not exactly its stride times its rows long.
     MalformedY4m,
+    /// 18: of several frames in one call, there are more than 64, a part reaches outside its buffer, or parts of two frames in Y, in U or in V share a
+    /// byte.
+    PartsMismatch,
     /// 1: a setting without a meaning. The enums of this crate have none, so no call here answers it.
     MalformedRequest,
     /// 2: width or height is 0.
@@ -65,6 +68,7 @@ impl YuvError {
             YuvError::MalformedShiftFile => 15,
             YuvError::SummaryMismatch => 17,
             YuvError::MalformedY4m => 19,
+            YuvError::PartsMismatch => 18,
             YuvError::MalformedRequest => 1,
             YuvError::ZeroBaseSize => 2,
             YuvError::SizeTooLarge => 3,
@@ -91,6 +95,7 @@ impl YuvError {
             YuvError::MalformedShiftFile
             | YuvError::SummaryMismatch
             | YuvError::MalformedY4m
+            | YuvError::PartsMismatch
             | YuvError::MalformedRequest
             | YuvError::ZeroBaseSize
             | YuvError::SizeTooLarge
@@ -118,6 +123,7 @@ impl YuvError {
             15 => YuvError::MalformedShiftFile,
             17 => YuvError::SummaryMismatch,
             19 => YuvError::MalformedY4m,
+            18 => YuvError::PartsMismatch,
             2 => YuvError::ZeroBaseSize,
             3 => YuvError::SizeTooLarge,
             4 => YuvError::MatrixNotAccepted,
@@ -144,6 +150,9 @@ impl Display for YuvError {
             YuvError::MalformedShiftFile => "the layout of a shift file is broken",
             YuvError::SummaryMismatch => "the summary is too short, or not the shift file's",
             YuvError::MalformedY4m => "the text or the planes of a Y4M file break its rules",
+            YuvError::PartsMismatch => {
+                "too many frames, a part outside its buffer, or shared bytes"
+            }
             YuvError::MalformedRequest => "a setting has no meaning",
             YuvError::ZeroBaseSize => "width or height is 0",
             YuvError::SizeTooLarge => {

@@ -17,6 +17,25 @@ unsafe extern "C" {
         told: &mut [usize; 2],
     ) -> u32;
 
+    pub(crate) fn segvartin_call_convoy(
+        count: usize,
+        numbers: *const u32,
+        numbers_len: usize,
+        customs: *const f32,
+        customs_len: usize,
+        parts: *const u64,
+        parts_len: usize,
+        source: *const u8,
+        source_len: usize,
+        y: *mut u8,
+        y_len: usize,
+        u: *mut u8,
+        u_len: usize,
+        v: *mut u8,
+        v_len: usize,
+        told: &mut [usize; 3],
+    ) -> u32;
+
     pub(crate) fn segvartin_call_open(
         numbers: *const u32,
         numbers_len: usize,
