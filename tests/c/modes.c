@@ -72,6 +72,8 @@ typedef struct outcome {
     uint8_t y4m[Y4M_LINE + Y4M_PICTURE], y4m_whole[Y4M_LINE + Y4M_PICTURE];
     segvartin_y4m_picture picture;
     segvartin_y4m_file y4m_told;
+    uint8_t convoy_y[2 * W * H], convoy_u[2 * CW * H], convoy_v[2 * CW * H];
+    size_t frames;
 } outcome;
 
 typedef void call(const segvartin_description *d, outcome *o);
@@ -193,6 +195,28 @@ static void bands_in_window(const segvartin_description *d, outcome *o) {
     o->done = state.done;
 }
 
+/* Two frames of the description in one call, the second with nearest tables: the planes of the first stand behind those of the second. */
+static void two_frames(const segvartin_description *d, segvartin_convoy_frame frames[2]) {
+    for (size_t k = 0; k < 2; k++) {
+        segvartin_convoy_frame *f = &frames[k];
+        *f = segvartin_convoy_frame_of(d);
+        if (k == 1) f->options = nearest(d);
+        f->stride = 3 * d->width;
+        f->source.length = rows(d, 0, d->height).len;
+        f->y.length = (size_t)d->y_stride * d->height;
+        f->u.length = f->v.length = plane(NULL, d).len;
+        f->y.offset = (1 - k) * f->y.length;
+        f->u.offset = f->v.offset = (1 - k) * f->u.length;
+    }
+}
+
+static void convoy(const segvartin_description *d, outcome *o) {
+    segvartin_convoy_frame frames[2];
+    segvartin_bytes_mut y = {o->convoy_y, sizeof o->convoy_y}, u = {o->convoy_u, sizeof o->convoy_u}, v = {o->convoy_v, sizeof o->convoy_v};
+    two_frames(d, frames);
+    told(o, segvartin_convert_convoy(frames, 2, rows(d, 0, d->height), y, u, v, &o->frames));
+}
+
 /* How many colours share a luma, by the range and the matrix of the description alone. */
 static void colours(const segvartin_description *d, outcome *o) {
     o->number = segvartin_luma_counts(d->range, d->matrix, d->kr, d->kb, o->counts);
@@ -287,6 +311,28 @@ static void bare(const segvartin_description *d, outcome *o) {
     o->received = sizes[1];
 }
 
+/* As convoy, by the exported function alone: the frame once. */
+static void bare_convoy(const segvartin_description *d, outcome *o) {
+    const float customs[2] = {d->kr, d->kb};
+    segvartin_convoy_frame frames[2];
+    segvartin_bytes from = rows(d, 0, d->height);
+    uint32_t numbers[16];
+    uint64_t parts[8];
+    size_t sizes[3];
+    two_frames(d, frames);
+    numbers[0] = frames[1].stride;
+    segvartin_put_numbers(numbers + 1, d, &frames[1].options);
+    segvartin_put_part(parts, frames[1].source);
+    segvartin_put_part(parts + 2, frames[1].y);
+    segvartin_put_part(parts + 4, frames[1].u);
+    segvartin_put_part(parts + 6, frames[1].v);
+    o->number = segvartin_call_convoy(1, numbers, 16, customs, 2, parts, 8, from.at, from.len, o->convoy_y, sizeof o->convoy_y, o->convoy_u,
+                                      sizeof o->convoy_u, o->convoy_v, sizeof o->convoy_v, sizes);
+    o->expected = sizes[0];
+    o->received = sizes[1];
+    o->frames = sizes[2];
+}
+
 /* Makes the call in the mode, and answers MXCSR before and after it. */
 static void in_mode(int mode, call *made, const segvartin_description *d, outcome *o, unsigned mxcsr[2]) {
     memset(o, 0, sizeof *o);
@@ -322,6 +368,21 @@ static void as_usual(call *made, const segvartin_description *d, const outcome *
     }
 }
 
+/* Two frames in one call: each is what its own call leaves, in each mode. */
+static void several_in_every_mode(const segvartin_description *d, uint32_t number) {
+    outcome both, one, other;
+    unsigned mxcsr[2];
+    size_t luma = (size_t)d->y_stride * d->height, chroma = plane(NULL, d).len;
+    in_mode(0, convoy, d, &both, mxcsr);
+    in_mode(0, frame, d, &one, mxcsr);
+    in_mode(0, frame_with, d, &other, mxcsr);
+    EXPECT(both.number == number && both.expected == 0 && both.received == 0 && both.frames == (number == SEGVARTIN_FINISHED ? 2 : 0));
+    EXPECT(memcmp(both.convoy_y, other.y, luma) == 0 && memcmp(both.convoy_y + luma, one.y, luma) == 0);
+    EXPECT(memcmp(both.convoy_u, other.u, chroma) == 0 && memcmp(both.convoy_u + chroma, one.u, chroma) == 0);
+    EXPECT(memcmp(both.convoy_v, other.v, chroma) == 0 && memcmp(both.convoy_v + chroma, one.v, chroma) == 0);
+    as_usual(convoy, d, &both);
+}
+
 /* The calls, in each mode: answered with this number, and the same bytes as in the default mode. */
 static void in_every_mode(const segvartin_description *d, uint32_t number) {
     static call *const calls[9] = {frame, opening, bands, frame_with, opening_with, bands_with, frame_in_window, opening_of_window, bands_in_window};
@@ -337,6 +398,7 @@ static void in_every_mode(const segvartin_description *d, uint32_t number) {
         EXPECT(usual.done == (i % 3 == 2 && number == SEGVARTIN_FINISHED ? d->height : 0));
         as_usual(calls[i], d, &usual);
     }
+    several_in_every_mode(d, number);
 }
 
 /* Refusal 4 and its limits, by the bits of kr or of kb. */
@@ -391,8 +453,12 @@ static void another_rounding(void) {
         EXPECT(o.number == SEGVARTIN_FINISHED && o.v[0] == 46);
         in_mode(mode, bands_in_window, &d, &o, mxcsr);
         EXPECT(o.number == SEGVARTIN_FINISHED && o.v[0] == 46);
+        in_mode(mode, convoy, &d, &o, mxcsr);
+        EXPECT(o.number == SEGVARTIN_FINISHED && o.frames == 2 && o.convoy_v[0] == 46 && o.convoy_v[1] == 46);
         in_mode(mode, bare, &d, &o, mxcsr);
         EXPECT(o.number == SEGVARTIN_FINISHED && o.v[0] == (mode == 0 ? 46 : 47));
+        in_mode(mode, bare_convoy, &d, &o, mxcsr);
+        EXPECT(o.number == SEGVARTIN_FINISHED && o.frames == 1 && o.convoy_v[0] == (mode == 0 ? 46 : 47));
     }
 }
 
@@ -469,7 +535,11 @@ static void another_answer(void) {
         EXPECT(o.number == SEGVARTIN_MATRIX_NOT_ACCEPTED);
         in_mode(mode, frame_with, &d, &o, mxcsr);
         EXPECT(o.number == SEGVARTIN_MATRIX_NOT_ACCEPTED);
+        in_mode(mode, convoy, &d, &o, mxcsr);
+        EXPECT(o.number == SEGVARTIN_MATRIX_NOT_ACCEPTED && o.frames == 0);
         in_mode(mode, bare, &d, &o, mxcsr);
+        EXPECT(o.number == (mode == 0 ? SEGVARTIN_MATRIX_NOT_ACCEPTED : SEGVARTIN_FINISHED));
+        in_mode(mode, bare_convoy, &d, &o, mxcsr);
         EXPECT(o.number == (mode == 0 ? SEGVARTIN_MATRIX_NOT_ACCEPTED : SEGVARTIN_FINISHED));
         in_mode(mode, bare_colours, &d, &o, mxcsr);
         EXPECT(o.number == (mode == 0 ? SEGVARTIN_MATRIX_NOT_ACCEPTED : SEGVARTIN_FINISHED));
@@ -497,7 +567,7 @@ static int ends(call *made, const segvartin_description *d) {
 static void another_end(void) {
     segvartin_description d = description(W, H, SEGVARTIN_YUV420, SEGVARTIN_FULL, SEGVARTIN_FCC);
     EXPECT(!ends(frame, &d) && !ends(bands, &d) && !ends(frame_with, &d) && !ends(bands_with, &d) && ends(bare, &d));
-    EXPECT(!ends(frame_in_window, &d) && !ends(bands_in_window, &d));
+    EXPECT(!ends(frame_in_window, &d) && !ends(bands_in_window, &d) && !ends(convoy, &d) && ends(bare_convoy, &d));
     EXPECT(!ends(colours, &d) && ends(bare_colours, &d) && !ends(summary, &d) && !ends(pairs, &d) && !ends(settings, &d) && !ends(y4m, &d));
     d.matrix = SEGVARTIN_BT709;
     EXPECT(!ends(bare, &d) && !ends(bare_colours, &d));

@@ -1,9 +1,9 @@
 /*
  * The stack that a call takes, for every setting, without options and with: nearest tables, and a window onto a larger source; that of a count of
  * colours, for every range and matrix; that of the calls on shift files, with settings and moved too; that of the calls on summaries, of a file with
- * as many records as there may be; that of the calls on Y4M files; and that of pairing two shift files. Each call runs on a thread whose stack is
- * filled with one byte first; from where the call is made down to the lowest byte that changed is what it took. Bytes that a call reserves and never
- * writes are not seen.
+ * as many records as there may be; that of the calls on Y4M files; that of as many frames in one call as there may be; and that of pairing two
+ * shift files. Each call runs on a thread whose stack is filled with one byte first; from where the call is made down to the lowest byte that changed
+ * is what it took. Bytes that a call reserves and never writes are not seen.
  */
 #include <pthread.h>
 #include <stdint.h>
@@ -14,7 +14,7 @@
 #include "segvartin.h"
 
 /* What is PROMISED segvartin.h says. The frame is odd both ways, and given in bands of one row. With options its source is twice as large. */
-enum { STACK = 1 << 20, FILL = 0xA5, PROMISED = 96 << 10, PROMISED_OF_PAIRS = 128 << 10, W = 17, H = 5, CW = 9 };
+enum { STACK = 1 << 20, FILL = 0xA5, PROMISED = 96 << 10, PROMISED_OF_LARGE = 128 << 10, W = 17, H = 5, CW = 9 };
 
 static uint8_t source_bytes[4 * 2 * W * 2 * H], y_bytes[W * H], u_bytes[CW * H], v_bytes[CW * H], carried_bytes[3 * W];
 static segvartin_description description;
@@ -225,6 +225,38 @@ static void *y4m(void *unused) {
     return a.number == SEGVARTIN_FINISHED && size == sizeof file_bytes ? unused : &description;
 }
 
+/* MANY frames of any settings in one call, all from one source. */
+static void *convoy(void *unused) {
+    enum { MANY = SEGVARTIN_MAX_CONVOY };
+    static segvartin_convoy_frame frames[MANY];
+    static uint8_t y_buffer[MANY * W * H], u_buffer[MANY * CW * H], v_buffer[MANY * CW * H];
+    static size_t done;
+    segvartin_bytes from = {source_bytes, sizeof source_bytes};
+    segvartin_bytes_mut y_lent = {y_buffer, sizeof y_buffer}, u_lent = {u_buffer, sizeof u_buffer}, v_lent = {v_buffer, sizeof v_buffer};
+    segvartin_answer a;
+    uint32_t k;
+    for (k = 0; k < MANY; k++) {
+        segvartin_convoy_frame *f = &frames[k];
+        description.channels = k % 4;
+        description.sampling = k / 4 % 2;
+        description.range = k / 8 % 2;
+        description.matrix = k % 7;
+        description.transfer = k / 16;
+        with_options = k / 2 % 2;
+        *f = segvartin_convoy_frame_of(&description);
+        if (with_options) f->options = options();
+        f->stride = stride();
+        f->source.length = (size_t)stride() * f->options.source_height;
+        f->y.offset = k * sizeof y_bytes;
+        f->y.length = sizeof y_bytes;
+        f->u.offset = f->v.offset = k * sizeof u_bytes;
+        f->u.length = f->v.length = chroma(u_bytes).len;
+    }
+    called_from = __builtin_frame_address(0);
+    a = segvartin_convert_convoy(frames, MANY, from, y_lent, u_lent, v_lent, &done);
+    return a.number == SEGVARTIN_FINISHED && done == MANY ? unused : &description;
+}
+
 static size_t taken(void *(*call)(void *)) {
     pthread_attr_t attributes;
     pthread_t thread;
@@ -246,7 +278,7 @@ static size_t taken(void *(*call)(void *)) {
 }
 
 int main(void) {
-    size_t most[8] = {0, 0, 0, 0, 0, 0, 0, 0};
+    size_t most[9] = {0, 0, 0, 0, 0, 0, 0, 0, 0};
     uint32_t code;
     description.width = W, description.height = H, description.kr = 0.25f, description.kb = 0.125f;
     description.y_stride = W, description.u_stride = description.v_stride = CW;
@@ -274,11 +306,12 @@ int main(void) {
     most[4] = taken(settings);
     most[5] = taken(summaries);
     most[6] = taken(y4m);
-    most[7] = taken(pairs);
+    most[7] = taken(convoy);
+    most[8] = taken(pairs);
     printf("stack, at most: a frame call %zu bytes, a band call %zu, a count of colours %zu, shift files %zu, with settings and moved %zu, "
-           "summaries %zu, Y4M files %zu, two files paired %zu\n",
-           most[0], most[1], most[2], most[3], most[4], most[5], most[6], most[7]);
+           "summaries %zu, Y4M files %zu, %d frames in one call %zu, two files paired %zu\n",
+           most[0], most[1], most[2], most[3], most[4], most[5], most[6], SEGVARTIN_MAX_CONVOY, most[7], most[8]);
     for (code = 0; code < 7; code++)
         if (most[code] >= PROMISED) return 1;
-    return most[7] < PROMISED_OF_PAIRS ? 0 : 1;
+    return most[7] < PROMISED_OF_LARGE && most[8] < PROMISED_OF_LARGE ? 0 : 1;
 }
