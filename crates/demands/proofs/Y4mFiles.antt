@@ -34,7 +34,7 @@ use Rattle.y4m_reader.specs.Entry.{entriesOf}
 use Rattle.y4m_reader.specs.Reading.{ReadPost}
 use Rattle.y4m_writer.specs.declared.Y4mWritten.{Y4mWritten}
 use Rattle.y4m_writer.specs.Text.{decimal}
-use Rattle.y4m_writer.specs.Pictures.{samplingOf, isShape, canWrite, picturesOf, fileFrom, fileMade, planesOf}
+use Rattle.y4m_writer.specs.Pictures.{samplingOf, isShape, canWrite, pictureFrom, picturesOf, fileFrom, fileMade, planesOf}
 use Rattle.y4m_writer.specs.Writing.{inWord, WritePost}
 use Rattle.y4m_writer.proofs.Back as back
 use Rattle.y4m_picture.specs.declared.PictureFrame.{PictureFrame}
@@ -367,6 +367,14 @@ the-line : fileMade 0 4 2 []
 unfolding fileMade fileFrom fileBytes picturesBytes picturesOf planeBytes lineOf textOf tagBytes decimal
 the-line = refl
 
+-- ---- and of one of 1 × 1 with a picture
+
+one-of-422 : fileMade 1 1 1 (7 ∷ 8 ∷ 9 ∷ [])
+    ≡ 89 ∷ 85 ∷ 86 ∷ 52 ∷ 77 ∷ 80 ∷ 69 ∷ 71 ∷ 50 ∷ 32 ∷ 87 ∷ 49 ∷ 32 ∷ 72 ∷ 49 ∷ 32 ∷ 70 ∷ 50 ∷ 53 ∷ 58 ∷ 49 ∷ 32 ∷ 73 ∷ 112 ∷ 32 ∷ 67 ∷ 52 ∷ 50
+    ∷ 50 ∷ 10 ∷ 70 ∷ 82 ∷ 65 ∷ 77 ∷ 69 ∷ 10 ∷ 7 ∷ 8 ∷ 9 ∷ []
+unfolding fileMade fileFrom fileBytes picturesBytes pictureBytes picturesOf pictureFrom planeBytes lineOf textOf tagBytes decimal
+one-of-422 = refl
+
 -- ---- for who links the library
 
 -- the number is that of the answer
@@ -380,13 +388,15 @@ y4m-files = record {
   read-back = read-back;
   rewritten = rewritten;
   line = the-line;
+  line-422 = one-of-422;
   refused = read-19;
   read = λ file first before r after p f i. (done file first before r after p f i, tells file first before r after p f i);
   write-refused = write-19;
   write-short = write-16;
   write-size = λ code w h b before r after p. (λ z. p .size ∙ rw z, λ z. p .size ∙ rw z);
   written = λ code w h b before r after p most is.
-      ((fileFrom code w h b, written-is code w h b before r after p most is), front code w h b before r after p most is .1);
+      let there = front code w h b before r after p most is in
+      (there .0, (fileFrom code w h b, written-is code w h b before r after p most is), there .1);
   written-read = λ code w h b before r after p most is first before₂ r₂ after₂ q.
       let f = fileFrom code w h b in
       let o = written-is code w h b before r after p most is in

@@ -67,8 +67,9 @@ module _ (f : Y4mFile) (k : ℕ) (h : k < length (f .pictures)) where
       ∙ drop-at (p .u) (p .v ++ more) _ refl
 
   -- an entry names the planes of its picture
-  pub names : (rest : List ℕ) → NamesPlanes (fileBytes f) (entryOf (offsetOf f k) p ++ rest) p
+  pub names : (rest : List ℕ) → NamesPlanes (fileBytes f) (entryOf (offsetOf f k) p ++ rest) f k
   names rest = record {
+    place = refl;
     y = ap (take (length (p .y))) from-y ∙ take-at (p .y) _ _ refl;
     u = ap (take (length (p .u))) from-u ∙ take-at (p .u) _ _ refl;
     v = ap (take (length (p .v))) from-v ∙ take-at (p .v) _ _ refl;

@@ -94,7 +94,7 @@ use Rattle.yuv_support.specs.Sampling.{chromaWidth}
 use Rattle.y4m_file.specs.File.{Y4mPicture, Y4mFile, EachAllowed, lumaBytes, chromaBytes, pictureBytes, IsFileOf as IsY4mOf}
 use Rattle.y4m_file.specs.Means.{SomeFile, OneFile, ReadBack as Y4mReadBack, Rewritten as Y4mRewritten}
 use Rattle.y4m_reader.specs.declared.Y4mReading.{Y4mReading}
-use Rattle.y4m_reader.specs.Entry.{pictureOf}
+use Rattle.y4m_reader.specs.Entry.{pictureOf, entryOf, offsetOf as y4mOffset}
 use Rattle.y4m_reader.specs.Reading.{fileRules as y4mFileRules, ReadPost as Y4mReadPost}
 use Rattle.y4m_writer.specs.declared.Y4mWritten.{Y4mWritten}
 use Rattle.y4m_writer.specs.Pictures.{samplingOf as y4mSampling, fileMade as y4mMade, planesOf}
@@ -582,11 +582,12 @@ pub record ShiftPairs : Type 0 where
 abbrev pub NoY4m : (file : List ℕ) → Type 0
 NoY4m file = (f : Y4mFile) → IsY4mOf file f → ⊥
 
--- RULES 14.5: the parts of a file that an entry names, by offset and length of each, are the planes of a picture
-pub record NamesPlanes (file entry : List ℕ) (p : Y4mPicture) : Type 0 where
-  pub y : take (getD entry 1 0) (drop (getD entry 0 0) file) ≡ p .y
-  pub u : take (getD entry 3 0) (drop (getD entry 2 0) file) ≡ p .u
-  pub v : take (getD entry 5 0) (drop (getD entry 4 0) file) ≡ p .v
+-- RULES 14.5: an entry has the offsets and lengths of picture k's planes, and the parts of the file that it names are these planes
+pub record NamesPlanes (file entry : List ℕ) (f : Y4mFile) (k : ℕ) : Type 0 where
+  pub place : take 6 entry ≡ entryOf (y4mOffset f k) (pictureOf f k)
+  pub y : take (getD entry 1 0) (drop (getD entry 0 0) file) ≡ pictureOf f k .y
+  pub u : take (getD entry 3 0) (drop (getD entry 2 0) file) ≡ pictureOf f k .u
+  pub v : take (getD entry 5 0) (drop (getD entry 4 0) file) ≡ pictureOf f k .v
 
 -- RULES 14.5: everything that is told of a file
 pub record Y4mTold (file : List ℕ) (f : Y4mFile) (first : ℕ) (before : List ℕ) (r : Y4mReading) (after : List ℕ) : Type 0 where
@@ -595,7 +596,7 @@ pub record Y4mTold (file : List ℕ) (f : Y4mFile) (first : ℕ) (before : List 
   pub sampling : r .sampling ≡ samplingCode (f .sampling)
   pub count : r .count ≡ length (f .pictures)
   pub told : r .told ≡ min (length (f .pictures) - first) (length before / 6)
-  pub planes : (i : ℕ) → i < r .told → NamesPlanes file (drop (6 * i) after) (pictureOf f (first + i))
+  pub planes : (i : ℕ) → i < r .told → NamesPlanes file (drop (6 * i) after) f (first + i)
   pub others : drop (6 * r .told) after ≡ drop (6 * r .told) before
 
 -- RULES 14.6: the code of a sampling, and sides of 1 to 16,384
@@ -684,6 +685,10 @@ pub record Y4mFiles : Type 0 where
   pub line : y4mMade 0 4 2 []
       ≡ 89 ∷ 85 ∷ 86 ∷ 52 ∷ 77 ∷ 80 ∷ 69 ∷ 71 ∷ 50 ∷ 32 ∷ 87 ∷ 52 ∷ 32 ∷ 72 ∷ 50 ∷ 32 ∷ 70 ∷ 50 ∷ 53 ∷ 58 ∷ 49 ∷ 32 ∷ 73 ∷ 112 ∷ 32 ∷ 67 ∷ 52 ∷ 50
       ∷ 48 ∷ 106 ∷ 112 ∷ 101 ∷ 103 ∷ 10 ∷ []
+  -- one of 1 × 1 in 4:2:2 with the planes 7, 8, 9 is YUV4MPEG2 W1 H1 F25:1 Ip C422, FRAME, each with a newline, and these three bytes
+  pub line-422 : y4mMade 1 1 1 (7 ∷ 8 ∷ 9 ∷ [])
+      ≡ 89 ∷ 85 ∷ 86 ∷ 52 ∷ 77 ∷ 80 ∷ 69 ∷ 71 ∷ 50 ∷ 32 ∷ 87 ∷ 49 ∷ 32 ∷ 72 ∷ 49 ∷ 32 ∷ 70 ∷ 50 ∷ 53 ∷ 58 ∷ 49 ∷ 32 ∷ 73 ∷ 112 ∷ 32 ∷ 67 ∷ 52 ∷ 50
+      ∷ 50 ∷ 10 ∷ 70 ∷ 82 ∷ 65 ∷ 77 ∷ 69 ∷ 10 ∷ 7 ∷ 8 ∷ 9 ∷ []
   -- of reading: 19, and otherwise everything that is told
   pub refused : (file : List ℕ) (first : ℕ) (before : List ℕ) (r : Y4mReading) (after : List ℕ) → Y4mReadPost file first before r after
       → (numbersOf (r .answer) .number ≡ 19) ↔ NoY4m file
@@ -700,7 +705,8 @@ pub record Y4mFiles : Type 0 where
       × (numbersOf (r .answer) .number ≡ 19 → r .size ≡ 0)
   pub written : (code w h : ℕ) (pictures before : List ℕ) (r : Y4mWritten) (after : List ℕ) → Y4mWritePost code w h pictures before r after
       → length before < 2 ^ 64 → r .answer ≡ Finished
-      → ((f : Y4mFile) × Y4mOf code w h pictures (take (r .size) after) f) × (drop (r .size) after ≡ drop (r .size) before)
+      → (take (r .size) after ≡ y4mMade code w h pictures) × ((f : Y4mFile) × Y4mOf code w h pictures (take (r .size) after) f)
+      × (drop (r .size) after ≡ drop (r .size) before)
   -- read back, it tells the sides, the sampling and the planes that were given
   pub written-read : (code w h : ℕ) (pictures before : List ℕ) (r : Y4mWritten) (after : List ℕ) → Y4mWritePost code w h pictures before r after
       → length before < 2 ^ 64 → r .answer ≡ Finished
