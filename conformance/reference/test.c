@@ -1576,7 +1576,7 @@ static void test_every_window(void)
     }
 }
 
-/* RULES 6.5, 11, 12, 13: numbers below a bound of at most 2^24, without order but the same in each run. */
+/* RULES 6.5, 11 to 14: numbers below a bound of at most 2^24, without order but the same in each run. */
 static uint32_t below(uint32_t bound)
 {
     static uint32_t state = 1;
@@ -3827,7 +3827,6 @@ static void test_full_pairing(uint32_t kinds)
     free(ours.bytes);
 }
 
-/* All examples, one chapter after the other. */
 /* RULES 11.7: the file of two records with settings; and RULES 11.8: that of 11.1 moved forward. */
 enum { SET_FILE_BYTES = 74, SET_FIRST = 32, SET_SECOND = 54, MOVED_BYTES = 69 };
 
@@ -4183,6 +4182,1264 @@ static void test_either_form(void)
     expect("12.7 settings", 5, 0x42, room[30]);
 }
 
+/* A text with its length, since it may have bytes 0. */
+#define TEXT(text) text, sizeof(text) - 1
+
+/* RULES 14.3: the parts of the file of two pictures. */
+#define HEADER "YUV4MPEG2 W3 H2 F25:1 Ip C420jpeg\n"
+#define FIRST_LINE "FRAME\n"
+#define FIRST_PLANES "\020\021\022\040\041\042\060\061\100\101"
+#define FIRST FIRST_LINE FIRST_PLANES
+#define SECOND_LINE "FRAME Ip W9\n"
+#define SECOND_PLANES "\nFRAME\n\n  "
+#define SECOND SECOND_LINE SECOND_PLANES
+
+enum { Y4M_BYTES = 72, Y4M_HEADER = 34, Y4M_PICTURE = 16, Y4M_PLANES = 10 };
+
+static const char y4m_file[Y4M_BYTES + 1] = HEADER FIRST SECOND;
+
+/* A text of a start, a byte several times, and an end; gives its length. */
+static size_t stretch(char *text, const char *start, char byte, size_t times, const char *end)
+{
+    size_t length = strlen(start);
+
+    memcpy(text, start, length);
+    memset(text + length, byte, times);
+    length += times;
+    memcpy(text + length, end, strlen(end));
+    return length + strlen(end);
+}
+
+/* RULES 14.1: whether a copy of these bytes, all of them, is a line of this word, and of how many tags; their lengths. */
+static void expect_line(long place, const void *text, size_t length, const char *word, int is_line, size_t tags, const size_t *lengths)
+{
+    uint8_t *own = own_bytes(length);
+    struct reference_bytes bytes;
+    size_t at = strlen(word);
+    size_t tag = 0;
+
+    memcpy(own, text, length);
+    bytes.bytes = own;
+    bytes.length = length;
+    expect("14.1", place, is_line, length > 0 && line_bytes(&bytes, 0, word) == length);
+    while (is_line && own[at] == SPACE) {
+        size_t count = (size_t)tag_bytes(own + at + 1, length - at - 1);
+
+        expect("14.1 tag", place, tag < tags ? (long long)lengths[tag] : -1, (long long)count);
+        at += 1 + count;
+        tag++;
+    }
+    if (is_line) {
+        expect("14.1 tags", place, (long long)tags, (long long)tag);
+        expect("14.1 end", place, (long long)length, (long long)at + 1);
+    }
+    free(own);
+}
+
+/* RULES 14.1: lines, and what is none; and any byte as the tag, in it, and in the places of a space and of the newline. */
+static void test_y4m_lines(void)
+{
+    static const uint8_t of_line[9] = {0x46, 0x52, 0x41, 0x4D, 0x45, 0x20, 0x49, 0x70, 0x0A};
+    static const uint8_t of_header[Y4M_HEADER] = {
+        0x59, 0x55, 0x56, 0x34, 0x4D, 0x50, 0x45, 0x47, 0x32, 0x20, 0x57, 0x34, 0x20, 0x48, 0x32, 0x20, 0x46,
+        0x32, 0x35, 0x3A, 0x31, 0x20, 0x49, 0x70, 0x20, 0x43, 0x34, 0x32, 0x30, 0x6A, 0x70, 0x65, 0x67, 0x0A,
+    };
+    static const struct {
+        const char *text;
+        size_t length;
+        const char *word; /* NULL: no line */
+        size_t tags;
+        size_t lengths[4];
+    } wanted[] = {
+        {TEXT("FRAME\n"), picture_word, 0, {0}},
+        {TEXT("YUV4MPEG2\n"), header_word, 0, {0}},
+        {TEXT("FRAME Ip\n"), picture_word, 1, {2}},
+        {TEXT("FRAME Ip Ip XA=1 :\n"), picture_word, 4, {2, 2, 4, 1}},
+        {TEXT("FRAME X\015\n"), picture_word, 1, {2}},
+        {TEXT("FRAME \000\011\377\n"), picture_word, 1, {3}},
+        {TEXT("FRAME FRAME\n"), picture_word, 1, {5}},
+        {TEXT("FRAME YUV4MPEG2\n"), picture_word, 1, {9}},
+        {TEXT("YUV4MPEG2 FRAME\n"), header_word, 1, {5}},
+        {TEXT("FRAME  Ip\n"), NULL, 0, {0}},
+        {TEXT("FRAME Ip  Ip\n"), NULL, 0, {0}},
+        {TEXT("FRAME Ip \n"), NULL, 0, {0}},
+        {TEXT("FRAME \n"), NULL, 0, {0}},
+        {TEXT(" FRAME\n"), NULL, 0, {0}},
+        {TEXT("FRAME\015\n"), NULL, 0, {0}},
+        {TEXT("FRAME\011Ip\n"), NULL, 0, {0}},
+        {TEXT("frame\n"), NULL, 0, {0}},
+        {TEXT("FRAMES\n"), NULL, 0, {0}},
+        {TEXT("FRAM\n"), NULL, 0, {0}},
+        {TEXT("YUV4MPEG\n"), NULL, 0, {0}},
+        {TEXT("YUV4MPEG21\n"), NULL, 0, {0}},
+        {TEXT("FRAME"), NULL, 0, {0}},
+        {TEXT("FRAME Ip"), NULL, 0, {0}},
+        {TEXT("\n"), NULL, 0, {0}},
+        {TEXT(""), NULL, 0, {0}},
+        {TEXT("FRAME\n\n"), NULL, 0, {0}},
+        {TEXT("FRAME Ip\nIp\n"), NULL, 0, {0}},
+    };
+    static const size_t longest[2] = {249, 245}; /* bytes of one tag in a line of 256 bytes */
+    static const char *const words[2] = {picture_word, header_word};
+    char text[400];
+    size_t place;
+    unsigned word;
+    unsigned byte;
+
+    expect_bytes("14.1 bytes", of_line, (const uint8_t *)"FRAME Ip\n", sizeof of_line);
+    expect_bytes("14.1 bytes", of_line, (const uint8_t *)picture_word, 5);
+    expect_bytes("14.1 bytes", of_header, (const uint8_t *)"YUV4MPEG2 W4 H2 F25:1 Ip C420jpeg\n", sizeof of_header);
+    expect_bytes("14.1 bytes", of_header, (const uint8_t *)header_word, 9);
+    for (place = 0; place < sizeof wanted / sizeof wanted[0]; place++) {
+        for (word = 0; word < 2; word++) {
+            expect_line((long)place, wanted[place].text, wanted[place].length, words[word], wanted[place].word == words[word],
+                        wanted[place].tags, wanted[place].lengths);
+        }
+    }
+    for (word = 0; word < 2; word++) {
+        size_t start = strlen(words[word]);
+        size_t two[2] = {1, 0};
+
+        for (place = 1; place < 300; place++) {
+            size_t length = stretch(text, word == 0 ? "FRAME " : "YUV4MPEG2 ", 'X', place, "\n");
+
+            expect("14.1 long", (long)place, length <= 256, place <= longest[word]);
+            expect_line((long)place, text, length, words[word], place <= longest[word], 1, &place);
+            expect_line((long)place, text, length - 1, words[word], 0, 0, NULL);
+            text[start + 2] = ' '; /* the second byte of the tag, or the newline */
+            two[1] = place - 2;
+            expect_line((long)place, text, length, words[word], place > 2 && place <= longest[word], 2, two);
+        }
+        for (byte = 0; byte < 256; byte++) {
+            int is_free = byte != SPACE && byte != NEWLINE;
+            size_t one = 1;
+            size_t three = 3;
+
+            stretch(text, words[word], ' ', 1, "a\n");
+            text[start + 1] = (char)byte;
+            expect_line((long)byte, text, start + 3, words[word], is_free, 1, &one);
+            stretch(text, words[word], ' ', 1, "aaa\n");
+            text[start + 2] = (char)byte;
+            two[1] = 1;
+            expect_line((long)byte, text, start + 5, words[word], byte != NEWLINE, is_free ? 1 : 2, is_free ? &three : two);
+            stretch(text, words[word], (char)byte, 1, "aaa\n");
+            expect_line((long)byte, text, start + 5, words[word], byte == SPACE, 1, &three);
+            stretch(text, words[word], ' ', 1, "aaa\n");
+            text[start + 4] = (char)byte;
+            expect_line((long)byte, text, start + 5, words[word], byte == NEWLINE, 1, &three);
+        }
+    }
+}
+
+/* RULES 14.2: whether a copy of these bytes, all of them, is a header, and then what it says; w is 0 where it is none. */
+static void expect_header(const char *rule, long place, const char *text, size_t length, uint32_t width, uint32_t height, uint32_t sampling)
+{
+    uint8_t *own = own_bytes(length);
+    struct reference_bytes bytes;
+    struct header header = {0, 0, 0, 0};
+    int found;
+
+    memcpy(own, text, length);
+    bytes.bytes = own;
+    bytes.length = length;
+    found = is_header(&bytes, &header) && header.length == length;
+    expect(rule, place, width != 0, found);
+    if (found) {
+        expect(rule, place, width, header.width);
+        expect(rule, place, height, header.height);
+        expect(rule, place, sampling, header.sampling);
+    }
+    free(own);
+}
+
+/* RULES 14.2: headers, and what is none. */
+static void test_y4m_headers(void)
+{
+    static const struct {
+        const char *text;
+        size_t length;
+        uint32_t width;
+        uint32_t height;
+        uint32_t sampling;
+    } wanted[] = {
+        {TEXT("YUV4MPEG2 W4 H2 F25:1 Ip C420jpeg\n"), 4, 2, REFERENCE_420},
+        {TEXT("YUV4MPEG2 W4 H2\n"), 4, 2, REFERENCE_420},
+        {TEXT("YUV4MPEG2 H2 W4\n"), 4, 2, REFERENCE_420},
+        {TEXT("YUV4MPEG2 C422 XW5 H2 A1:1 W4\n"), 4, 2, REFERENCE_422},
+        {TEXT("YUV4MPEG2 W4 H2 C420\n"), 4, 2, REFERENCE_420},
+        {TEXT("YUV4MPEG2 W4 H2 C420mpeg2\n"), 4, 2, REFERENCE_420},
+        {TEXT("YUV4MPEG2 W4 H2 C422\n"), 4, 2, REFERENCE_422},
+        {TEXT("YUV4MPEG2 W1 H16384\n"), 1, 16384, REFERENCE_420},
+        {TEXT("YUV4MPEG2 W4 H2 F25:1 F30:1 F F\n"), 4, 2, REFERENCE_420},
+        {TEXT("YUV4MPEG2 W4 H2 w5 h6 c444\n"), 4, 2, REFERENCE_420},
+        {TEXT("YUV4MPEG2 W4 H2 X\015\n"), 4, 2, REFERENCE_420},
+        {TEXT("YUV4MPEG2 W4 H2 \000\n"), 4, 2, REFERENCE_420},
+        {TEXT("YUV4MPEG2 W4 H2 W\n"), 0, 0, 0},
+        {TEXT("YUV4MPEG2 W4 H2 H2\n"), 0, 0, 0},
+        {TEXT("YUV4MPEG2 W4 W4 H2\n"), 0, 0, 0},
+        {TEXT("YUV4MPEG2 W4\n"), 0, 0, 0},
+        {TEXT("YUV4MPEG2 H2\n"), 0, 0, 0},
+        {TEXT("YUV4MPEG2\n"), 0, 0, 0},
+        {TEXT("YUV4MPEG2 W H2\n"), 0, 0, 0},
+        {TEXT("YUV4MPEG2 W04 H2\n"), 0, 0, 0},
+        {TEXT("YUV4MPEG2 W0 H2\n"), 0, 0, 0},
+        {TEXT("YUV4MPEG2 W+4 H2\n"), 0, 0, 0},
+        {TEXT("YUV4MPEG2 W-4 H2\n"), 0, 0, 0},
+        {TEXT("YUV4MPEG2 W4. H2\n"), 0, 0, 0},
+        {TEXT("YUV4MPEG2 W0x4 H2\n"), 0, 0, 0},
+        {TEXT("YUV4MPEG2 W4a H2\n"), 0, 0, 0},
+        {TEXT("YUV4MPEG2 W4\015 H2\n"), 0, 0, 0},
+        {TEXT("YUV4MPEG2 W4 H2\015\n"), 0, 0, 0},
+        {TEXT("YUV4MPEG2 W16385 H2\n"), 0, 0, 0},
+        {TEXT("YUV4MPEG2 W65540 H2\n"), 0, 0, 0},
+        {TEXT("YUV4MPEG2 W4294967300 H2\n"), 0, 0, 0},
+        {TEXT("YUV4MPEG2 W18446744073709551620 H2\n"), 0, 0, 0},
+        {TEXT("YUV4MPEG2 Wide4 W4 H2\n"), 0, 0, 0},
+        {TEXT("YUV4MPEG2 W4 H2 Hello\n"), 0, 0, 0},
+        {TEXT("YUV4MPEG2 W4 H2 C\n"), 0, 0, 0},
+        {TEXT("YUV4MPEG2 W4 H2 C420 C420\n"), 0, 0, 0},
+        {TEXT("YUV4MPEG2 W4 H2 C420 Cx\n"), 0, 0, 0},
+        {TEXT("YUV4MPEG2 W4 H2 C420paldv\n"), 0, 0, 0},
+        {TEXT("YUV4MPEG2 W4 H2 C420jpe\n"), 0, 0, 0},
+        {TEXT("YUV4MPEG2 W4 H2 C420jpegs\n"), 0, 0, 0},
+        {TEXT("YUV4MPEG2 W4 H2 C420p10\n"), 0, 0, 0},
+        {TEXT("YUV4MPEG2 W4 H2 C422p10\n"), 0, 0, 0},
+        {TEXT("YUV4MPEG2 W4 H2 C444\n"), 0, 0, 0},
+        {TEXT("YUV4MPEG2 W4 H2 C411\n"), 0, 0, 0},
+        {TEXT("YUV4MPEG2 W4 H2 Cmono\n"), 0, 0, 0},
+        {TEXT("YUV4MPEG2 W4 H2 c420 C422\n"), 4, 2, REFERENCE_422},
+        {TEXT("YUV4MPEG2 W4 H2 C0420\n"), 0, 0, 0},
+        {TEXT("YUV4MPEG2 W4 H2 C420\015\n"), 0, 0, 0},
+        {TEXT("YUV4MPEG2 W4 H2 X C422\n"), 4, 2, REFERENCE_422},
+        {TEXT("YUV4MPEG2 W4,H2\n"), 0, 0, 0},
+        {TEXT("YUV4MPEG2 W4\011H2\n"), 0, 0, 0},
+        {TEXT("YUV4MPEG2 W4  H2\n"), 0, 0, 0},
+        {TEXT("YUV4MPEG2 W4 H2 \n"), 0, 0, 0},
+        {TEXT("FRAME W4 H2\n"), 0, 0, 0},
+    };
+    char text[300];
+    size_t place;
+    size_t length;
+
+    for (place = 0; place < sizeof wanted / sizeof wanted[0]; place++) {
+        expect_header("14.2", (long)place, wanted[place].text, wanted[place].length, wanted[place].width, wanted[place].height,
+                      wanted[place].sampling);
+    }
+    length = stretch(text, "YUV4MPEG2 W1", '0', 240, " H2\n");
+    expect("14.2 digits", 0, 256, (long long)length);
+    expect_header("14.2 digits", 1, text, length, 0, 0, 0);
+    length = stretch(text, "YUV4MPEG2 W4 H2 ", 'X', 239, "\n");
+    expect("14.2 long", 0, 256, (long long)length);
+    expect_header("14.2 long", 1, text, length, 4, 2, REFERENCE_420);
+    length = stretch(text, "YUV4MPEG2 W4 H2 ", 'X', 240, "\n");
+    expect("14.2 long", 2, 257, (long long)length);
+    expect_header("14.2 long", 3, text, length, 0, 0, 0);
+}
+
+/*
+ * RULES 14.2: every number up to 20,000 as w and as h, with and without a 0 before it; all digits alike, of each count that a line
+ * has room for; a decimal with any byte in it.
+ */
+static void test_y4m_decimals(void)
+{
+    char text[300];
+    uint32_t number;
+    size_t stretched;
+    size_t count;
+    unsigned byte;
+    int length;
+
+    for (number = 0; number <= 20000; number++) {
+        uint32_t side = number >= 1 && number <= 16384 ? number : 0;
+
+        length = sprintf(text, "YUV4MPEG2 W%lu H7\n", (unsigned long)number);
+        expect_header("14.2 w", (long)number, text, (size_t)length, side, 7, REFERENCE_420);
+        length = sprintf(text, "YUV4MPEG2 C422 H%lu W7\n", (unsigned long)number);
+        expect_header("14.2 h", (long)number, text, (size_t)length, side == 0 ? 0 : 7, side, REFERENCE_422);
+        length = sprintf(text, "YUV4MPEG2 W0%lu H7\n", (unsigned long)number);
+        expect_header("14.2 w", (long)number, text, (size_t)length, 0, 0, 0);
+    }
+    for (byte = '0'; byte <= '9'; byte++) {
+        for (count = 1; count <= 241; count++) {
+            static const uint32_t ones[6] = {0, 1, 11, 111, 1111, 11111};
+
+            number = count <= 5 ? (uint32_t)(byte - '0') * ones[count] : 0;
+            stretched = stretch(text, "YUV4MPEG2 W", (char)byte, count, " H2\n");
+            expect_header("14.2 digits", (long)count, text, stretched, number <= 16384 ? number : 0, 2, REFERENCE_420);
+        }
+    }
+    for (byte = 0; byte < 256; byte++) {
+        int is_digit = byte >= '0' && byte <= '9';
+        uint32_t digit = is_digit ? (uint32_t)(byte - '0') : 0;
+
+        for (count = 0; count < 3; count++) {
+            static const uint32_t units[3] = {100, 10, 1};
+            uint32_t side = 123 - (uint32_t)(count + 1) * units[count] + digit * units[count];
+
+            stretch(text, "YUV4MPEG2 H5 W", ' ', 0, "123\n");
+            text[14 + count] = (char)byte;
+            if (!is_digit || (count == 0 && byte == '0')) {
+                side = 0;
+            }
+            if (byte == SPACE) { /* W and a tag, W1 and a tag, W12 and an empty one */
+                side = count == 1 ? 1 : 0;
+            }
+            expect_header("14.2 byte", (long)byte, text, 18, side, 5, REFERENCE_420);
+        }
+    }
+}
+
+/* RULES 10.8, 14.5: a reading of a copy of these bytes. */
+static struct reference_answer call_y4m(const void *bytes, size_t length, uint64_t first, uint64_t given, struct reference_y4m *told)
+{
+    uint8_t *own = own_bytes(length);
+    struct reference_bytes file;
+    struct reference_answer result;
+    size_t place;
+
+    for (place = 0; place < MOST_LENT; place++) {
+        lent[place] = LENT;
+    }
+    memset(told, 0x77, sizeof *told);
+    memcpy(own, bytes, length);
+    file.bytes = own;
+    file.length = length;
+    result = reference_y4m_pictures(&file, first, lent, given, told);
+    free(own);
+    return result;
+}
+
+/* RULES 10.8, 14.5: the five numbers that a reading tells. */
+static void expect_told(const char *rule, long place, const uint64_t *wanted, const struct reference_y4m *told)
+{
+    expect(rule, place, (long long)wanted[0], (long long)told->width);
+    expect(rule, place, (long long)wanted[1], (long long)told->height);
+    expect(rule, place, (long long)wanted[2], (long long)told->sampling);
+    expect(rule, place, (long long)wanted[3], (long long)told->pictures);
+    expect(rule, place, (long long)wanted[4], (long long)told->entries);
+}
+
+/* RULES 14.4: whether 19 holds of these bytes; then nothing is told and no entry is written (RULES 14.5). Else how many pictures. */
+static void expect_y4m(const char *rule, long place, const void *bytes, size_t length, int is_file, uint64_t pictures)
+{
+    static const uint64_t nothing[5] = {0};
+    struct reference_y4m told;
+    size_t number;
+
+    expect_answer(rule, place, is_file ? 0 : 19, 0, 0, call_y4m(bytes, length, 0, MOST_LENT, &told));
+    if (is_file) {
+        expect(rule, place, (long long)pictures, (long long)told.pictures);
+    } else {
+        expect_told(rule, place, nothing, &told);
+    }
+    for (number = 0; !is_file && number < MOST_LENT; number++) {
+        expect(rule, place, LENT, (long long)lent[number]);
+    }
+}
+
+/* RULES 14.3: the file of the examples, and the bytes of planes. */
+static void test_y4m_layout(void)
+{
+    static const uint8_t file[Y4M_BYTES] = {
+        0x59, 0x55, 0x56, 0x34, 0x4D, 0x50, 0x45, 0x47, 0x32, 0x20, 0x57, 0x33, 0x20, 0x48, 0x32, 0x20, 0x46,
+        0x32, 0x35, 0x3A, 0x31, 0x20, 0x49, 0x70, 0x20, 0x43, 0x34, 0x32, 0x30, 0x6A, 0x70, 0x65, 0x67, 0x0A,
+        0x46, 0x52, 0x41, 0x4D, 0x45, 0x0A,
+        0x10, 0x11, 0x12, 0x20, 0x21, 0x22, 0x30, 0x31, 0x40, 0x41,
+        0x46, 0x52, 0x41, 0x4D, 0x45, 0x20, 0x49, 0x70, 0x20, 0x57, 0x39, 0x0A,
+        0x0A, 0x46, 0x52, 0x41, 0x4D, 0x45, 0x0A, 0x0A, 0x20, 0x20,
+    };
+    static const struct {
+        uint32_t side[2];
+        uint32_t sampling;
+        long long luma;
+        long long chroma;
+        long long planes;
+    } sizes[] = {
+        {{1, 1}, REFERENCE_420, 1, 1, 3},
+        {{1, 1}, REFERENCE_422, 1, 1, 3},
+        {{3, 2}, REFERENCE_420, 6, 2, 10},
+        {{3, 2}, REFERENCE_422, 6, 4, 14},
+        {{3, 3}, REFERENCE_420, 9, 4, 17},
+        {{3, 3}, REFERENCE_422, 9, 6, 21},
+        {{1920, 1080}, REFERENCE_420, 2073600, 518400, 3110400},
+        {{16384, 16384}, REFERENCE_420, 268435456, 67108864, 402653184},
+        {{16384, 16384}, REFERENCE_422, 268435456, 134217728, 536870912},
+    };
+    size_t place;
+
+    expect_bytes("14.3", file, (const uint8_t *)y4m_file, Y4M_BYTES);
+    expect_y4m("14.3", 0, file, Y4M_BYTES, 1, 2);
+    expect_y4m("14.3", 1, file, Y4M_HEADER, 1, 0);
+    for (place = 0; place < sizeof sizes / sizeof sizes[0]; place++) {
+        struct picture picture = picture_of(sizes[place].side[0], sizes[place].side[1], sizes[place].sampling);
+
+        expect("14.3 Y", (long)place, sizes[place].luma, (long long)picture.luma);
+        expect("14.3 U", (long)place, sizes[place].chroma, (long long)picture.chroma);
+        expect("14.3 planes", (long)place, sizes[place].planes, (long long)picture.planes);
+    }
+}
+
+/* RULES 14.4: which bytes are a file, and of how many pictures. */
+static void test_y4m_changes(void)
+{
+    static const struct {
+        const char *text;
+        size_t length;
+        int is_file;
+        uint64_t pictures;
+    } wanted[] = {
+        {TEXT(HEADER FIRST SECOND), 1, 2},
+        {y4m_file, Y4M_BYTES - 1, 0, 0},
+        {TEXT(HEADER FIRST SECOND "\000"), 0, 0},
+        {TEXT(HEADER FIRST SECOND "\n"), 0, 0},
+        {TEXT(HEADER FIRST SECOND "FRAME\n"), 0, 0},
+        {TEXT(HEADER FIRST SECOND "FRAME\n" "123456789"), 0, 0},
+        {TEXT(HEADER FIRST SECOND "FRAME\n" "1234567890"), 1, 3},
+        {TEXT(HEADER FIRST), 1, 1},
+        {TEXT(HEADER SECOND), 1, 1},
+        {TEXT(HEADER SECOND FIRST), 1, 2},
+        {TEXT(HEADER), 1, 0},
+        {TEXT(FIRST SECOND), 0, 0},
+        {TEXT(HEADER HEADER FIRST SECOND), 0, 0},
+        {TEXT("\n" HEADER FIRST SECOND), 0, 0},
+        {TEXT(HEADER "\n" FIRST SECOND), 0, 0},
+        {TEXT(HEADER FIRST "\n" SECOND), 0, 0},
+        {TEXT(HEADER FIRST_PLANES SECOND), 0, 0},
+        {TEXT(HEADER FIRST_LINE "\020\021\022\040\041" "\060\061\100\101" SECOND), 0, 0},
+        {TEXT(HEADER FIRST_LINE "\020\021\022\040\041\042\060\061\100" SECOND), 0, 0},
+        {TEXT(HEADER FIRST "\000" SECOND), 0, 0},
+        {TEXT(HEADER FIRST_LINE "\n\021\022\040\041\042\060\061\100\101" SECOND), 1, 2},
+        {TEXT(HEADER FIRST SECOND_LINE "\nFRAME\n\n \n"), 1, 2},
+        {TEXT(HEADER FIRST_LINE "\n\n\n\n\n\n\n\n\n\n" SECOND_LINE "\n\n\n\n\n\n\n\n\n\n"), 1, 2},
+        /* another line for the header */
+        {TEXT("YUV4MPEG2 W3 H2\n" FIRST SECOND), 1, 2},
+        {TEXT("YUV4MPEG2 H2 W3\n" FIRST SECOND), 1, 2},
+        {TEXT("YUV4MPEG2 H2 W3 C420mpeg2\n" FIRST SECOND), 1, 2},
+        {TEXT("YUV4MPEG2 W2 H3\n" FIRST SECOND), 1, 2},
+        {TEXT("YUV4MPEG2 W4 H2\n" FIRST SECOND), 0, 0},
+        {TEXT("YUV4MPEG2 W3 H2 C422\n" FIRST SECOND), 0, 0},
+        {TEXT("YUV4MPEG2 W10 H1\n" FIRST SECOND), 0, 0},
+        {TEXT("YUV4MPEG2 W3 H2 C420jpeg\015\n" FIRST SECOND), 0, 0},
+        {TEXT("YUV4MPEG2 W3 H2 C420jpeg X\015\n" FIRST SECOND), 1, 2},
+        {TEXT("YUV4MPEG W3 H2\n" FIRST SECOND), 0, 0},
+        {TEXT("FRAME\n" FIRST SECOND), 0, 0},
+        /* another line for the first FRAME */
+        {TEXT(HEADER "FRAME Ip\n" FIRST_PLANES SECOND), 1, 2},
+        {TEXT(HEADER "FRAME X=1 X=1\n" FIRST_PLANES SECOND), 1, 2},
+        {TEXT(HEADER "FRAME W4\n" FIRST_PLANES SECOND), 1, 2},
+        {TEXT(HEADER "FRAME W\n" FIRST_PLANES SECOND), 1, 2},
+        {TEXT(HEADER "FRAME W4 W5 H0 C444\n" FIRST_PLANES SECOND), 1, 2},
+        {TEXT(HEADER "FRAME X\015\n" FIRST_PLANES SECOND), 1, 2},
+        {TEXT(HEADER "FRAME \n" FIRST_PLANES SECOND), 0, 0},
+        {TEXT(HEADER "FRAME  Ip\n" FIRST_PLANES SECOND), 0, 0},
+        {TEXT(HEADER "FRAME Ip \n" FIRST_PLANES SECOND), 0, 0},
+        {TEXT(HEADER "FRAME\015\n" FIRST_PLANES SECOND), 0, 0},
+        {TEXT(HEADER "FRAMEIp\n" FIRST_PLANES SECOND), 0, 0},
+        {TEXT(HEADER "FRAME\011Ip\n" FIRST_PLANES SECOND), 0, 0},
+        {TEXT(HEADER "frame\n" FIRST_PLANES SECOND), 0, 0},
+        {TEXT(HEADER "FRAME" FIRST_PLANES SECOND), 0, 0},
+        {TEXT(HEADER "\n" FIRST_PLANES SECOND), 0, 0},
+        {TEXT(HEADER " FRAME\n" FIRST_PLANES SECOND), 0, 0},
+        {TEXT(HEADER "FRAME\n\n" FIRST_PLANES SECOND), 0, 0},
+        {TEXT(HEADER "YUV4MPEG2 W3 H2\n" FIRST_PLANES SECOND), 0, 0},
+        {TEXT(HEADER "FRAME Ip" FIRST_PLANES SECOND), 1, 1}, /* it ends with the newline of the next one */
+        /* other bytes */
+        {TEXT(""), 0, 0},
+        {TEXT("\n"), 0, 0},
+        {TEXT("YUV4MPEG2"), 0, 0},
+        {TEXT("YUV4MPEG2\n"), 0, 0},
+        {TEXT("YUV4MPEG2 W3 H2"), 0, 0},
+        {TEXT("YUV4MPEG2 W3 H2\n"), 1, 0},
+        {TEXT("YUV4MPEG2 W1 H1\nFRAME\n123"), 1, 1},
+        {TEXT("YUV4MPEG2 W1 H1\nFRAME\n12"), 0, 0},
+        {TEXT("YUV4MPEG2 W1 H1\nFRAME\n1234"), 0, 0},
+        {TEXT("YUV4MPEG2 W1 H1\nFRAME\n123FRAME\n456"), 1, 2},
+        {TEXT("YUV4MPEG2 W1 H1\nFRAME\n123FRAME"), 0, 0},
+        {TEXT("YUV4MPEG2 W1 H1\nFRAME\n123\nFRAME\n456"), 0, 0},
+        {TEXT("YUV4MPEG2 W16384 H16384\nFRAME\n"), 0, 0},
+        {TEXT("YUV4MPEG2 W16385 H1\n"), 0, 0},
+        {TEXT("YUV4MPEG2 W1 H1 C422\nFRAME\n123"), 1, 1},
+        {TEXT("yuv4mpeg2 W1 H1\n"), 0, 0},
+    };
+    char text[400];
+    size_t place;
+    size_t length;
+
+    for (place = 0; place < sizeof wanted / sizeof wanted[0]; place++) {
+        expect_y4m("14.4", (long)place, wanted[place].text, wanted[place].length, wanted[place].is_file, wanted[place].pictures);
+    }
+    for (place = 240; place < 260; place++) {
+        length = stretch(text, HEADER "FRAME ", 'X', place, "\n" FIRST_PLANES SECOND);
+        expect_y4m("14.4 long", (long)place, text, length, place <= 249, 2);
+        length = stretch(text, HEADER FIRST "FRAME ", 'X', place, "\n" SECOND_PLANES);
+        expect_y4m("14.4 long", (long)place, text, length, place <= 249, 2);
+        length = stretch(text, "YUV4MPEG2 W3 H2 ", 'X', place, "\n" FIRST SECOND);
+        expect_y4m("14.4 long", (long)place, text, length, 0, 0);
+        length = stretch(text, "YUV4MPEG2 W3 H2 ", 'X', place - 10, "\n" FIRST SECOND);
+        expect_y4m("14.4 long", (long)place, text, length, place - 10 <= 239, 2);
+    }
+}
+
+/* RULES 10.8, 14.5: readings of the file of the examples, and of others. */
+static void test_y4m_reading(void)
+{
+    static const uint64_t entries[2 * REFERENCE_Y4M_NUMBERS] = {40, 6, 46, 2, 48, 2, 62, 6, 68, 2, 70, 2};
+    static const uint64_t of_422[REFERENCE_Y4M_NUMBERS] = {27, 6, 33, 4, 37, 4};
+    static const struct {
+        const char *text;
+        size_t length;
+        uint64_t first;
+        uint64_t given;
+        uint32_t number;
+        uint64_t told[5];
+        const uint64_t *entries;
+    } wanted[] = {
+        {y4m_file, Y4M_BYTES, 0, 12, 0, {3, 2, 0, 2, 2}, entries},
+        {y4m_file, Y4M_BYTES, 0, 11, 0, {3, 2, 0, 2, 1}, entries},
+        {y4m_file, Y4M_BYTES, 0, 6, 0, {3, 2, 0, 2, 1}, entries},
+        {y4m_file, Y4M_BYTES, 0, 5, 0, {3, 2, 0, 2, 0}, entries},
+        {y4m_file, Y4M_BYTES, 0, 0, 0, {3, 2, 0, 2, 0}, entries},
+        {y4m_file, Y4M_BYTES, 0, MOST_LENT, 0, {3, 2, 0, 2, 2}, entries},
+        {y4m_file, Y4M_BYTES, 1, 30, 0, {3, 2, 0, 2, 1}, entries + 6},
+        {y4m_file, Y4M_BYTES, 1, 40, 0, {3, 2, 0, 2, 1}, entries + 6},
+        {y4m_file, Y4M_BYTES, 1, 6, 0, {3, 2, 0, 2, 1}, entries + 6},
+        {y4m_file, Y4M_BYTES, 2, 30, 0, {3, 2, 0, 2, 0}, entries},
+        {y4m_file, Y4M_BYTES, 2, 12, 0, {3, 2, 0, 2, 0}, entries},
+        {y4m_file, Y4M_BYTES, UINT64_MAX, 30, 0, {3, 2, 0, 2, 0}, entries},
+        {y4m_file, Y4M_BYTES, UINT64_MAX, 12, 0, {3, 2, 0, 2, 0}, entries},
+        {y4m_file, Y4M_BYTES, UINT64_C(4294967296), 12, 0, {3, 2, 0, 2, 0}, entries},
+        {TEXT("YUV4MPEG2 C422 H2 W3\nFRAME\n" "12345678901234"), 0, 12, 0, {3, 2, 1, 1, 1}, of_422},
+        {TEXT("YUV4MPEG2 C422 H2 W3\n"), 0, 12, 0, {3, 2, 1, 0, 0}, entries},
+        {TEXT("YUV4MPEG2 W3 H2\n"), 0, 12, 0, {3, 2, 0, 0, 0}, entries},
+        {TEXT(HEADER FIRST SECOND "\000"), 0, 12, 19, {0, 0, 0, 0, 0}, entries},
+        {TEXT(""), 0, 12, 19, {0, 0, 0, 0, 0}, entries},
+        {y4m_file, Y4M_BYTES - 1, 0, 12, 19, {0, 0, 0, 0, 0}, entries},
+        {y4m_file, Y4M_BYTES - 1, UINT64_MAX, 0, 19, {0, 0, 0, 0, 0}, entries},
+    };
+    uint8_t header[42];
+    size_t place;
+    size_t number;
+
+    for (place = 0; place < sizeof wanted / sizeof wanted[0]; place++) {
+        size_t written = (size_t)wanted[place].told[4] * REFERENCE_Y4M_NUMBERS;
+        struct reference_y4m told;
+
+        expect_answer("14.5", (long)place, wanted[place].number, 0, 0,
+                      call_y4m(wanted[place].text, wanted[place].length, wanted[place].first, wanted[place].given, &told));
+        expect_told("14.5 told", (long)place, wanted[place].told, &told);
+        for (number = 0; number < MOST_LENT; number++) {
+            expect("14.5 number", (long)place, (long long)(number < written ? wanted[place].entries[number] : LENT),
+                   (long long)lent[number]);
+        }
+    }
+    expect("14.5 far", 0, 4429185138, (put_header(header, 16384, 16384, REFERENCE_420) - header) +
+                                          11 * (long long)(PICTURE_LINE + picture_of(16384, 16384, REFERENCE_420).planes) + PICTURE_LINE);
+}
+
+/* RULES 10.8, 14.6: a writing; all bytes of the output EE before it. The output stays for the caller to free. */
+static struct reference_answer call_y4m_write(const uint32_t *numbers, const void *bytes, size_t length, struct reference_buffer *output,
+                                              size_t output_length, uint64_t *size)
+{
+    uint8_t *own = own_bytes(length);
+    struct reference_bytes pictures;
+    struct reference_answer result;
+
+    memcpy(own, bytes, length);
+    pictures.bytes = own;
+    pictures.length = length;
+    output->bytes = own_bytes(output_length);
+    output->length = output_length;
+    memset(output->bytes, 0xEE, output_length);
+    *size = 77;
+    result = reference_y4m_write(numbers[0], numbers[1], numbers[2], &pictures, output, size);
+    free(own);
+    return result;
+}
+
+/* RULES 10.8, 14.6: writings, accepted and refused; into every length of output; sizes about 2^64. */
+static void test_y4m_writing(void)
+{
+    static const struct {
+        uint32_t numbers[3];
+        const char *text;
+        size_t length;
+    } headers[] = {
+        {{4, 2, REFERENCE_420}, TEXT("YUV4MPEG2 W4 H2 F25:1 Ip C420jpeg\n")},
+        {{4, 2, REFERENCE_422}, TEXT("YUV4MPEG2 W4 H2 F25:1 Ip C422\n")},
+        {{1, 1, REFERENCE_422}, TEXT("YUV4MPEG2 W1 H1 F25:1 Ip C422\n")},
+        {{16384, 16384, REFERENCE_420}, TEXT("YUV4MPEG2 W16384 H16384 F25:1 Ip C420jpeg\n")},
+    };
+    static const char pictures[] = FIRST_PLANES SECOND_PLANES "12345678";
+    static const char of_422[] = "YUV4MPEG2 W3 H2 F25:1 Ip C422\n" "FRAME\n" FIRST_PLANES "\nFRA" "FRAME\n" "ME\n\n  12345678";
+    static const char small[] = "YUV4MPEG2 W1 H1 F25:1 Ip C422\n" "FRAME\n" "\020\021\022";
+    static const char wide[] = "YUV4MPEG2 W16384 H1 F25:1 Ip C420jpeg\n";
+    static const struct {
+        uint32_t numbers[3];
+        size_t length;
+        size_t output_length;
+        uint32_t number;
+        uint64_t size;
+        const char *file;
+    } wanted[] = {
+        {{3, 2, 0}, 10, 52, 0, 50, HEADER FIRST},
+        {{3, 2, 0}, 20, 66, 0, 66, HEADER FIRST FIRST_LINE SECOND_PLANES},
+        {{3, 2, 0}, 20, 65, 16, 66, NULL},
+        {{3, 2, 0}, 10, 50, 0, 50, HEADER FIRST},
+        {{3, 2, 0}, 10, 49, 16, 50, NULL},
+        {{3, 2, 0}, 10, 0, 16, 50, NULL},
+        {{3, 2, 0}, 0, 36, 0, 34, HEADER},
+        {{3, 2, 0}, 0, 34, 0, 34, HEADER},
+        {{3, 2, 0}, 0, 33, 16, 34, NULL},
+        {{3, 2, 0}, 9, 0, 19, 0, NULL},
+        {{3, 2, 0}, 11, 100, 19, 0, NULL},
+        {{3, 2, 0}, 21, 100, 19, 0, NULL},
+        {{3, 2, 1}, 10, 100, 19, 0, NULL},
+        {{3, 2, 1}, 14, 50, 0, 50, of_422},
+        {{3, 2, 1}, 14, 49, 16, 50, NULL},
+        {{3, 2, 1}, 28, 70, 0, 70, of_422},
+        {{1, 1, 1}, 3, 39, 0, 39, small},
+        {{3, 2, 2}, 0, 100, 19, 0, NULL},
+        {{3, 2, 2}, 20, 100, 19, 0, NULL},
+        {{3, 2, 4294967295u}, 0, 100, 19, 0, NULL},
+        {{0, 2, 0}, 0, 100, 19, 0, NULL},
+        {{3, 0, 0}, 0, 100, 19, 0, NULL},
+        {{16384, 1, 0}, 0, 100, 0, 38, wide},
+        {{16385, 1, 0}, 0, 100, 19, 0, NULL},
+        {{3, 16385, 0}, 0, 100, 19, 0, NULL},
+        {{1, 4294967295u, 0}, 0, 0, 19, 0, NULL},
+        {{4294967295u, 4294967295u, 4294967295u}, 0, 0, 19, 0, NULL},
+    };
+    static const struct {
+        uint64_t length;
+        uint64_t output_length;
+        uint32_t number;
+        uint64_t size;
+    } far[] = {
+        {UINT64_C(6148914691236517191), 0, 16, UINT64_C(18446744073709551607)},
+        {UINT64_C(6148914691236517191), UINT64_C(18446744073709551606), 16, UINT64_C(18446744073709551607)},
+        {UINT64_C(6148914691236517194), 0, 16, 0},
+        {UINT64_C(6148914691236517194), UINT64_MAX, 16, 0},
+        {UINT64_C(6148914691236517195), UINT64_MAX, 19, 0},
+        {UINT64_MAX, UINT64_MAX, 16, 0},
+        {UINT64_MAX - 1, UINT64_MAX, 19, 0},
+    };
+    static const uint32_t one[3] = {1, 1, 0};
+    struct reference_buffer output;
+    struct reference_bytes many;
+    uint64_t size;
+    uint8_t header[42];
+    size_t place;
+    size_t byte;
+
+    for (place = 0; place < sizeof headers / sizeof headers[0]; place++) {
+        const uint32_t *numbers = headers[place].numbers;
+
+        expect("14.6 header", (long)place, (long long)headers[place].length, put_header(header, numbers[0], numbers[1], numbers[2]) - header);
+        expect_bytes("14.6 header", (const uint8_t *)headers[place].text, header, headers[place].length);
+    }
+    for (place = 0; place < sizeof wanted / sizeof wanted[0]; place++) {
+        size_t written = wanted[place].number == 0 ? (size_t)wanted[place].size : 0;
+
+        expect_answer("14.6", (long)place, wanted[place].number, 0, 0,
+                      call_y4m_write(wanted[place].numbers, pictures, wanted[place].length, &output, wanted[place].output_length, &size));
+        expect("14.6 size", (long)place, (long long)wanted[place].size, (long long)size);
+        for (byte = 0; byte < wanted[place].output_length; byte++) {
+            expect("14.6 output", (long)place, byte < written ? (uint8_t)wanted[place].file[byte] : 0xEE, output.bytes[byte]);
+        }
+        if (place == 1) { /* what is written is read back */
+            static const uint64_t entries[2 * REFERENCE_Y4M_NUMBERS] = {40, 6, 46, 2, 48, 2, 56, 6, 62, 2, 64, 2};
+            static const uint64_t numbers[5] = {3, 2, 0, 2, 2};
+            struct reference_y4m told;
+
+            expect_answer("14.6 read", 0, 0, 0, 0, call_y4m(output.bytes, output.length, 0, MOST_LENT, &told));
+            expect_told("14.6 read", 0, numbers, &told);
+            for (byte = 0; byte < 2 * REFERENCE_Y4M_NUMBERS; byte++) {
+                expect("14.6 read", (long)byte, (long long)entries[byte], (long long)lent[byte]);
+            }
+        }
+        free(output.bytes);
+    }
+    for (place = 0; place < 60; place++) {
+        expect_answer("14.6 room", (long)place, place < 50 ? 16 : 0, 0, 0,
+                      call_y4m_write(wanted[0].numbers, pictures, Y4M_PLANES, &output, place, &size));
+        expect("14.6 room", (long)place, 50, (long long)size);
+        for (byte = 0; byte < place; byte++) {
+            expect("14.6 room", (long)place, place >= 50 && byte < 50 ? (uint8_t)wanted[0].file[byte] : 0xEE, output.bytes[byte]);
+        }
+        free(output.bytes);
+    }
+    for (place = 0; place < sizeof far / sizeof far[0]; place++) { /* none of their bytes is looked at */
+        many.bytes = header;
+        many.length = far[place].length;
+        output.bytes = header;
+        output.length = far[place].output_length;
+        size = 77;
+        expect_answer("14.6 far", (long)place, far[place].number, 0, 0, reference_y4m_write(one[0], one[1], one[2], &many, &output, &size));
+        expect("14.6 far", (long)place, (long long)far[place].size, (long long)size);
+    }
+}
+
+/* RULES 14.7: compares one call, whose planes are filled, with its answer, its size and the output, EE before it. */
+static void expect_picture(const char *rule, long place, const uint32_t *numbers, const struct reference_plane *planes, size_t output_length,
+                           uint32_t number, uint64_t told, const char *picture)
+{
+    struct reference_buffer output;
+    uint64_t got = 77;
+    size_t byte;
+
+    output.bytes = own_bytes(output_length);
+    output.length = output_length;
+    memset(output.bytes, 0xEE, output_length);
+    expect_answer(rule, place, number, 0, 0, reference_y4m_picture(numbers[0], numbers[1], numbers[2], planes, &output, &got));
+    expect(rule, place, (long long)told, (long long)got);
+    for (byte = 0; byte < output_length; byte++) {
+        expect(rule, place, number == 0 && byte < told ? (uint8_t)picture[byte] : 0xEE, output.bytes[byte]);
+    }
+    free(output.bytes);
+}
+
+/* RULES 10.8, 14.7: pictures from planes, and refusals. */
+static void test_y4m_picture(void)
+{
+    static const char padded[REFERENCE_PLANES][9] = {"\020\021\022\231\040\041\042\231", "\060\061\231", "\100\101"};
+    static const char of_422[REFERENCE_PLANES][9] = {"\020\021\022\040\041\042", "\060\061\231\062\063\231", "\100\101\102\103"};
+    static const char both[REFERENCE_PLANES][9] = {"\020\021\022\231\040\041\042\231", "\060\061\231\062\063\231", "\100\101\102\103"};
+    static const char tall[] = "FRAME\n" "\020\021\022\040\041\042\060\061\062\063\100\101\102\103";
+    static const char flat[] = "FRAME\n" "\020\021\022\060\061\100\101";
+    static const struct {
+        uint32_t numbers[6];
+        uint64_t lengths[3];
+        size_t output_length;
+        uint32_t number;
+        uint64_t told;
+        const char (*filled)[9];
+        const char *picture;
+    } wanted[] = {
+        {{3, 2, 0, 4, 3, 2}, {8, 3, 2}, 18, 0, 16, padded, FIRST},
+        {{3, 2, 1, 3, 3, 2}, {6, 6, 4}, 20, 0, 20, of_422, tall},
+        {{3, 2, 0, 4, 3, 2}, {8, 3, 2}, 16, 0, 16, padded, FIRST},
+        {{3, 2, 0, 4, 3, 2}, {8, 3, 2}, 15, 16, 16, padded, NULL},
+        {{3, 2, 0, 4, 3, 2}, {8, 3, 2}, 0, 16, 16, padded, NULL},
+        {{3, 2, 0, 2, 3, 2}, {4, 3, 2}, 16, 19, 0, padded, NULL},
+        {{3, 2, 0, 4, 1, 2}, {8, 1, 2}, 16, 19, 0, padded, NULL},
+        {{3, 2, 0, 4, 3, 1}, {8, 3, 1}, 16, 19, 0, padded, NULL},
+        {{3, 2, 0, 4, 3, 2}, {7, 3, 2}, 16, 19, 0, padded, NULL},
+        {{3, 2, 0, 4, 3, 2}, {9, 3, 2}, 16, 19, 0, padded, NULL},
+        {{3, 2, 0, 4, 3, 2}, {12, 3, 2}, 16, 19, 0, padded, NULL},
+        {{3, 2, 0, 4, 3, 2}, {8, 2, 2}, 16, 19, 0, padded, NULL},
+        {{3, 2, 0, 4, 3, 2}, {8, 3, 3}, 16, 19, 0, padded, NULL},
+        {{3, 2, 0, 4, 3, 2}, {8, 3, 0}, 16, 19, 0, padded, NULL},
+        {{3, 2, 1, 4, 3, 2}, {8, 3, 2}, 20, 19, 0, padded, NULL},
+        {{3, 2, 0, 4, 3, 2}, {8, 6, 4}, 20, 19, 0, padded, NULL},
+        {{3, 1, 0, 3, 2, 2}, {3, 2, 2}, 13, 0, 13, padded, flat},
+        {{3, 1, 1, 3, 2, 2}, {3, 2, 2}, 13, 0, 13, padded, flat},
+        {{3, 2, 2, 4, 3, 2}, {8, 3, 2}, 16, 19, 0, padded, NULL},
+        {{0, 0, 0, 0, 0, 0}, {0, 0, 0}, 0, 19, 0, padded, NULL},
+        {{16385, 1, 0, 16385, 8193, 8193}, {16385, 8193, 8193}, 0, 19, 0, padded, NULL},
+        {{1, 1, 0, 4294967295u, 4294967295u, 4294967295u}, {1, 1, 1}, 9, 19, 0, padded, NULL},
+        {{3, 2, 0, 2, 3, 2}, {4, 3, 2}, 0, 19, 0, padded, NULL},
+        {{3, 2, 1, 4, 3, 2}, {8, 6, 4}, 20, 0, 20, both, tall},
+        {{3, 2, 1, 4, 3, 2}, {8, 6, 4}, 19, 16, 20, both, NULL},
+    };
+    static const uint32_t numbers[3] = {3, 2, 0};
+    struct reference_buffer output;
+    uint64_t size;
+    size_t place;
+    unsigned plane;
+
+    for (place = 0; place < sizeof wanted / sizeof wanted[0]; place++) {
+        struct reference_plane planes[REFERENCE_PLANES];
+        uint8_t *bytes[REFERENCE_PLANES];
+
+        make_planes(planes, bytes, wanted[place].numbers + 3, wanted[place].lengths);
+        for (plane = 0; plane < REFERENCE_PLANES; plane++) {
+            size_t length = (size_t)wanted[place].lengths[plane];
+
+            memcpy(bytes[plane], wanted[place].filled[plane], length < 8 ? length : 8);
+        }
+        expect_picture("14.7", (long)place, wanted[place].numbers, planes, wanted[place].output_length, wanted[place].number,
+                       wanted[place].told, wanted[place].picture);
+        for (plane = 0; plane < REFERENCE_PLANES; plane++) {
+            free(bytes[plane]);
+        }
+    }
+    /* The file of no pictures with the picture behind it is the file of the picture. */
+    call_y4m_write(numbers, "", 0, &output, Y4M_HEADER + Y4M_PICTURE, &size);
+    memcpy(output.bytes + size, FIRST, Y4M_PICTURE);
+    expect_bytes("14.7 behind", (const uint8_t *)HEADER FIRST, output.bytes, Y4M_HEADER + Y4M_PICTURE);
+    free(output.bytes);
+    call_y4m_write(numbers, FIRST_PLANES, Y4M_PLANES, &output, Y4M_HEADER + Y4M_PICTURE, &size);
+    expect("14.7 behind", 0, Y4M_HEADER + Y4M_PICTURE, (long long)size);
+    expect_bytes("14.7 behind", (const uint8_t *)HEADER FIRST, output.bytes, Y4M_HEADER + Y4M_PICTURE);
+    free(output.bytes);
+}
+
+/* RULES 14.7: every combination of what makes 19, and of 16; 5 × 3, so 3 × 2 of chroma in 4:2:0 and 3 × 3 in 4:2:2. */
+static void test_y4m_order(void)
+{
+    enum { FAULTS = 10, OF_OUTPUT = 1u << 9 };
+    unsigned faults;
+    unsigned plane;
+
+    for (faults = 0; faults < 2u << FAULTS; faults++) {
+        uint32_t sampling = faults >> FAULTS;
+        uint32_t numbers[3] = {5, 3, 0};
+        uint32_t strides[3] = {6, 4, 4};
+        uint64_t lengths[3] = {18, 8, 8};
+        uint64_t size = sampling == REFERENCE_420 ? 6 + 15 + 2 * 6 : 6 + 15 + 2 * 9;
+        uint32_t number = (faults & (OF_OUTPUT - 1)) != 0 ? 19 : (faults & OF_OUTPUT) != 0 ? 16 : 0;
+        struct reference_plane planes[REFERENCE_PLANES];
+        uint8_t *bytes[REFERENCE_PLANES];
+        char picture[64];
+
+        numbers[0] = (faults & 1u) != 0 ? 0 : 5;
+        numbers[1] = (faults & 2u) != 0 ? 16385 : 3;
+        numbers[2] = (faults & 4u) != 0 ? 2 : sampling;
+        for (plane = 0; plane < REFERENCE_PLANES; plane++) {
+            uint64_t rows = plane == 0 || sampling == REFERENCE_422 ? 3 : 2;
+
+            if ((faults >> (3 + 2 * plane) & 1u) != 0) {
+                strides[plane] = plane == 0 ? 4 : 2;
+            }
+            lengths[plane] = strides[plane] * rows + (faults >> (4 + 2 * plane) & 1u);
+        }
+        make_planes(planes, bytes, strides, lengths);
+        stretch(picture, "FRAME\n", '\231', (size_t)size - 6, "");
+        expect_picture("14.7 order", (long)faults, numbers, planes, (size_t)size - ((faults & OF_OUTPUT) != 0), number,
+                       number == 19 ? 0 : size, picture);
+        for (plane = 0; plane < REFERENCE_PLANES; plane++) {
+            free(bytes[plane]);
+        }
+    }
+}
+
+/* RULES 14.4: the parts of the line at the start of these bytes, by the first two steps: how many there are, or 0. Its newline too. */
+enum { MOST_PARTS = 256 };
+
+struct part {
+    const uint8_t *bytes;
+    size_t length;
+};
+
+static size_t cut_line(const uint8_t *bytes, size_t left, const char *word, struct part *parts, size_t *newline)
+{
+    size_t count = 0;
+    size_t start = 0;
+    size_t at;
+    const uint8_t *found = memchr(bytes, 10, left < 256 ? left : 256);
+
+    if (found == NULL) {
+        return 0;
+    }
+    *newline = (size_t)(found - bytes);
+    for (at = 0; at <= *newline; at++) {
+        if (at == *newline || bytes[at] == 32) {
+            parts[count].bytes = bytes + start;
+            parts[count].length = at - start;
+            if (count > 0 && at == start) {
+                return 0;
+            }
+            count++;
+            start = at + 1;
+        }
+    }
+    return parts[0].length == strlen(word) && memcmp(parts[0].bytes, word, parts[0].length) == 0 ? count : 0;
+}
+
+/* RULES 14.2: the side that the one tag of these that begins with this byte says, 0 where there is none or it is wrong. */
+static uint64_t side_said(const struct part *parts, size_t count, uint8_t begin)
+{
+    uint64_t side = 0;
+    unsigned tags = 0;
+    size_t part;
+
+    for (part = 1; part < count; part++) {
+        char digits[8];
+        char again[24];
+
+        if (parts[part].bytes[0] != begin) {
+            continue;
+        }
+        tags++;
+        if (parts[part].length < 2 || parts[part].length > 6) { /* 16,384 has five digits, and the first is not 0 */
+            return 0;
+        }
+        memcpy(digits, parts[part].bytes + 1, parts[part].length - 1);
+        digits[parts[part].length - 1] = '\0';
+        side = strtoul(digits, NULL, 10);
+        sprintf(again, "%lu", (unsigned long)side);
+        if (strlen(again) != parts[part].length - 1 || memcmp(again, parts[part].bytes + 1, strlen(again)) != 0 || side > 16384) {
+            return 0;
+        }
+    }
+    return tags == 1 ? side : 0;
+}
+
+/* RULES 14.4: decides by the steps whether bytes are a file: what a reading tells of one, and where its first Y's start. */
+static int decide(const uint8_t *bytes, size_t length, uint64_t *told, uint64_t *first_y)
+{
+    static const char *const tags[2][3] = {{"C420", "C420jpeg", "C420mpeg2"}, {"C422", "C422", "C422"}};
+    struct part parts[MOST_PARTS];
+    size_t newline;
+    size_t count = cut_line(bytes, length, "YUV4MPEG2", parts, &newline);
+    size_t chroma;
+    size_t at;
+    size_t part;
+    unsigned samplings = 0;
+
+    told[0] = side_said(parts, count, 'W');
+    told[1] = side_said(parts, count, 'H');
+    told[2] = 0;
+    told[3] = 0;
+    for (part = 1; part < count; part++) {
+        if (parts[part].bytes[0] == 'C') {
+            unsigned tag = 0;
+
+            samplings++;
+            while (tag < 6 && (parts[part].length != strlen(tags[tag / 3][tag % 3]) ||
+                               memcmp(parts[part].bytes, tags[tag / 3][tag % 3], parts[part].length) != 0)) {
+                tag++;
+            }
+            samplings += tag == 6; /* as good as a second one */
+            told[2] = tag / 3;
+        }
+    }
+    if (told[0] == 0 || told[1] == 0 || samplings > 1) {
+        return 0;
+    }
+    chroma = (size_t)((told[0] + 1) / 2 * (told[2] == 1 ? told[1] : (told[1] + 1) / 2));
+    at = newline + 1;
+    while (at < length) {
+        size_t left = length - at;
+        size_t planes = (size_t)(told[0] * told[1]) + 2 * chroma;
+
+        if (cut_line(bytes + at, left, "FRAME", parts, &newline) == 0 || left - newline - 1 < planes) {
+            return 0;
+        }
+        if (told[3] < MOST_LENT / REFERENCE_Y4M_NUMBERS) {
+            first_y[told[3]] = at + newline + 1;
+        }
+        at += newline + 1 + planes;
+        told[3]++;
+    }
+    return 1;
+}
+
+/* RULES 14.4, 14.5: a reading of these bytes against the steps, which ask the first newline first; gives whether they are a file. */
+static int expect_decided(const char *rule, long place, const void *bytes, size_t length)
+{
+    enum { ROOM = MOST_LENT / REFERENCE_Y4M_NUMBERS };
+    struct reference_y4m told;
+    uint64_t first_y[ROOM];
+    uint64_t wanted[5] = {0};
+    uint64_t decided[4];
+    int is_file = decide(bytes, length, decided, first_y);
+    size_t number;
+
+    if (is_file) {
+        memcpy(wanted, decided, sizeof decided);
+        wanted[4] = decided[3] < ROOM ? decided[3] : ROOM;
+    }
+    expect_answer(rule, place, is_file ? 0 : 19, 0, 0, call_y4m(bytes, length, 0, MOST_LENT, &told));
+    expect_told(rule, place, wanted, &told);
+    for (number = 0; number < MOST_LENT; number++) {
+        uint64_t luma = wanted[0] * wanted[1];
+        uint64_t chroma = (wanted[0] + 1) / 2 * (wanted[2] == 1 ? wanted[1] : (wanted[1] + 1) / 2);
+        uint64_t which = number / REFERENCE_Y4M_NUMBERS;
+        uint64_t entry[REFERENCE_Y4M_NUMBERS];
+
+        entry[0] = which < wanted[4] ? first_y[which] : 0;
+        entry[1] = luma;
+        entry[2] = entry[0] + luma;
+        entry[3] = chroma;
+        entry[4] = entry[2] + chroma;
+        entry[5] = chroma;
+        expect(rule, place, which < wanted[4] ? (long long)entry[number % REFERENCE_Y4M_NUMBERS] : LENT, (long long)lent[number]);
+    }
+    return is_file;
+}
+
+/*
+ * RULES 14.4: the file of the examples, and a short one of 4:2:2, cut at each byte, with each bit changed, with each byte left out,
+ * twice, exchanged with the next, and with each of a few bytes in its place and before it.
+ */
+static void test_every_y4m_byte(void)
+{
+    static const struct {
+        const char *text;
+        size_t length;
+    } files[2] = {{HEADER FIRST SECOND, Y4M_BYTES}, {TEXT("YUV4MPEG2 H1 C422 W2\nFRAME\n1234FRAME X\n5678FRAME\n\n\n\n\n")}};
+    static const char others[] = " \nWHCFR0129\r\t";
+    uint8_t bytes[Y4M_BYTES + 1];
+    size_t place;
+    size_t other;
+    unsigned file;
+    unsigned bit;
+
+    for (place = 0; place <= Y4M_BYTES; place++) {
+        expect_y4m("14.4 cut", (long)place, y4m_file, place, place == 34 || place == 50 || place == 72, place == 34 ? 0 : place == 50 ? 1 : 2);
+    }
+    for (file = 0; file < 2; file++) {
+        const char *text = files[file].text;
+        size_t length = files[file].length;
+
+        expect("14.4 whole", file, 1, expect_decided("14.4 whole", file, text, length));
+        for (place = 0; place < length; place++) {
+            expect_decided("14.4 cut", (long)place, text, place);
+            for (bit = 0; bit < 8; bit++) {
+                memcpy(bytes, text, length);
+                bytes[place] = (uint8_t)(bytes[place] ^ 1u << bit);
+                expect_decided("14.4 bit", (long)(8 * place + bit), bytes, length);
+            }
+            memcpy(bytes, text, place);
+            memcpy(bytes + place, text + place + 1, length - place - 1);
+            expect_decided("14.4 left out", (long)place, bytes, length - 1);
+            memcpy(bytes, text, place + 1);
+            memcpy(bytes + place + 1, text + place, length - place);
+            expect_decided("14.4 twice", (long)place, bytes, length + 1);
+            if (place + 1 < length) {
+                memcpy(bytes, text, length);
+                bytes[place] = (uint8_t)text[place + 1];
+                bytes[place + 1] = (uint8_t)text[place];
+                expect_decided("14.4 exchanged", (long)place, bytes, length);
+            }
+            for (other = 0; other < sizeof others; other++) { /* its last byte 0 too */
+                memcpy(bytes, text, length);
+                bytes[place] = (uint8_t)others[other];
+                expect_decided("14.4 other", (long)place, bytes, length);
+                memcpy(bytes + place + 1, text + place, length - place);
+                expect_decided("14.4 before", (long)place, bytes, length + 1);
+            }
+        }
+    }
+}
+
+/* Puts a text behind another, with room for both, of which this many bytes are there; gives the bytes of both. */
+static size_t add_text(char *text, size_t length, const char *more)
+{
+    memcpy(text + length, more, strlen(more));
+    return length + strlen(more);
+}
+
+/* Puts a tag of a side behind a text: with this side, or with what may be none. */
+static size_t add_side(char *text, size_t length, const char *tag, uint32_t side, int as_said)
+{
+    static const char *const sides[] = {"1", "2", "3", "0", "02", "16384", "16385", "", "2x", "4294967297", "18446744073709551617", "-1"};
+    char digits[12];
+
+    length = add_text(text, length, tag);
+    sprintf(digits, "%lu", (unsigned long)side);
+    return add_text(text, length, as_said ? digits : sides[below(sizeof sides / sizeof sides[0])]);
+}
+
+/* Puts a tag that is passed over behind a text. */
+static size_t add_other(char *text, size_t length)
+{
+    static const char *const others[] = {" F25:1", " Ip", " A1:1", " XYSCSS=420JPEG", " X\r", " w3", " h3", " c422",
+                                         " :",     " \t", " FRAME", " YUV4MPEG2",     " \377"};
+
+    return add_text(text, length, others[below(sizeof others / sizeof others[0])]);
+}
+
+/* How often a part is as it ought to be: in every third file always. */
+static int ought(uint32_t faults)
+{
+    return faults == 0 || below(12) != 0;
+}
+
+/* RULES 14.4: files of parts by chance, against the steps; both kinds come. */
+static void test_any_y4m(void)
+{
+    enum { FILES = 6000 };
+    static const char *const words[2][4] = {{"YUV4MPEG2", "YUV4MPEG", "FRAME", "yuv4mpeg2"}, {"FRAME", "FRAMES", "YUV4MPEG2", " FRAME"}};
+    static const char *const samplings[] = {"",       " C420", " C420jpeg", " C420mpeg2", " C422",
+                                            " C422", " C444", " C",        " C420paldv", " C4222"};
+    static const char *const ends[] = {"\n", "\r\n", " \n", "\n\n", ""};
+    static char text[1024];
+    long file;
+    long files = 0;
+
+    for (file = 0; file < FILES; file++) {
+        uint32_t wide = 1 + below(4);
+        uint32_t high = 1 + below(4);
+        uint32_t faults = below(3);
+        uint32_t sampling = below(6);
+        uint32_t order = below(6);
+        uint32_t pictures = below(4);
+        size_t planes = wide * high + 2 * ((wide + 1) / 2) * (sampling > 3 ? high : (high + 1) / 2);
+        size_t length = add_text(text, 0, words[0][ought(faults) ? 0 : below(4)]);
+        uint32_t tag;
+
+        for (tag = 0; tag < 3; tag++) { /* W, H and C in each order */
+            uint32_t which = order % 2 == 0 ? (order + tag) % 3 : (order + 3 - tag) % 3;
+
+            if (below(3) == 0) {
+                length = add_other(text, length);
+            }
+            if (!ought(faults)) {
+                which = below(3);
+            }
+            if (which < 2) {
+                length = add_side(text, length, which == 0 ? " W" : " H", which == 0 ? wide : high, ought(faults));
+            } else {
+                length = add_text(text, length, samplings[ought(faults) ? sampling : below(10)]);
+            }
+        }
+        length = add_text(text, length, ends[ought(faults) ? 0 : below(5)]);
+        for (; pictures > 0; pictures--) {
+            size_t left = planes - (ought(faults) ? 0 : below(3));
+
+            length = add_text(text, length, words[1][ought(faults) ? 0 : below(4)]);
+            for (tag = below(3); tag > 0; tag--) {
+                length = add_text(text, length, ought(faults) ? "" : " ");
+                length = add_other(text, length);
+            }
+            length = add_text(text, length, ends[ought(faults) ? 0 : below(5)]);
+            for (; left > 0; left--) {
+                text[length] = (char)(below(4) == 0 ? NEWLINE : below(256));
+                length++;
+            }
+        }
+        files += expect_decided("14.4 any", file, text, length);
+    }
+    expect("14.4 any", FILES, 1, files > FILES / 4 && files < FILES - FILES / 4);
+}
+
+/*
+ * RULES 14.3 to 14.7: this many pictures of a size, made one by one from planes with padding and put behind the file of none. That
+ * is the file written of all their planes; read, each plane is where its entry says.
+ */
+enum { MOST_SIDE = 7, MOST_PICTURES = 4 };
+
+static void test_y4m_list(const uint32_t *numbers, uint32_t count)
+{
+    enum { MOST = MOST_PICTURES, MOST_PLANES = 3 * MOST_SIDE * MOST_SIDE, MOST_FILE = 42 + MOST * (6 + MOST_PLANES) };
+    long place = (long)(1000 * numbers[0] + 100 * numbers[1] + 10 * numbers[2] + count);
+    uint8_t planes_given[MOST * MOST_PLANES];
+    uint8_t joined[MOST_FILE];
+    struct reference_buffer output;
+    struct reference_y4m told;
+    uint64_t size;
+    uint64_t length;
+    size_t given = 0;
+    uint32_t picture;
+    unsigned plane;
+    size_t byte;
+
+    expect_answer("14.6 none", place, 0, 0, 0, call_y4m_write(numbers, "", 0, &output, MOST_FILE, &length));
+    memcpy(joined, output.bytes, MOST_FILE);
+    free(output.bytes);
+    for (picture = 0; picture < count; picture++) {
+        uint32_t strides[REFERENCE_PLANES];
+        uint64_t lengths[REFERENCE_PLANES];
+        struct reference_plane planes[REFERENCE_PLANES];
+        uint8_t *bytes[REFERENCE_PLANES];
+        uint32_t columns[REFERENCE_PLANES];
+
+        for (plane = 0; plane < REFERENCE_PLANES; plane++) {
+            uint32_t rows = plane == 0 || numbers[2] == 1 ? numbers[1] : (numbers[1] + 1) / 2;
+
+            columns[plane] = plane == 0 ? numbers[0] : (numbers[0] + 1) / 2;
+            strides[plane] = columns[plane] + below(3);
+            lengths[plane] = strides[plane] * (uint64_t)rows;
+        }
+        make_planes(planes, bytes, strides, lengths);
+        for (plane = 0; plane < REFERENCE_PLANES; plane++) {
+            for (byte = 0; byte < lengths[plane]; byte++) {
+                bytes[plane][byte] = (uint8_t)(below(3) == 0 ? 10 : below(256));
+                if (byte % strides[plane] < columns[plane]) {
+                    planes_given[given] = bytes[plane][byte];
+                    given++;
+                }
+            }
+        }
+        output.bytes = joined + (size_t)length;
+        output.length = MOST_FILE - length;
+        expect_answer("14.7 list", place, 0, 0, 0, reference_y4m_picture(numbers[0], numbers[1], numbers[2], planes, &output, &size));
+        length += size;
+        for (plane = 0; plane < REFERENCE_PLANES; plane++) {
+            free(bytes[plane]);
+        }
+    }
+    expect_answer("14.6 list", place, 0, 0, 0, call_y4m_write(numbers, planes_given, given, &output, MOST_FILE, &size));
+    expect("14.6 list", place, (long long)length, (long long)size);
+    expect_bytes("14.6 list", joined, output.bytes, MOST_FILE);
+    free(output.bytes);
+    if (count > 0) {
+        expect_answer("14.6 short", place, 19, 0, 0, call_y4m_write(numbers, planes_given, given - 1, &output, MOST_FILE, &size));
+        expect("14.6 short", place, 0, (long long)size);
+        free(output.bytes);
+    }
+    expect_decided("14.5 list", place, joined, (size_t)length);
+    expect_answer("14.5 list", place, 0, 0, 0, call_y4m(joined, (size_t)length, 0, MOST_LENT, &told));
+    expect("14.5 list", place, count, (long long)told.entries);
+    given = 0;
+    for (picture = 0; picture < count; picture++) {
+        for (plane = 0; plane < REFERENCE_PLANES; plane++) {
+            const uint64_t *pair = lent + REFERENCE_Y4M_NUMBERS * picture + 2 * plane;
+
+            expect_bytes("14.5 plane", planes_given + given, joined + (size_t)pair[0], (size_t)pair[1]);
+            given += (size_t)pair[1];
+        }
+    }
+}
+
+/* RULES 14.2, 14.6: each side that a file can have is written and read back, in both samplings. */
+static void test_every_side(void)
+{
+    uint8_t header[42];
+    uint32_t side;
+
+    for (side = 1; side <= REFERENCE_LARGEST_SIDE; side++) {
+        uint32_t sampling = side % 3 == 0 ? REFERENCE_422 : REFERENCE_420;
+        uint32_t other = REFERENCE_LARGEST_SIDE + 1 - side;
+        size_t length = (size_t)(put_header(header, side, other, sampling) - header);
+
+        expect_header("14.6 side", (long)side, (const char *)header, length, side, other, sampling);
+    }
+}
+
+/* RULES 14: up to four pictures of each size up to 7 × 7; a file of 1,000 pictures, read from each of them on. */
+static void test_y4m_lists(void)
+{
+    enum { MANY = 1000 };
+    static uint8_t planes[3 * MANY];
+    uint32_t numbers[3];
+    struct reference_buffer output;
+    uint64_t size;
+    uint32_t count;
+    long list;
+
+    for (numbers[0] = 1; numbers[0] <= MOST_SIDE; numbers[0]++) {
+        for (numbers[1] = 1; numbers[1] <= MOST_SIDE; numbers[1]++) {
+            for (numbers[2] = 0; numbers[2] < REFERENCE_SAMPLINGS; numbers[2]++) {
+                for (count = 0; count <= MOST_PICTURES; count++) {
+                    test_y4m_list(numbers, count);
+                }
+            }
+        }
+    }
+    numbers[0] = 1;
+    numbers[1] = 1;
+    numbers[2] = REFERENCE_422;
+    memset(planes, NEWLINE, sizeof planes);
+    expect_answer("14.6 many", 0, 0, 0, 0, call_y4m_write(numbers, planes, sizeof planes, &output, 30 + 9 * MANY, &size));
+    expect("14.6 many", 0, 30 + 9 * MANY, (long long)size);
+    for (list = 0; list <= MANY; list++) {
+        struct reference_y4m told;
+        uint64_t wanted[5] = {1, 1, 1, MANY, 0};
+
+        wanted[4] = list + 7 <= MANY ? 7 : (uint64_t)(MANY - list);
+        expect_answer("14.5 many", list, 0, 0, 0, call_y4m(output.bytes, (size_t)size, (uint64_t)list, MOST_LENT, &told));
+        expect_told("14.5 many", list, wanted, &told);
+        expect("14.5 many", list, list < MANY ? 36 + 9 * list : LENT, (long long)lent[0]);
+        expect("14.5 many", list, list + 7 <= MANY ? 36 + 9 * (list + 6) + 2 : LENT, (long long)lent[40]);
+        expect("14.5 many", list, LENT, (long long)lent[42]);
+    }
+    free(output.bytes);
+}
+
+/* All examples, one chapter after the other. */
 int main(void)
 {
     reference_make_tables(&tables);
@@ -4258,6 +5515,19 @@ int main(void)
     test_full_pairing(7);
     test_full_pairing(MOST_FULL);
     test_either_form();
+    test_y4m_lines();
+    test_y4m_headers();
+    test_y4m_layout();
+    test_y4m_changes();
+    test_y4m_reading();
+    test_y4m_writing();
+    test_y4m_picture();
+    test_y4m_decimals();
+    test_every_side();
+    test_y4m_order();
+    test_every_y4m_byte();
+    test_any_y4m();
+    test_y4m_lists();
     printf("%lu comparisons, %lu differ\n", asked, differing);
     return differing == 0 ? EXIT_SUCCESS : EXIT_FAILURE;
 }
