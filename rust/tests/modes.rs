@@ -163,6 +163,19 @@ fn by_window(frame: &FrameDescription, source: &[u8]) -> (Result<(), YuvError>, 
     (answer, planes)
 }
 
+/// What a frame with nearest tables leaves as the only one of a convoy.
+fn by_convoy(frame: &FrameDescription, source: &[u8]) -> (Result<(), YuvError>, [Vec<u8>; 3]) {
+    let mut planes = planes(frame);
+    let [y, u, v] = &mut planes;
+    let mut one = ConvoyFrame::of(frame);
+    one.options = nearest(frame);
+    one.stride = 3 * frame.width;
+    one.source.length = source.len();
+    (one.y.length, one.u.length, one.v.length) = (y.len(), u.len(), v.len());
+    let answer = convert_convoy(&[one], source, y, u, v);
+    (answer.map_err(YuvError::from), planes)
+}
+
 /// The number that the exported frame call answers, and the planes that it leaves, for Limited, 4:2:2 and a Custom matrix.
 fn by_export(width: u32, height: u32, custom: [f32; 2], source: &[u8]) -> (u32, [Vec<u8>; 3]) {
     let (sampling, range) = (YuvChromaSubsampling::Yuv422, YuvRange::Limited);
@@ -259,6 +272,8 @@ fn the_same_in_every_mode() {
                 let (before, after, got) = in_mode(mode, || by_bands_with(&frame, &source));
                 assert_eq!((before, after, &got), (mode, mode, &usual_with));
                 let (before, after, got) = in_mode(mode, || by_window(&frame, &source));
+                assert_eq!((before, after, &got), (mode, mode, &usual_with));
+                let (before, after, got) = in_mode(mode, || by_convoy(&frame, &source));
                 assert_eq!((before, after, &got), (mode, mode, &usual_with));
                 let (before, after, opened) = in_mode(mode, || FrameState::open(frame));
                 assert_eq!(
