@@ -7,7 +7,8 @@
 //! byte, of several frames in one call the refused one and those behind it none. The rules that fix each byte and each answer are docs/RULES.md of
 //! the repository; RULES 7.1 in a comment is one of them.
 //!
-//! No frame or band call panics, and neither does [`luma_counts`], which tells how many colours share a luma, nor a call on files or summaries.
+//! No frame or band call panics, and neither does [`convert_convoy`], nor [`luma_counts`], which tells how many colours share a luma, nor a call on
+//! files or summaries.
 //! [`YuvPlanarImageMut::alloc`] makes the planes as [`Vec`]s, and [`Y4mFile::pictures`] the places of all pictures; both end as a [`Vec`] does where
 //! memory does not suffice.
 //!
