@@ -94,7 +94,7 @@ pub fn report(bars: &mut Bars) {
         println!("{name:<8}{calls:>11.2}{one:>10.2}{:>7.1} %{said}", (one / calls - 1.) * 100.);
     }
 
-    println!("\nsmall frames in one call, us; least of {TURNS_OF_SMALL} turns; in the last column the first is refused, so that only their parts are tested");
+    println!("\nsmall frames in one call, us; least of {TURNS_OF_SMALL} turns; the parts: the first is refused, so that only parts are tested");
     println!("{:<8}{:>12}{:>14}{:>10}{:>16}", "frames", "of", "calls", "one call", "the parts");
     for count in [1, 6, 16, 64] {
         let mut small = Several::new(count, 16, 8, YuvChromaSubsampling::Yuv420);

@@ -1,7 +1,8 @@
 /*
  * Convoys: several frames in one call leave what single calls in order leave, byte for byte of all four buffers, up to the first that is refused. 18
  * is expected by the numbers of each part's bytes, one by one. Every count of frames; every refusal at the first place, in the middle and at the
- * last; parts that touch, that are empty, that stand twice, and whose end is past 2^64; and the exported call with fewer numbers than its frames need.
+ * last; parts that touch, that are empty, that stand twice, and whose end is past 2^64; and the exported call with fewer numbers than its frames
+ * need.
  */
 #include "lent.h"
 
