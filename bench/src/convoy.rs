@@ -117,7 +117,7 @@ fn least_processor_time<const N: usize>(on: &mut Several, turns: usize, forms: [
 const SAMPLINGS: [(&str, YuvChromaSubsampling); 2] = [("4:2:0", YuvChromaSubsampling::Yuv420), ("4:2:2", YuvChromaSubsampling::Yuv422)];
 
 pub fn report(bars: &mut Bars) {
-    println!("\nsix frames of 1,920 x 1,080 in one call beside six, Rgb, noise, ms of processor time; least of {TURNS} turns; bar: {MOST_OVER_CALLS} %");
+    println!("\nsix frames of 1,920 x 1,080 in one call beside six, Rgb, noise, processor ms; least of {TURNS} turns; bar: {MOST_OVER_CALLS} %");
     println!("{:<8}{:>11}{:>10}{:>9}", "chroma", "six calls", "one call", "over");
     for (name, sampling) in SAMPLINGS {
         let mut six = Several::new(6, 1920, 1080, sampling);
