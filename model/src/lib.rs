@@ -1,6 +1,6 @@
 //! A model of docs/RULES.md, to compare converters with. It was written from the scope document
-//! that the rules come from, without a look at the proved code; `pairs`, `shift` and `y4m` say what was read
-//! for them.
+//! that the rules come from, without a look at the proved code; `convoy`, `pairs`, `shift` and `y4m` say what
+//! was read for them.
 //!
 //! It is meant to be read: each item names the rules that it states. Two things that the rules take
 //! from the Rust are copied as numbers: the ten stored sets and the kr and kb of Fcc (`matrix`).
@@ -10,6 +10,7 @@
 #![forbid(unsafe_code)]
 
 pub mod bands;
+pub mod convoy;
 pub mod counts;
 pub mod curves;
 pub mod frame;
