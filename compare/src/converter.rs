@@ -1,6 +1,7 @@
 //! What is compared: the model, the oracle, and the library that users link. The built program is in program.rs.
 
 use crate::request::BandRequest;
+use model::convoy::Numbers;
 use model::shift::{RecordRequest, ShiftForm};
 use model::{Answer, Frame, FrameState, Refusal};
 
@@ -133,6 +134,23 @@ pub trait Converter {
         _output: &mut [u8],
     ) -> (Answer, u64) {
         unreachable!("has_y4m() says so")
+    }
+
+    /// Whether it has the call on a convoy.
+    fn has_convoys(&self) -> bool {
+        false
+    }
+
+    /// Converts a convoy by the numbers of RULES 10.9: the answer, and how many frames are finished.
+    fn convoy(
+        &self,
+        _told: &Numbers,
+        _source: &[u8],
+        _y: &mut [u8],
+        _u: &mut [u8],
+        _v: &mut [u8],
+    ) -> (Answer, u64) {
+        unreachable!("has_convoys() says so")
     }
 }
 
@@ -285,6 +303,21 @@ impl Converter for Model {
     ) -> (Answer, u64) {
         let planes = planes.each_ref().map(Vec::as_slice);
         model::y4m::write_picture(numbers, planes, output)
+    }
+
+    fn has_convoys(&self) -> bool {
+        true
+    }
+
+    fn convoy(
+        &self,
+        told: &Numbers,
+        source: &[u8],
+        y: &mut [u8],
+        u: &mut [u8],
+        v: &mut [u8],
+    ) -> (Answer, u64) {
+        model::convoy::convoy_by_numbers(told, source, y, u, v)
     }
 }
 

@@ -3,6 +3,7 @@
 use crate::conditions;
 use crate::converter::Converter;
 use crate::request::BandRequest;
+use model::convoy::Numbers;
 use model::shift::{RecordRequest, ShiftForm};
 use model::{Answer, Frame, FrameState, Refusal, Settings, TableRounding, Window};
 use segvartin::{
@@ -486,6 +487,45 @@ impl Converter for Library {
         }
         (answer, size as u64)
     }
+
+    fn has_convoys(&self) -> bool {
+        true
+    }
+
+    fn convoy(
+        &self,
+        told: &Numbers,
+        source: &[u8],
+        y: &mut [u8],
+        u: &mut [u8],
+        v: &mut [u8],
+    ) -> (Answer, u64) {
+        // What stands there before is not looked at.
+        let mut sizes = [7; 3];
+        // SAFETY: the pointers are those of slices beside their own lengths, and no two lent values overlap.
+        let number = unsafe {
+            segvartin_call_convoy(
+                told.count as usize,
+                told.numbers.as_ptr(),
+                told.numbers.len(),
+                told.customs.as_ptr(),
+                told.customs.len(),
+                told.parts.as_ptr(),
+                told.parts.len(),
+                source.as_ptr(),
+                source.len(),
+                y.as_mut_ptr(),
+                y.len(),
+                u.as_mut_ptr(),
+                u.len(),
+                v.as_mut_ptr(),
+                v.len(),
+                &mut sizes,
+            )
+        };
+        let [expected, received, done] = sizes;
+        (answered(number, [expected, received]), done as u64)
+    }
 }
 
 /// The answer of an exported call.
@@ -853,6 +893,25 @@ unsafe extern "C" {
         output: *mut u8,
         output_len: usize,
         told: &mut [usize; 1],
+    ) -> u32;
+
+    fn segvartin_call_convoy(
+        count: usize,
+        numbers: *const u32,
+        numbers_len: usize,
+        customs: *const f32,
+        customs_len: usize,
+        parts: *const u64,
+        parts_len: usize,
+        source: *const u8,
+        source_len: usize,
+        y: *mut u8,
+        y_len: usize,
+        u: *mut u8,
+        u_len: usize,
+        v: *mut u8,
+        v_len: usize,
+        told: &mut [usize; 3],
     ) -> u32;
 
     fn segvartin_call_luma_counts(

@@ -6,6 +6,9 @@ mod calls;
 mod check;
 mod conditions;
 mod converter;
+mod convoy;
+mod convoy_list;
+mod convoy_mistakes;
 mod counts;
 mod grey;
 #[cfg(library)]
@@ -71,6 +74,8 @@ compare --vectors ROOT | --check ROOT | --mistakes | --flat
   --y4m N        Y4M files that are read, good and broken (200000); half as many written, half as many pictures
                  written from planes, a hundredth as many lists of frames that are converted, written and read
                  back; and every byte of small files changed, left out and added
+  --convoys N    convoys (50000) of up to 64 frames and some more, of sides up to 17, good and broken, against single
+                 frame calls in order
   --side N       sizes to N by N (64); some are 1,920 by 1,080, some up to 16,384 long and thin;
                  four of five lie in a source that is larger by up to 18 each way, or all it may be
   --seed N       seed of all of these (1)
@@ -79,13 +84,13 @@ compare --vectors ROOT | --check ROOT | --mistakes | --flat
 A mismatch is printed as the smallest request found that shows it, in the form of --list.
 
   --vectors ROOT   write the stored lists of frame calls, band sequences, calls on shift files and on
-                   summaries, pairings, and calls on Y4M files into the repository ROOT
+                   summaries, pairings, calls on Y4M files, and convoys into the repository ROOT
   --check ROOT     say whether the lists in ROOT are what --vectors writes
   --mistakes       for each mistake near at hand the call made for it, and how many calls catch it;
                    for each way to lose tables or window between calls, and for each mistake in a
                    condition of bands, the first sequence that catches it, and how many do; the same
                    of mistakes in a reader or a writer of shift files, in a call on summaries, in a
-                   pairing, and in a reader or a writer of Y4M files
+                   pairing, in a reader or a writer of Y4M files, and in a call on a convoy
   --flat           for each transfer and rounding, how many of the 256 values of a flat channel
                    come back through both tables, and how far off the others are at most";
 
@@ -112,6 +117,7 @@ struct Options {
     summaries: u64,
     paired: u64,
     y4m: u64,
+    convoys: u64,
     side: u64,
     seed: u64,
     list: u64,
@@ -132,6 +138,7 @@ fn options() -> Option<Options> {
         summaries: 100_000,
         paired: 100_000,
         y4m: 200_000,
+        convoys: 50_000,
         side: 64,
         seed: 1,
         list: 0,
@@ -153,6 +160,7 @@ fn options() -> Option<Options> {
                 options.summaries /= 10;
                 options.paired /= 10;
                 options.y4m /= 10;
+                options.convoys /= 10;
                 continue;
             }
             "--frames" => &mut options.frames,
@@ -168,6 +176,7 @@ fn options() -> Option<Options> {
             "--summaries" => &mut options.summaries,
             "--paired" => &mut options.paired,
             "--y4m" => &mut options.y4m,
+            "--convoys" => &mut options.convoys,
             "--side" => &mut options.side,
             "--seed" => &mut options.seed,
             "--list" => &mut options.list,
@@ -186,7 +195,8 @@ fn main() {
         }
     }));
     let converters = converter::converters();
-    if let Some(result) = told(&converters) {
+    // Lists are made of the model and the oracle, also where the library is linked.
+    if let Some(result) = told(&converters[..2]) {
         println!("{}", result.as_ref().unwrap_or_else(|wrong| wrong));
         exit(i32::from(result.is_err()));
     }
@@ -243,6 +253,7 @@ fn main() {
     summaries(&options, &converters);
     paired(&options, &converters);
     y4m(&options, &converters);
+    timed(|| convoy::check(options.convoys, seed, &converters));
     let input = |case| random::input(&mut Random::new(seed, 4, case), side);
     let grey_input = |case| GreyInput::random(&mut Random::new(seed, 13, case));
     compare("program inputs", options.programs, &converters, input);
@@ -403,8 +414,8 @@ fn timed(check: impl Fn() -> Result<String, String>) {
 type OnList = fn(&Path, &Converters) -> Result<String, String>;
 
 /// The lists of frame calls, of band sequences, of calls on shift files, of calls on summaries, of
-/// pairings and of calls on Y4M files: what is said of all, an error where one is wrong.
-fn each(root: &Path, converters: &Converters, lists: [OnList; 6]) -> Result<String, String> {
+/// pairings, of calls on Y4M files and of convoys: what is said of all, an error where one is wrong.
+fn each(root: &Path, converters: &Converters, lists: [OnList; 7]) -> Result<String, String> {
     let said = lists.map(|list| list(root, converters));
     let wrong = said.iter().any(Result::is_err);
     let all = said.map(|said| said.unwrap_or_else(|wrong| wrong));
@@ -430,6 +441,7 @@ fn told(converters: &Converters) -> Option<Result<String, String>> {
                 summaries::write,
                 pairings::write,
                 y4m_list::write,
+                convoy_list::write,
             ],
         )),
         ["--check", root] => Some(each(
@@ -442,6 +454,7 @@ fn told(converters: &Converters) -> Option<Result<String, String>> {
                 summaries::check,
                 pairings::check,
                 y4m_list::check,
+                convoy_list::check,
             ],
         )),
         ["--mistakes"] => Some(vectors::report(converters).and_then(|frames| {
@@ -450,7 +463,9 @@ fn told(converters: &Converters) -> Option<Result<String, String>> {
             let summaries = summaries::report(converters)?;
             let pairings = pairings::report(converters)?;
             let y4m = y4m_list::report(converters)?;
-            Ok([frames, sequences, shifts, summaries, pairings, y4m].join("\n\n"))
+            let convoys = convoy_list::report(converters)?;
+            let all = [frames, sequences, shifts, summaries, pairings, y4m, convoys];
+            Ok(all.join("\n\n"))
         })),
         ["--flat"] => Some(Ok(worked::flat_colours())),
         _ => None,

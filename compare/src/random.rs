@@ -257,6 +257,13 @@ pub fn frame_in(
     frame_with(random, settings, size)
 }
 
+/// One that is not refused, of sides up to this, in any sampling.
+pub fn small_frame(random: &mut Random, side: u32) -> FrameRequest {
+    let settings = settings_in(random, None);
+    let size = (random.from(1, side), random.from(1, side));
+    frame_with(random, settings, size)
+}
+
 /// Another of the same size and sampling.
 pub fn frame_like(random: &mut Random, frame: &Frame) -> FrameRequest {
     let settings = settings_in(random, Some(frame.settings.sampling));
@@ -391,7 +398,7 @@ pub fn frame(random: &mut Random, side: u32) -> FrameRequest {
     request
 }
 
-fn frame_fault(random: &mut Random, request: &mut FrameRequest) {
+pub fn frame_fault(random: &mut Random, request: &mut FrameRequest) {
     let f = &mut request.frame;
     match random.below(13) {
         0 => size_fault(random, &mut f.w, &mut f.h, &mut f.window),

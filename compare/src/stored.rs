@@ -3,7 +3,7 @@
 //! it field by field.
 
 use model::settings::{channels_of, matrix_of, range_of, rounding_of, sampling_of, transfer_of};
-use model::{Settings, Window, YuvStandardMatrix};
+use model::{Frame, Settings, Window, YuvStandardMatrix};
 
 #[derive(Default)]
 pub struct Stored(pub Vec<u8>);
@@ -20,6 +20,36 @@ pub fn settings_codes(settings: &Settings) -> [u32; 4] {
         code(settings.matrix, matrix_of).unwrap_or(CUSTOM),
         code(settings.transfer, transfer_of).expect(has),
     ]
+}
+
+/// RULES 10.9: the sixteen numbers of a frame, and kr and kb where they are looked at.
+pub fn frame_numbers(frame: &Frame) -> ([u32; 16], Option<[f32; 2]>) {
+    let has = "a code for every setting";
+    let (settings, window) = (&frame.settings, &frame.window);
+    let [sampling, range, matrix, transfer] = settings_codes(settings);
+    let custom = match settings.matrix {
+        YuvStandardMatrix::Custom(kr, kb) => Some([kr, kb]),
+        _ => None,
+    };
+    let numbers = [
+        frame.source_stride,
+        frame.w,
+        frame.h,
+        code(settings.channels, channels_of).expect(has),
+        sampling,
+        range,
+        matrix,
+        transfer,
+        frame.y_stride,
+        frame.u_stride,
+        frame.v_stride,
+        code(settings.rounding, rounding_of).expect(has),
+        window.left,
+        window.top,
+        window.source_width,
+        window.source_height,
+    ];
+    (numbers, custom)
 }
 
 /// The program's code of a setting, where it has one.
