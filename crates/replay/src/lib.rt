@@ -57,11 +57,16 @@ fn f32_of(bits: u32) -> f32 {
     f32::from_bits(bits)
 }
 
+// The next number as the bits of a float.
+pub fn read_float() -> f32 {
+    f32_of(read_number())
+}
+
 // A code, then the bits of kr and kb; 6 is Custom.
 fn read_matrix() -> YuvStandardMatrix {
     let code = read_number();
-    let kr = f32_of(read_number());
-    let kb = f32_of(read_number());
+    let kr = read_float();
+    let kb = read_float();
     if code == 6 {
         YuvStandardMatrix::Custom(kr, kb)
     } else {
