@@ -69,7 +69,17 @@ fn convert_on(
     v: &mut [u8],
 ) {
     let mut told = [0usize; 3];
-    let number = convoy_calls::call_convoy(count, numbers, customs, parts, source, y, u, v, &mut told);
+    let number = convoy_calls::call_convoy(
+        count,
+        numbers,
+        customs,
+        parts,
+        source,
+        y,
+        u,
+        v,
+        &mut told,
+    );
     print_told(number, &told);
     replay::print_planes(y, u, v);
 }
