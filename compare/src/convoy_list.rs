@@ -11,7 +11,7 @@
 //! What is printed of a convoy is a line: its place in the list from 1 on; number, expected and received; the frames
 //! finished, and the digests of Y, U and V.
 //!
-//!     1 0 0 0 done=2 y=f5c6b0a1 u=bd3a26e0 v=c9b1f1d7
+//!     1 0 0 0 done=3 y=28fe8ee6 u=c4a3d6d4 v=f2a09c22
 
 use crate::check::{Converters, checked, equal_bytes};
 use crate::convoy::{Called, Convoy, number};
