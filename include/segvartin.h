@@ -158,7 +158,7 @@ enum {
  *                    count is refusal 1. A later version may take further numbers; a call that does not give them stays the call that it is
  *                    today
  *                    convoy: sixteen for each frame, its stride and a description of fifteen. Where fewer are left for a frame, that frame is
- *                    refused with 1. What stands behind those of the last frame is not looked at, here and in customs and parts
+ *                    refused with 1. No answer turns on what stands behind those of the last frame, here and in customs and parts
  *                    shift_record: crossing, width, height, y_stride, u_stride, v_stride. shift_record_settings: these, and sampling, range, matrix,
  *                    transfer, the last three 255 where they are not recorded. y4m_write: width, height, sampling. y4m_picture: these, and y_stride,
  *                    u_stride, v_stride

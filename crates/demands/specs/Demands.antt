@@ -174,7 +174,8 @@ pub record Demand1 : Type 0 where
       → Answered (y4mWriteRules code w h pictures (length before)) (numbersOf (r .answer)) (after ≡ before)
   pub y4m-picture : (f : PictureFrame) (y u v before : List ℕ) (r : Y4mWritten) (after : List ℕ) → PicturePost f y u v before r after
       → Answered (pictureRules f y u v (length before)) (numbersOf (r .answer)) (after ≡ before)
-  -- a convoy that is refused keeps the bytes of the refused frame and of later ones, and every other byte but those of finished frames
+  -- a convoy that is refused keeps the bytes of the refused frame and of later ones, and every other byte but those of finished frames; its rules are
+  -- those of the frame at the place that is told, which `Convoys` says is the first that is refused
   pub convoy : (k : ConvoyCall) → ConvoyPost k → Answered (convoyRules k) (numbersOf (k .result .answer)) (ConvoyUnwritten k)
   pub request : (input output : List ℕ) (response : Response) (output′ : List ℕ) → RequestPost input output response output′
       → Answered (requestRules input) (responseNumbers response) (output′ ≡ output)
