@@ -40,6 +40,9 @@ pub fn error_numbers(e: YuvError) -> AnswerNumbers
         YuvError::PartsMismatch => AnswerNumbers { number: 18, size },
         YuvError::MalformedY4m => AnswerNumbers { number: 19, size },
         YuvError::SettingsRecorded => AnswerNumbers { number: 20, size },
+        YuvError::CameraMismatch => AnswerNumbers { number: 21, size },
+        YuvError::BandStillWaiting => AnswerNumbers { number: 22, size },
+        YuvError::CameraInUse => AnswerNumbers { number: 23, size },
     }
 }
 

@@ -12,7 +12,7 @@ use Rattle.yuv_error.specs.declared.YuvError.the-variants.{DestinationSi
 use Rattle.yuv_error.specs.declared.YuvError.the-variants.{LumaPlaneSizeMismatch, UPlaneMinimumSizeMismatch, VPlaneMinimumSizeMismatch}
 use Rattle.yuv_error.specs.declared.YuvError.the-variants.{WholeRowsMismatch, CarriedRowSizeMismatch, WindowOutsideSource}
 use Rattle.yuv_error.specs.declared.YuvError.the-variants.{MalformedShiftFile, OutputTooShort, SummaryMismatch, PartsMismatch, MalformedY4m}
-use Rattle.yuv_error.specs.declared.YuvError.the-variants.{SettingsRecorded}
+use Rattle.yuv_error.specs.declared.YuvError.the-variants.{SettingsRecorded, CameraMismatch, BandStillWaiting, CameraInUse}
 use Rattle.yuv_error.specs.declared.YuvAnswer.{YuvAnswer}
 use Rattle.yuv_error.specs.declared.YuvAnswer.the-variants.{Finished, Refused}
 
@@ -38,6 +38,9 @@ found (Refused SummaryMismatch) = refl
 found (Refused PartsMismatch) = refl
 found (Refused MalformedY4m) = refl
 found (Refused SettingsRecorded) = refl
+found (Refused CameraMismatch) = refl
+found (Refused BandStillWaiting) = refl
+found (Refused CameraInUse) = refl
 
 -- two answers of equal numbers are equal
 pub same-answer : (a b : YuvAnswer) → numbersOf a ≡ numbersOf b → a ≡ b

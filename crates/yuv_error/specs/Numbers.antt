@@ -10,7 +10,7 @@ use Rattle.yuv_error.specs.declared.YuvError.the-variants.{DestinationSi
 use Rattle.yuv_error.specs.declared.YuvError.the-variants.{LumaPlaneSizeMismatch, UPlaneMinimumSizeMismatch, VPlaneMinimumSizeMismatch}
 use Rattle.yuv_error.specs.declared.YuvError.the-variants.{WholeRowsMismatch, CarriedRowSizeMismatch, WindowOutsideSource}
 use Rattle.yuv_error.specs.declared.YuvError.the-variants.{MalformedShiftFile, OutputTooShort, SummaryMismatch, PartsMismatch, MalformedY4m}
-use Rattle.yuv_error.specs.declared.YuvError.the-variants.{SettingsRecorded}
+use Rattle.yuv_error.specs.declared.YuvError.the-variants.{SettingsRecorded, CameraMismatch, BandStillWaiting, CameraInUse}
 use Rattle.yuv_error.specs.declared.YuvAnswer.{YuvAnswer}
 use Rattle.yuv_error.specs.declared.YuvAnswer.the-variants.{Finished, Refused}
 
@@ -50,6 +50,9 @@ errorNumbers SummaryMismatch = numbers 17 0 0
 errorNumbers PartsMismatch = numbers 18 0 0
 errorNumbers MalformedY4m = numbers 19 0 0
 errorNumbers SettingsRecorded = numbers 20 0 0
+errorNumbers CameraMismatch = numbers 21 0 0
+errorNumbers BandStillWaiting = numbers 22 0 0
+errorNumbers CameraInUse = numbers 23 0 0
 
 -- RULES 7.1: finished work is number 0
 abbrev pub numbersOf : YuvAnswer → Numbers
@@ -79,7 +82,10 @@ answers m =
     Refused SummaryMismatch ∷
     Refused PartsMismatch ∷
     Refused MalformedY4m ∷
-    Refused SettingsRecorded ∷ []
+    Refused SettingsRecorded ∷
+    Refused CameraMismatch ∷
+    Refused BandStillWaiting ∷
+    Refused CameraInUse ∷ []
 
 -- RULES 7.1: the answer of these numbers, the other way round
 abbrev pub answerOf : Numbers → YuvAnswer

@@ -7,7 +7,7 @@ use lib.Dec.{eqb}
 
 -- RULES 7.1: the numbers of the refusals, the first to be asked first
 abbrev pub order : List ℕ
-order = 15 ∷ 17 ∷ 19 ∷ 18 ∷ 1 ∷ 2 ∷ 3 ∷ 4 ∷ 14 ∷ 5 ∷ 6 ∷ 7 ∷ 8 ∷ 9 ∷ 10 ∷ 11 ∷ 12 ∷ 13 ∷ 20 ∷ 16 ∷ []
+order = 15 ∷ 17 ∷ 19 ∷ 21 ∷ 22 ∷ 23 ∷ 18 ∷ 1 ∷ 2 ∷ 3 ∷ 4 ∷ 14 ∷ 5 ∷ 6 ∷ 7 ∷ 8 ∷ 9 ∷ 10 ∷ 11 ∷ 12 ∷ 13 ∷ 20 ∷ 16 ∷ []
 
 -- RULES 7.1: the place of n in a list; the list's length where n is not in it
 abbrev pub placeIn : List ℕ → ℕ → ℕ

@@ -44,6 +44,9 @@ pub enum YuvError {
     PartsMismatch,
     MalformedY4m,
     SettingsRecorded,
+    CameraMismatch,
+    BandStillWaiting,
+    CameraInUse,
 }
 
 // What a call answers: finished work, or one refusal.

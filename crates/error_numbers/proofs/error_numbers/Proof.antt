@@ -66,10 +66,22 @@ returns-19 c = sym (ap errorNumbers (c .enum-told11 .given .1))
 returns-20 : tie.Need-returns-20
 returns-20 c = sym (ap errorNumbers (c .enum-told12 .given .1))
 
+returns-21 : tie.Need-returns-21
+returns-21 c = sym (ap errorNumbers (c .enum-told13 .given .1))
+
+returns-22 : tie.Need-returns-22
+returns-22 c = sym (ap errorNumbers (c .enum-told14 .given .1))
+
+returns-23 : tie.Need-returns-23
+returns-23 c = sym (ap errorNumbers (c .enum-told15 .given .1))
+
 pub error-numbers-spec : {M : Type 1} → statement M
 error-numbers-spec =
     tie.close
     (tie.spec
+    (λ c. search needs)
+    (λ c. search needs)
+    (λ c. search needs)
     (λ c. search needs)
     (λ c. search needs)
     (λ c. search needs)
@@ -109,4 +121,7 @@ error-numbers-spec =
     returns-17
     returns-18
     returns-19
-    returns-20)
+    returns-20
+    returns-21
+    returns-22
+    returns-23)
