@@ -1,0 +1,2 @@
+-- The front desk: docs/RULES.md, chapter 16.
+pub mod DeskCall

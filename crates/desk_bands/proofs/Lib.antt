@@ -1,0 +1,2 @@
+-- Laws of a band call on parts of the buffers.
+pub mod Parts
