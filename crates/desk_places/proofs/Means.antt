@@ -57,7 +57,7 @@ slot-yes w Free e = absurd (true≢false (sym e))
 slot-yes w (Idle f) e = (f, (refl, share-exact w (f .parts) .0 e))
 slot-yes w (Waiting f b) e = (f, (refl, share-exact w (f .parts) .0 e))
 
-slot-found : (w : FrameParts) (s : Slot) (f : OpenFrame) → HasFrame s f → ShareByte w (f .parts) → overlapsSlot w s ≡ true
+pub slot-found : (w : FrameParts) (s : Slot) (f : OpenFrame) → HasFrame s f → ShareByte w (f .parts) → overlapsSlot w s ≡ true
 slot-found w Free f h o = absurd h
 slot-found w (Idle g) f h o = rw h (share-exact w (f .parts) .1 o)
 slot-found w (Waiting g b) f h o = rw h (share-exact w (f .parts) .1 o)

@@ -1,0 +1,8 @@
+-- No camera waits long, and each is converted as if it were alone.
+pub mod Slots
+pub mod Fairness
+pub mod Bands
+pub mod Apart
+pub mod Kept
+pub mod Isolation
+pub mod OwnBands
