@@ -28,7 +28,8 @@ use Rattle.desk.specs.declared.Desk.{Desk}
 use Rattle.desk.specs.declared.DeskAnswer.{DeskAnswer}
 use Rattle.desk.specs.declared.Served.the-variants.{Nobody, Camera}
 use Rattle.desk_bands.specs.Buffers.{Buffers, ServePost}
-use Rattle.desk.specs.DeskCall.{slotAt, putSlot, leftBy, partRules, openCall, openRules, OpenPost, offerCall, offerRules, OfferPost, stepCall, servedDesk, StepPost}
+use Rattle.desk.specs.DeskCall.{slotAt, putSlot, partRules, openCall, openRules, OpenPost, offerCall, offerRules, OfferPost}
+use Rattle.desk.specs.DeskCall.{stepCall, servedDesk, StepPost}
 
 -- 18 of an opening, by its two tests
 pub parts-first : (ps : List Place) (w : FrameParts) (n : BufferLengths) {a b : Bool} → not (areInside w n) ≡ a → overlapsOpen ps w 32 ≡ b
@@ -58,7 +59,8 @@ pub offer-refused : (d : Desk) (c : ℕ) (b : WaitingBand) (n : ℕ) (e : YuvErr
 offer-refused d c b n e answered = record { answered = sym answered; desk = refl }
 
 pub offer-accepted : (d : Desk) (c : ℕ) (b : WaitingBand) (n : ℕ) {f : OpenFrame} → slotAt d c ≡ Idle f
-    → let r : DeskAnswer = record { desk = putSlot d c (Waiting f b); answer = Finished } in firstOf (offerRules (offerCall d c b n r)) ≡ numbersOf Finished
+    → let r : DeskAnswer = record { desk = putSlot d c (Waiting f b); answer = Finished } in
+    firstOf (offerRules (offerCall d c b n r)) ≡ numbersOf Finished
     → OfferPost (offerCall d c b n r)
 offer-accepted d c b n idle answered = record { answered = sym answered; desk = rw idle }
 

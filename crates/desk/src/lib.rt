@@ -163,7 +163,8 @@ impl Desk {
         v: &mut [u8],
         carried: &mut [u8],
     ) -> StepAnswer
-        ensures { λ r. ⌜ StepPost (stepCall self (buffersOf (now (source .entry)) (now (y .entry)) (now (u .entry)) (now (v .entry)) (now (carried .entry))) r
+        ensures { λ r. ⌜ StepPost (stepCall self
+            (buffersOf (now (source .entry)) (now (y .entry)) (now (u .entry)) (now (v .entry)) (now (carried .entry))) r
             (buffersOf (now (source .entry)) (now (y .exit)) (now (u .exit)) (now (v .exit)) (now (carried .exit)))) ⌝ }
     {
         let places = self.places;

@@ -45,43 +45,26 @@ all-inside f b p e =
       carried = inside-yes (w .carried) _ (v .1);
     }
 
--- a part, as it is lent from its offset to its end
-lent-is : (p : BufferPart) (buffer : List ℕ) → midOf (p .offset) (p .offset + p .length - p .offset) buffer ≡ partOf p buffer
-lent-is p buffer = let n : p .offset + p .length - p .offset ≡ p .length = omega arith in ap (λ (n : ℕ). take n (drop (p .offset) buffer)) n
+-- ---- the call on the parts, and the buffers with what it left in their place
 
--- what such a part becomes
-abbrev pub lentOf : BufferPart → List ℕ → List ℕ
-lentOf p buffer = midOf (p .offset) (p .offset + p .length - p .offset) buffer
-
-abbrev pub backOf : BufferPart → (buffer bytes : List ℕ) → List ℕ
-backOf p buffer bytes = putMid (p .offset) (p .offset + p .length - p .offset) buffer bytes
-
-module _ (f : OpenFrame) (b : WaitingBand) (p : Buffers) (r : FrameAnswer) (y u v carried : List ℕ) (inside : areLent f b p ≡ true)
-    (y-size : length y ≡ length (lentOf (f .parts .y) (p .y))) (u-size : length u ≡ length (lentOf (f .parts .u) (p .u)))
-    (v-size : length v ≡ length (lentOf (f .parts .v) (p .v))) (carried-size : length carried ≡ length (lentOf (f .parts .carried) (p .carried))) where
+module _ (f : OpenFrame) (b : WaitingBand) (p : Buffers) (r : FrameAnswer) (y u v carried : List ℕ) (inside : areLent f b p ≡ true) where
   abbrev w : FrameParts
   w = f .parts
 
-  -- the buffers with what the call left in the place of the parts
-  abbrev with-parts : Buffers
+  abbrev pub with-parts : Buffers
   with-parts =
-      buffersOf (p .source) (withPart (w .y) (p .y) y) (withPart (w .u) (p .u) u) (withPart (w .v) (p .v) v) (withPart (w .carried) (p .carried) carried)
+      buffersOf (p .source) (withPart (w .y) (p .y) y) (withPart (w .u) (p .u) u) (withPart (w .v) (p .v) v)
+      (withPart (w .carried) (p .carried) carried)
 
-  size-of : (part : BufferPart) (buffer bytes : List ℕ) → Inside part (length buffer) → length bytes ≡ length (lentOf part buffer) → length bytes ≡ part .length
-  size-of part buffer bytes i e = e ∙ ap length (lent-is part buffer) ∙ part-length part buffer i
-
-  converted : BandPost (bandCall (f .state) (b .rows) (b .stride) (lentOf (b .source) (p .source)) (lentOf (w .y) (p .y)) (lentOf (w .u) (p .u))
-      (lentOf (w .v) (p .v)) (lentOf (w .carried) (p .carried)) r y u v carried)
+  pub converted : length y ≡ w .y .length → length u ≡ w .u .length → length v ≡ w .v .length → length carried ≡ w .carried .length
+      → BandPost (bandCall (f .state) (b .rows) (b .stride) (partOf (b .source) (p .source)) (partOf (w .y) (p .y)) (partOf (w .u) (p .u))
+      (partOf (w .v) (p .v)) (partOf (w .carried) (p .carried)) r y u v carried)
       → Converted f b p r with-parts
-  converted post =
+  converted ys us vs cs post =
       let all = all-inside f b p inside in
-      let ys = size-of (w .y) (p .y) y (all .y) y-size in
-      let us = size-of (w .u) (p .u) u (all .u) u-size in
-      let vs = size-of (w .v) (p .v) v (all .v) v-size in
-      let cs = size-of (w .carried) (p .carried) carried (all .carried) carried-size in
       record {
-        met = subst BandPost (λ i. bandCall (f .state) (b .rows) (b .stride) (lent-is (b .source) (p .source) i) (lent-is (w .y) (p .y) i)
-            (lent-is (w .u) (p .u) i) (lent-is (w .v) (p .v) i) (lent-is (w .carried) (p .carried) i) r
+        met = subst BandPost (λ i. bandCall (f .state) (b .rows) (b .stride) (partOf (b .source) (p .source)) (partOf (w .y) (p .y))
+            (partOf (w .u) (p .u)) (partOf (w .v) (p .v)) (partOf (w .carried) (p .carried)) r
             (sym (with-part (w .y) (p .y) y (all .y) ys) i) (sym (with-part (w .u) (p .u) u (all .u) us) i)
             (sym (with-part (w .v) (p .v) v (all .v) vs) i) (sym (with-part (w .carried) (p .carried) carried (all .carried) cs) i)) post;
         others = record {
@@ -93,13 +76,38 @@ module _ (f : OpenFrame) (b : WaitingBand) (p : Buffers) (r : FrameAnswer) (y u 
         };
       }
 
-  pub serve-inside : BandPost (bandCall (f .state) (b .rows) (b .stride) (lentOf (b .source) (p .source)) (lentOf (w .y) (p .y)) (lentOf (w .u) (p .u))
-      (lentOf (w .v) (p .v)) (lentOf (w .carried) (p .carried)) r y u v carried)
-      → ServePost f b p r (buffersOf (p .source) (backOf (w .y) (p .y) y) (backOf (w .u) (p .u) u) (backOf (w .v) (p .v) v)
-      (backOf (w .carried) (p .carried) carried))
+-- ---- the same as it is lent in the code: each part from its offset to its end
+
+abbrev pub lentOf : BufferPart → List ℕ → List ℕ
+lentOf p buffer = midOf (p .offset) (p .offset + p .length - p .offset) buffer
+
+abbrev pub backOf : BufferPart → (buffer bytes : List ℕ) → List ℕ
+backOf p buffer bytes = putMid (p .offset) (p .offset + p .length - p .offset) buffer bytes
+
+lent-is : (p : BufferPart) (buffer : List ℕ) → lentOf p buffer ≡ partOf p buffer
+lent-is p buffer = let n : p .offset + p .length - p .offset ≡ p .length = omega arith in ap (λ (n : ℕ). take n (drop (p .offset) buffer)) n
+
+size-of : (p : BufferPart) (buffer bytes : List ℕ) → Inside p (length buffer) → length bytes ≡ length (lentOf p buffer) → length bytes ≡ p .length
+size-of p buffer bytes inside e = e ∙ ap length (lent-is p buffer) ∙ part-length p buffer inside
+
+module _ (f : OpenFrame) (b : WaitingBand) (p : Buffers) (r : FrameAnswer) (y u v carried : List ℕ) (inside : areLent f b p ≡ true)
+    (ys : length y ≡ length (lentOf (f .parts .y) (p .y))) (us : length u ≡ length (lentOf (f .parts .u) (p .u)))
+    (vs : length v ≡ length (lentOf (f .parts .v) (p .v))) (cs : length carried ≡ length (lentOf (f .parts .carried) (p .carried))) where
+  abbrev x : FrameParts
+  x = f .parts
+
+  pub serve-inside : BandPost (bandCall (f .state) (b .rows) (b .stride) (lentOf (b .source) (p .source)) (lentOf (x .y) (p .y))
+      (lentOf (x .u) (p .u)) (lentOf (x .v) (p .v)) (lentOf (x .carried) (p .carried)) r y u v carried)
+      → ServePost f b p r (buffersOf (p .source) (backOf (x .y) (p .y) y) (backOf (x .u) (p .u) u) (backOf (x .v) (p .v) v)
+      (backOf (x .carried) (p .carried) carried))
   serve-inside post =
-      subst (ServePost f b p r) (λ i. buffersOf (p .source) (sym (put-is (w .y) (p .y) y) i) (sym (put-is (w .u) (p .u) u) i)
-      (sym (put-is (w .v) (p .v) v) i) (sym (put-is (w .carried) (p .carried) carried) i)) (rw inside (converted post))
+      let all = all-inside f b p inside in
+      let on-parts = subst BandPost (λ i. bandCall (f .state) (b .rows) (b .stride) (lent-is (b .source) (p .source) i) (lent-is (x .y) (p .y) i)
+      (lent-is (x .u) (p .u) i) (lent-is (x .v) (p .v) i) (lent-is (x .carried) (p .carried) i) r y u v carried) post in
+      let made = converted f b p r y u v carried inside (size-of (x .y) (p .y) y (all .y) ys) (size-of (x .u) (p .u) u (all .u) us)
+      (size-of (x .v) (p .v) v (all .v) vs) (size-of (x .carried) (p .carried) carried (all .carried) cs) on-parts in
+      subst (ServePost f b p r) (λ i. buffersOf (p .source) (sym (put-is (x .y) (p .y) y) i) (sym (put-is (x .u) (p .u) u) i)
+      (sym (put-is (x .v) (p .v) v) i) (sym (put-is (x .carried) (p .carried) carried) i)) (rw inside made)
 
 -- 18
 pub serve-outside : (f : OpenFrame) (b : WaitingBand) (p : Buffers) → areLent f b p ≡ false

@@ -50,7 +50,8 @@ abbrev pub bandCallIn : OpenFrame → WaitingBand → (lent : Buffers) → Frame
 bandCallIn f b lent r left =
     let x = planesIn (f .parts) lent in
     let z = planesIn (f .parts) left in
-    bandCall (f .state) (b .rows) (b .stride) (partOf (b .source) (lent .source)) (x .y) (x .u) (x .v) (x .carried) r (z .y) (z .u) (z .v) (z .carried)
+    bandCall (f .state) (b .rows) (b .stride) (partOf (b .source) (lent .source)) (x .y) (x .u) (x .v) (x .carried) r
+    (z .y) (z .u) (z .v) (z .carried)
 
 -- RULES 16.4: every byte in no part of the frame is as it was; the source is not written
 pub record ElsewhereKept (w : FrameParts) (before after : Buffers) : Type 0 where

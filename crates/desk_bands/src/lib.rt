@@ -20,7 +20,8 @@ fn band_in_parts(
     carried: &mut [u8],
 ) -> FrameAnswer
     requires { ⌜ areLent frame band (buffersOf (now source) (now y) (now u) (now v) (now carried)) ≡ true ⌝ }
-    ensures { λ r. ⌜ ServePost frame band (buffersOf (now (source .entry)) (now (y .entry)) (now (u .entry)) (now (v .entry)) (now (carried .entry))) r
+    ensures { λ r. ⌜ ServePost frame band
+        (buffersOf (now (source .entry)) (now (y .entry)) (now (u .entry)) (now (v .entry)) (now (carried .entry))) r
         (buffersOf (now (source .entry)) (now (y .exit)) (now (u .exit)) (now (v .exit)) (now (carried .exit))) ⌝ }
 {
     let state = frame.state;
@@ -61,7 +62,8 @@ pub fn serve_band(
     v: &mut [u8],
     carried: &mut [u8],
 ) -> FrameAnswer
-    ensures { λ r. ⌜ ServePost frame band (buffersOf (now (source .entry)) (now (y .entry)) (now (u .entry)) (now (v .entry)) (now (carried .entry))) r
+    ensures { λ r. ⌜ ServePost frame band
+        (buffersOf (now (source .entry)) (now (y .entry)) (now (u .entry)) (now (v .entry)) (now (carried .entry))) r
         (buffersOf (now (source .entry)) (now (y .exit)) (now (u .exit)) (now (v .exit)) (now (carried .exit))) ⌝ }
 {
     let state = frame.state;

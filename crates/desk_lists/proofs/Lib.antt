@@ -1,4 +1,4 @@
--- No camera waits long, and each is converted as if it were alone.
+-- No camera waits long, and each is converted as if it were alone; and these claims speak of something.
 pub mod Slots
 pub mod Fairness
 pub mod Bands
@@ -6,3 +6,5 @@ pub mod Apart
 pub mod Kept
 pub mod Isolation
 pub mod OwnBands
+pub mod CanServe
+pub mod NotEmpty

@@ -48,7 +48,8 @@ either-exact false b p q = (λ e. inr (q .0 e), ⊎-elim (λ x. absurd (true≢f
 pub share-exact : (v w : FrameParts) → (overlapParts v w ≡ true) ↔ ShareByte v w
 share-exact v w =
     let exact = parts-are-exact .overlap in
-    either-exact _ _ (exact (v .y) (w .y)) (either-exact _ _ (exact (v .u) (w .u)) (either-exact _ _ (exact (v .v) (w .v)) (exact (v .carried) (w .carried))))
+    either-exact _ _ (exact (v .y) (w .y))
+    (either-exact _ _ (exact (v .u) (w .u)) (either-exact _ _ (exact (v .v) (w .v)) (exact (v .carried) (w .carried))))
 
 -- ---- the desk
 
@@ -57,7 +58,7 @@ slot-yes w Free e = absurd (true≢false (sym e))
 slot-yes w (Idle f) e = (f, (refl, share-exact w (f .parts) .0 e))
 slot-yes w (Waiting f b) e = (f, (refl, share-exact w (f .parts) .0 e))
 
-pub slot-found : (w : FrameParts) (s : Slot) (f : OpenFrame) → HasFrame s f → ShareByte w (f .parts) → overlapsSlot w s ≡ true
+slot-found : (w : FrameParts) (s : Slot) (f : OpenFrame) → HasFrame s f → ShareByte w (f .parts) → overlapsSlot w s ≡ true
 slot-found w Free f h o = absurd h
 slot-found w (Idle g) f h o = rw h (share-exact w (f .parts) .1 o)
 slot-found w (Waiting g b) f h o = rw h (share-exact w (f .parts) .1 o)
@@ -83,7 +84,9 @@ taken-yes ps w e =
 taken-found : (ps : List Place) (w : FrameParts) → Taken ps w → overlapsOpen ps w 32 ≡ true
 taken-found ps w t = (elim (overlapsOpen ps w 32) as (λ a. overlapsOpen ps w 32 ≡ a → a ≡ true) [
   | true ↦ λ _. refl
-  | false ↦ λ e. absurd (true≢false (sym (slot-found w (slotIn ps (t .camera)) (t .frame) (t .stands) (t .shared)) ∙ overlaps-none ps w 32 e (t .camera) (t .below)))
+  | false ↦ λ e.
+      let yes = slot-found w (slotIn ps (t .camera)) (t .frame) (t .stands) (t .shared) in
+      absurd (true≢false (sym yes ∙ overlaps-none ps w 32 e (t .camera) (t .below)))
 ]) refl
 
 pub tests-are-exact : TestsAreExact

@@ -47,7 +47,8 @@ abbrev IsTurn : List Place → Next → Type 0
 IsTurn ps NoneWaiting = Unit {0}
 IsTurn ps (Turn c f b) = Waits ps c f b
 
-asked-waits : (ps : List Place) (from i : ℕ) (n : Next) (s : Slot) → slotIn ps (asked from i) ≡ s → IsTurn ps n → IsTurn ps (turnOf (asked from i) s n)
+asked-waits : (ps : List Place) (from i : ℕ) (n : Next) (s : Slot) → slotIn ps (asked from i) ≡ s → IsTurn ps n
+    → IsTurn ps (turnOf (asked from i) s n)
 asked-waits ps from i n Free e t = t
 asked-waits ps from i n (Idle f) e t = t
 asked-waits ps from i n (Waiting f b) e t = record { below = omega arith; slot = e }

@@ -47,7 +47,8 @@ areInside w n = isInside (w .y) (n .y) && (isInside (w .u) (n .u) && (isInside (
 
 -- RULES 16.2: parts of one buffer overlap: of Y, of U, of V, or of the carried rows
 abbrev pub overlapParts : FrameParts → FrameParts → Bool
-overlapParts v w = areOverlapping (v .y) (w .y) || (areOverlapping (v .u) (w .u) || (areOverlapping (v .v) (w .v) || areOverlapping (v .carried) (w .carried)))
+overlapParts v w =
+    areOverlapping (v .y) (w .y) || (areOverlapping (v .u) (w .u) || (areOverlapping (v .v) (w .v) || areOverlapping (v .carried) (w .carried)))
 
 -- RULES 16.2
 abbrev pub overlapsSlot : FrameParts → Slot → Bool

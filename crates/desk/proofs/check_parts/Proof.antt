@@ -17,14 +17,16 @@ returns-2 c =
     let o = c .before in
     let i = o .before in
     let a = i .before .before .args in
-    sym (parts-first (a .places) (a .parts) (a .lens) (ap not (sym (i .before .are-inside .ensures)) ∙ i .if1 .left) (sym (o .overlap-open .ensures) ∙ c .if2 .taken))
+    sym (parts-first (a .places) (a .parts) (a .lens) (ap not (sym (i .before .are-inside .ensures)) ∙ i .if1 .left)
+    (sym (o .overlap-open .ensures) ∙ c .if2 .taken))
 
 returns-3 : tie.Need-returns-3
 returns-3 c =
     let o = c .before in
     let i = o .before in
     let a = i .before .before .args in
-    sym (parts-first (a .places) (a .parts) (a .lens) (ap not (sym (i .before .are-inside .ensures)) ∙ i .if1 .left) (sym (o .overlap-open .ensures) ∙ c .if2 .left))
+    sym (parts-first (a .places) (a .parts) (a .lens) (ap not (sym (i .before .are-inside .ensures)) ∙ i .if1 .left)
+    (sym (o .overlap-open .ensures) ∙ c .if2 .left))
 
 pub check-parts-spec : {M : Type 1} → statement M
 check-parts-spec = tie.close (tie.spec (λ c κs. search needs) returns (λ c κs. search needs) returns-2 returns-3)

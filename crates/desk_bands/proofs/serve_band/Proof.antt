@@ -15,7 +15,8 @@ abbrev lent : tie.Start → Buffers
 lent s = let a = s .args in buffersOf (a .source .now) (a .y .now) (a .u .now) (a .v .now) (a .carried .now)
 
 -- what the two tests found
-found : (c : tie.After-are-inside) → (c .before .is-inside .result && c .are-inside .result) ≡ areLent (Start c .args .frame) (Start c .args .band) (lent (Start c))
+found : (c : tie.After-are-inside)
+    → (c .before .is-inside .result && c .are-inside .result) ≡ areLent (Start c .args .frame) (Start c .args .band) (lent (Start c))
 found c = λ i. c .before .is-inside .ensures i && c .are-inside .ensures i
 
 band-in-parts-requires : tie.Need-band-in-parts-requires

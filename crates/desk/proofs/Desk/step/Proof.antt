@@ -15,7 +15,9 @@ Start c = c .before .before .before .before .before .before .before
 abbrev lent : tie.Start → Buffers
 lent s = let a = s .args in buffersOf (a .source .now) (a .y .now) (a .u .now) (a .v .now) (a .carried .now)
 
-waits : (c : tie.After-next) → let g = c .next .given .0 in let d = Start (c .before .before) .args .self in Waits (d .places) (g .0) (g .1 .0) (g .1 .1 .0)
+waits : (c : tie.After-next) → let g = c .next .given .0 in
+    let d = Start (c .before .before) .args .self in
+    Waits (d .places) (g .0) (g .1 .0) (g .1 .1 .0)
 waits c = turn-waits _ _ (sym (c .next .given .1) ∙ c .before .before .next-waiting .ensures)
 
 -- the turn, from the place where the frame's slot is known
@@ -44,7 +46,8 @@ returns-2 c =
     let t = Turn c in
     let g = t .next .given .0 in
     let s = Start (t .before .before) in
-    step-served (s .args .self) (g .0) (g .1 .0) (g .1 .1 .0) (k .serve-band .result) (c .after-band .result) (lent s) _ (sym (t .next .given .1) ∙ t .before .before .next-waiting .ensures) (k .serve-band .ensures) (c .after-band .ensures)
+    step-served (s .args .self) (g .0) (g .1 .0) (g .1 .1 .0) (k .serve-band .result) (c .after-band .result) (lent s) _
+    (sym (t .next .given .1) ∙ t .before .before .next-waiting .ensures) (k .serve-band .ensures) (c .after-band .ensures)
 
 pub step-spec : {M : Type 1} → statement M
 step-spec =

@@ -5,7 +5,9 @@ use Rattle.desk_places.proofs.FrameParts.are_inside.Statement.{statemen
 use Rattle.desk_places.proofs.FrameParts.are_inside.Tie as tie
 
 returns : tie.Need-returns
-returns c = simp (c .before .before .before .is-inside .ensures, c .before .before .is-inside2 .ensures, c .before .is-inside3 .ensures, c .is-inside4 .ensures)
+returns c =
+    let k = c .before .before in
+    simp (k .before .is-inside .ensures, k .is-inside2 .ensures, c .before .is-inside3 .ensures, c .is-inside4 .ensures)
 
 pub are-inside-spec : {M : Type 1} → statement M
 are-inside-spec =

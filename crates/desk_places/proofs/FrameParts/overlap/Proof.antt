@@ -5,7 +5,9 @@ use Rattle.desk_places.proofs.FrameParts.overlap.Statement.{statement}
 use Rattle.desk_places.proofs.FrameParts.overlap.Tie as tie
 
 returns : tie.Need-returns
-returns c = simp (c .before .before .before .overlaps .ensures, c .before .before .overlaps2 .ensures, c .before .overlaps3 .ensures, c .overlaps4 .ensures)
+returns c =
+    let k = c .before .before in
+    simp (k .before .overlaps .ensures, k .overlaps2 .ensures, c .before .overlaps3 .ensures, c .overlaps4 .ensures)
 
 pub overlap-spec : {M : Type 1} → statement M
 overlap-spec =

@@ -1,0 +1,183 @@
+-- The claims speak of something. Whatever is asked of a desk, in whatever order and with whatever buffers, there are calls that keep every promise, hand the
+-- desk on and bring the buffers back as left. And 32 steps are not too many: with all cameras waiting, 31 leave one unserved.
+-- Assumes nothing.
+use Prim.Native.Nat.{ℕ, zero, suc, _+_}
+use mathlib.Core.Path.{_≡_, refl, sym, subst, _∙_}
+use mathlib.Core.Bool.{true, false}
+use mathlib.Core.List.{List, [], _∷_, _++_}
+use lib.ListN.{length}
+use Rattle.yuv_support.specs.declared.YuvSourceChannels.the-variants.{Rgb}
+use Rattle.yuv_support.specs.declared.YuvChromaSubsampling.the-variants.{Yuv420}
+use Rattle.yuv_support.specs.declared.YuvRange.the-variants.{Full}
+use Rattle.yuv_support.specs.declared.YuvStandardMatrix.the-variants.{Bt601}
+use Rattle.sharp_gamma.specs.declared.SharpYuvGammaTransfer.the-variants.{Srgb}
+use Rattle.sharp_gamma.specs.declared.TableRounding.the-variants.{Truncated}
+use Rattle.yuv_error.specs.declared.YuvAnswer.{YuvAnswer}
+use Rattle.yuv_error.specs.Numbers.{answerOf}
+use Rattle.yuv_error.specs.Rules.{firstOf}
+use Rattle.definitions.specs.declared.FrameDescription.{FrameDescription}
+use Rattle.definitions.specs.Image.{wholeSource}
+use Rattle.buffer_parts.specs.declared.BufferPart.{BufferPart}
+use Rattle.desk_places.specs.declared.FrameParts.{FrameParts}
+use Rattle.desk_places.specs.declared.BufferLengths.{BufferLengths}
+use Rattle.desk_places.specs.declared.WaitingBand.{WaitingBand}
+use Rattle.desk_places.specs.declared.Slot.{Slot}
+use Rattle.desk_places.specs.declared.Slot.the-variants.{Free, Idle, Waiting}
+use Rattle.desk_places.specs.declared.Next.{Next}
+use Rattle.desk_places.specs.declared.Next.the-variants.{NoneWaiting, Turn}
+use Rattle.desk_places.specs.Places.{isWaiting, overlapsOpen, firstWaiting, nextWaiting}
+use Rattle.desk_bands.specs.Buffers.{Buffers, buffersOf}
+use Rattle.desk.specs.declared.Desk.{Desk}
+use Rattle.desk.specs.declared.DeskAnswer.{DeskAnswer}
+use Rattle.desk.specs.declared.Served.the-variants.{Nobody, Camera}
+use Rattle.desk.specs.declared.StepAnswer.{StepAnswer}
+use Rattle.desk.specs.DeskCall.{fresh, slotAt, putSlot, leftBy, OpenCall, openCall, openRules, openedFrame, OfferCall, offerCall, offerRules, offered}
+use Rattle.desk.specs.DeskCall.{stepCall, servedDesk, Stepped}
+use Rattle.desk_lists.specs.DeskLists.{DeskCall, opening, offering, step, AllMet, handedBack, HandedOn, deskAfter, stepsIn, servedIn}
+use Rattle.desk_lists.specs.Isolation.{LastStep, noStep, lastStep, SamePlanes, PlanesBack, SameBand, AsLeft}
+use Rattle.desk_lists.proofs.CanServe.{Sayable, said, serveAnswer, serveLeft, served}
+
+-- what is asked of a desk
+pub data Ask : Type 0 where
+  toOpen : (camera : ℕ) → FrameDescription → FrameParts → BufferLengths → Ask
+  toOffer : (camera : ℕ) → WaitingBand → Ask
+  toStep : Ask
+
+-- ---- a call that keeps its promise
+
+abbrev openAnswer : Desk → (camera : ℕ) → FrameDescription → FrameParts → BufferLengths → YuvAnswer
+openAnswer d c frame w n = answerOf (firstOf (openRules (openCall d c frame w n (record { desk = d; answer = answerOf (firstOf []) }))))
+
+abbrev offerAnswer : Desk → (camera : ℕ) → WaitingBand → (len : ℕ) → YuvAnswer
+offerAnswer d c b n = answerOf (firstOf (offerRules (offerCall d c b n (record { desk = d; answer = answerOf (firstOf []) }))))
+
+abbrev stepAnswer : Next → Desk → Buffers → StepAnswer
+stepAnswer NoneWaiting d p = record { desk = d; served = Nobody }
+stepAnswer (Turn c f b) d p = record { desk = servedDesk d c f (serveAnswer f b p .state); served = Camera c (serveAnswer f b p .answer) }
+
+abbrev stepLeft : Next → Buffers → Buffers
+stepLeft NoneWaiting p = p
+stepLeft (Turn c f b) p = serveLeft f b p
+
+abbrev pub answered : Desk → Buffers → Ask → DeskCall
+answered d p (toOpen c frame w n) =
+    let a = openAnswer d c frame w n in
+    opening (openCall d c frame w n (record { desk = leftBy a (putSlot d c (Idle (openedFrame frame w))) d; answer = a }))
+answered d p (toOffer c b) =
+    let a = offerAnswer d c b (length (p .source)) in
+    offering (offerCall d c b (length (p .source)) (record { desk = leftBy a (putSlot d c (offered (slotAt d c) b)) d; answer = a })) (p .source)
+answered d p toStep =
+    let n = nextWaiting (d .places) (d .from) in
+    step (stepCall d p (stepAnswer n d p) (stepLeft n p))
+
+abbrev pub buffersAfter : Desk → Buffers → Ask → Buffers
+buffersAfter d p (toOpen c frame w n) = p
+buffersAfter d p (toOffer c b) = p
+buffersAfter d p toStep = stepLeft (nextWaiting (d .places) (d .from)) p
+
+abbrev pub run : Desk → Buffers → List Ask → List DeskCall
+run d p [] = []
+run d p (a ∷ asks) = answered d p a ∷ run (handedBack (answered d p a)) (buffersAfter d p a) asks
+
+step-met : (n : Next) (d : Desk) (p : Buffers) → Stepped n (stepCall d p (stepAnswer n d p) (stepLeft n p))
+step-met NoneWaiting d p = record { served = refl; desk = refl; buffers = refl }
+step-met (Turn c f b) d p = record { call = serveAnswer f b p; met = served f b p .met; served = refl; desk = refl }
+
+open-sayable : (k : OpenCall) → Sayable (openRules k)
+open-sayable k = (refl, (refl, (refl, (refl, (refl, (refl, (refl, (refl, (refl, tt)))))))))
+
+offer-sayable : (k : OfferCall) → Sayable (offerRules k)
+offer-sayable k = (refl, (refl, (refl, (refl, tt))))
+
+pub run-met : (d : Desk) (p : Buffers) (asks : List Ask) → AllMet (run d p asks)
+run-met d p [] = tt
+run-met d p (toOpen c frame w n ∷ asks) =
+    (record { answered = said _ (open-sayable (openCall d c frame w n (record { desk = d; answer = answerOf (firstOf []) }))); desk = refl }, run-met _ p asks)
+run-met d p (toOffer c b ∷ asks) =
+    (record { answered = said _ (offer-sayable (offerCall d c b (length (p .source)) (record { desk = d; answer = answerOf (firstOf []) }))); desk = refl },
+    run-met _ p asks)
+run-met d p (toStep ∷ asks) = (step-met (nextWaiting (d .places) (d .from)) d p, run-met _ _ asks)
+
+pub run-handed : (d : Desk) (p : Buffers) (asks : List Ask) → HandedOn d (run d p asks)
+run-handed d p [] = tt
+run-handed d p (toOpen c frame w n ∷ asks) = (refl, run-handed _ p asks)
+run-handed d p (toOffer c b ∷ asks) = (refl, run-handed _ p asks)
+run-handed d p (toStep ∷ asks) = (refl, run-handed _ _ asks)
+
+-- ---- the buffers come back as left
+
+same-planes : (s : Slot) (p : Buffers) → SamePlanes s p p
+same-planes Free p = tt
+same-planes (Idle f) p = refl
+same-planes (Waiting f b) p = refl
+
+same-band : (s : Slot) (x : List ℕ) → SameBand s x x
+same-band Free x = tt
+same-band (Idle f) x = tt
+same-band (Waiting f b) x = refl
+
+step-source : (n : Next) (p : Buffers) → stepLeft n p .source ≡ p .source
+step-source NoneWaiting p = refl
+step-source (Turn c f b) p = served f b p .source
+
+pub run-as-left : (l : LastStep) (d : Desk) (p : Buffers) (asks : List Ask) → PlanesBack l p → AsLeft l (p .source) (run d p asks)
+run-as-left l d p [] back = tt
+run-as-left l d p (toOpen c frame w n ∷ asks) back = run-as-left l _ p asks back
+run-as-left l d p (toOffer c b ∷ asks) back = (λ e. same-band (slotAt d e) (p .source), run-as-left l _ p asks back)
+run-as-left l d p (toStep ∷ asks) back =
+    let n = nextWaiting (d .places) (d .from) in
+    let k = stepCall d p (stepAnswer n d p) (stepLeft n p) in
+    (back, (λ e. same-band (slotAt d e) (p .source),
+    subst (λ (x : List ℕ). AsLeft (lastStep k) x (run (k .result .desk) (stepLeft n p) asks)) (step-source n p)
+    (run-as-left (lastStep k) (k .result .desk) (stepLeft n p) asks (λ e. same-planes (slotAt (k .result .desk) e) (stepLeft n p)))))
+
+-- ---- 31 steps are too few
+
+abbrev tiny : FrameDescription
+tiny = record {
+  width = 1;
+  height = 1;
+  window = wholeSource 1 1;
+  settings = record { channels = Rgb; sampling = Yuv420; range = Full; matrix = Bt601; transfer = Srgb; rounding = Truncated };
+  «y_stride» = 1;
+  «u_stride» = 1;
+  «v_stride» = 1;
+}
+
+-- one byte of each buffer
+abbrev byteAt : ℕ → BufferPart
+byteAt i = record { offset = i; length = 1 }
+
+abbrev partsAt : ℕ → FrameParts
+partsAt i = record { y = byteAt i; u = byteAt i; v = byteAt i; carried = byteAt i }
+
+abbrev opensBelow : ℕ → List Ask
+opensBelow zero = []
+opensBelow (suc n) = toOpen n tiny (partsAt n) (record { y = 32; u = 32; v = 32; carried = 32 }) ∷ opensBelow n
+
+-- a band in a source buffer of no bytes, of which none is lent either
+abbrev offersBelow : ℕ → List Ask
+offersBelow zero = []
+offersBelow (suc n) = toOffer n (record { rows = 1; stride = 3; source = record { offset = 0; length = 0 } }) ∷ offersBelow n
+
+abbrev steps : ℕ → List Ask
+steps zero = []
+steps (suc n) = toStep ∷ steps n
+
+-- no byte is lent
+abbrev nothing : Buffers
+nothing = buffersOf [] [] [] [] []
+
+abbrev allWait : List DeskCall
+allWait = run fresh nothing (opensBelow 32 ++ offersBelow 32)
+
+abbrev allSteps : List DeskCall
+allSteps = run (deskAfter fresh allWait) nothing (steps 31)
+
+all-wait : isWaiting (slotAt (deskAfter fresh allWait) 31) ≡ true
+unfolding overlapsOpen
+all-wait = refl
+
+not-in-31 : servedIn 31 allSteps ≡ false
+unfolding overlapsOpen nextWaiting firstWaiting
+not-in-31 = refl
