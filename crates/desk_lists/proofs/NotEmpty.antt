@@ -1,23 +1,14 @@
--- The claims speak of something. Whatever is asked of a desk, in whatever order and with whatever buffers, there are calls that keep every promise, hand the
--- desk on and bring the buffers back as left. And 32 steps are not too many: with all cameras waiting, 31 leave one unserved.
+-- The claims speak of something. Whatever is asked of a desk, in whatever order and with whatever buffers, there are calls that keep every promise,
+-- hand the desk on and bring the buffers back as left.
 -- Assumes nothing.
-use Prim.Native.Nat.{ℕ, zero, suc, _+_}
-use mathlib.Core.Path.{_≡_, refl, sym, subst, _∙_}
-use mathlib.Core.Bool.{true, false}
-use mathlib.Core.List.{List, [], _∷_, _++_}
+use Prim.Native.Nat.{ℕ}
+use mathlib.Core.Path.{_≡_, refl, subst}
+use mathlib.Core.List.{List, [], _∷_}
 use lib.ListN.{length}
-use Rattle.yuv_support.specs.declared.YuvSourceChannels.the-variants.{Rgb}
-use Rattle.yuv_support.specs.declared.YuvChromaSubsampling.the-variants.{Yuv420}
-use Rattle.yuv_support.specs.declared.YuvRange.the-variants.{Full}
-use Rattle.yuv_support.specs.declared.YuvStandardMatrix.the-variants.{Bt601}
-use Rattle.sharp_gamma.specs.declared.SharpYuvGammaTransfer.the-variants.{Srgb}
-use Rattle.sharp_gamma.specs.declared.TableRounding.the-variants.{Truncated}
 use Rattle.yuv_error.specs.declared.YuvAnswer.{YuvAnswer}
 use Rattle.yuv_error.specs.Numbers.{answerOf}
 use Rattle.yuv_error.specs.Rules.{firstOf}
 use Rattle.definitions.specs.declared.FrameDescription.{FrameDescription}
-use Rattle.definitions.specs.Image.{wholeSource}
-use Rattle.buffer_parts.specs.declared.BufferPart.{BufferPart}
 use Rattle.desk_places.specs.declared.FrameParts.{FrameParts}
 use Rattle.desk_places.specs.declared.BufferLengths.{BufferLengths}
 use Rattle.desk_places.specs.declared.WaitingBand.{WaitingBand}
@@ -25,16 +16,16 @@ use Rattle.desk_places.specs.declared.Slot.{Slot}
 use Rattle.desk_places.specs.declared.Slot.the-variants.{Free, Idle, Waiting}
 use Rattle.desk_places.specs.declared.Next.{Next}
 use Rattle.desk_places.specs.declared.Next.the-variants.{NoneWaiting, Turn}
-use Rattle.desk_places.specs.Places.{isWaiting, overlapsOpen, firstWaiting, nextWaiting}
-use Rattle.desk_bands.specs.Buffers.{Buffers, buffersOf}
+use Rattle.desk_places.specs.Places.{nextWaiting}
+use Rattle.desk_bands.specs.Buffers.{Buffers}
 use Rattle.desk.specs.declared.Desk.{Desk}
 use Rattle.desk.specs.declared.DeskAnswer.{DeskAnswer}
 use Rattle.desk.specs.declared.Served.the-variants.{Nobody, Camera}
 use Rattle.desk.specs.declared.StepAnswer.{StepAnswer}
-use Rattle.desk.specs.DeskCall.{fresh, slotAt, putSlot, leftBy, OpenCall, openCall, openRules, openedFrame, OfferCall, offerCall, offerRules, offered}
+use Rattle.desk.specs.DeskCall.{slotAt, putSlot, leftBy, OpenCall, openCall, openRules, openedFrame, OfferCall, offerCall, offerRules, offered}
 use Rattle.desk.specs.DeskCall.{stepCall, servedDesk, Stepped}
-use Rattle.desk_lists.specs.DeskLists.{DeskCall, opening, offering, step, AllMet, handedBack, HandedOn, deskAfter, stepsIn, servedIn}
-use Rattle.desk_lists.specs.Isolation.{LastStep, noStep, lastStep, SamePlanes, PlanesBack, SameBand, AsLeft}
+use Rattle.desk_lists.specs.DeskLists.{DeskCall, opening, offering, step, AllMet, handedBack, HandedOn}
+use Rattle.desk_lists.specs.Isolation.{LastStep, lastStep, SamePlanes, PlanesBack, SameBand, AsLeft}
 use Rattle.desk_lists.proofs.CanServe.{Sayable, said, serveAnswer, serveLeft, served}
 
 -- what is asked of a desk
@@ -92,10 +83,11 @@ offer-sayable k = (refl, (refl, (refl, (refl, tt))))
 pub run-met : (d : Desk) (p : Buffers) (asks : List Ask) → AllMet (run d p asks)
 run-met d p [] = tt
 run-met d p (toOpen c frame w n ∷ asks) =
-    (record { answered = said _ (open-sayable (openCall d c frame w n (record { desk = d; answer = answerOf (firstOf []) }))); desk = refl }, run-met _ p asks)
+    let k = openCall d c frame w n (record { desk = d; answer = answerOf (firstOf []) }) in
+    (record { answered = said (openRules k) (open-sayable k); desk = refl }, run-met _ p asks)
 run-met d p (toOffer c b ∷ asks) =
-    (record { answered = said _ (offer-sayable (offerCall d c b (length (p .source)) (record { desk = d; answer = answerOf (firstOf []) }))); desk = refl },
-    run-met _ p asks)
+    let k = offerCall d c b (length (p .source)) (record { desk = d; answer = answerOf (firstOf []) }) in
+    (record { answered = said (offerRules k) (offer-sayable k); desk = refl }, run-met _ p asks)
 run-met d p (toStep ∷ asks) = (step-met (nextWaiting (d .places) (d .from)) d p, run-met _ _ asks)
 
 pub run-handed : (d : Desk) (p : Buffers) (asks : List Ask) → HandedOn d (run d p asks)
@@ -126,58 +118,11 @@ run-as-left l d p (toOpen c frame w n ∷ asks) back = run-as-left l _ p asks ba
 run-as-left l d p (toOffer c b ∷ asks) back = (λ e. same-band (slotAt d e) (p .source), run-as-left l _ p asks back)
 run-as-left l d p (toStep ∷ asks) back =
     let n = nextWaiting (d .places) (d .from) in
-    let k = stepCall d p (stepAnswer n d p) (stepLeft n p) in
-    (back, (λ e. same-band (slotAt d e) (p .source),
-    subst (λ (x : List ℕ). AsLeft (lastStep k) x (run (k .result .desk) (stepLeft n p) asks)) (step-source n p)
-    (run-as-left (lastStep k) (k .result .desk) (stepLeft n p) asks (λ e. same-planes (slotAt (k .result .desk) e) (stepLeft n p)))))
-
--- ---- 31 steps are too few
-
-abbrev tiny : FrameDescription
-tiny = record {
-  width = 1;
-  height = 1;
-  window = wholeSource 1 1;
-  settings = record { channels = Rgb; sampling = Yuv420; range = Full; matrix = Bt601; transfer = Srgb; rounding = Truncated };
-  «y_stride» = 1;
-  «u_stride» = 1;
-  «v_stride» = 1;
-}
-
--- one byte of each buffer
-abbrev byteAt : ℕ → BufferPart
-byteAt i = record { offset = i; length = 1 }
-
-abbrev partsAt : ℕ → FrameParts
-partsAt i = record { y = byteAt i; u = byteAt i; v = byteAt i; carried = byteAt i }
-
-abbrev opensBelow : ℕ → List Ask
-opensBelow zero = []
-opensBelow (suc n) = toOpen n tiny (partsAt n) (record { y = 32; u = 32; v = 32; carried = 32 }) ∷ opensBelow n
-
--- a band in a source buffer of no bytes, of which none is lent either
-abbrev offersBelow : ℕ → List Ask
-offersBelow zero = []
-offersBelow (suc n) = toOffer n (record { rows = 1; stride = 3; source = record { offset = 0; length = 0 } }) ∷ offersBelow n
-
-abbrev steps : ℕ → List Ask
-steps zero = []
-steps (suc n) = toStep ∷ steps n
-
--- no byte is lent
-abbrev nothing : Buffers
-nothing = buffersOf [] [] [] [] []
-
-abbrev allWait : List DeskCall
-allWait = run fresh nothing (opensBelow 32 ++ offersBelow 32)
-
-abbrev allSteps : List DeskCall
-allSteps = run (deskAfter fresh allWait) nothing (steps 31)
-
-all-wait : isWaiting (slotAt (deskAfter fresh allWait) 31) ≡ true
-unfolding overlapsOpen
-all-wait = refl
-
-not-in-31 : servedIn 31 allSteps ≡ false
-unfolding overlapsOpen nextWaiting firstWaiting
-not-in-31 = refl
+    let k = stepCall d p (stepAnswer n d p) (stepLeft n p) in (
+      back,
+      (
+        λ e. same-band (slotAt d e) (p .source),
+        subst (λ (x : List ℕ). AsLeft (lastStep k) x (run (k .result .desk) (stepLeft n p) asks)) (step-source n p)
+            (run-as-left (lastStep k) (k .result .desk) (stepLeft n p) asks (λ e. same-planes (slotAt (k .result .desk) e) (stepLeft n p))),
+      ),
+    )
