@@ -1,12 +1,11 @@
 -- Isolation: what is kept of a camera (Kept) holds after every list of calls, since no two open frames share a byte (Apart).
 -- Assumes nothing.
-use Prim.Native.Nat.{ℕ, zero, suc, _<_}
+use Prim.Native.Nat.{ℕ}
 use mathlib.Core.Path.{_≡_, refl, sym, ap, subst, subst⁻¹, _∙_}
 use mathlib.Core.Bool.{Bool, true, false, cond, _&&_, true≢false}
 use mathlib.Core.List.{List, [], _∷_, _++_}
 use borrow.Author.Tests.{eqb-true}
 use lib.Dec.{eqb}
-use lib.ListN.{getD, replicate}
 use Rattle.definitions.specs.declared.FrameDescription.{FrameDescription}
 use Rattle.definitions.proofs.Finished.{finished-none}
 use Rattle.yuv_error.specs.declared.YuvAnswer.{YuvAnswer}
@@ -17,7 +16,6 @@ use Rattle.desk_places.specs.declared.OpenFrame.{OpenFrame}
 use Rattle.desk_places.specs.declared.WaitingBand.{WaitingBand}
 use Rattle.desk_places.specs.declared.Slot.{Slot}
 use Rattle.desk_places.specs.declared.Slot.the-variants.{Free, Idle, Waiting}
-use Rattle.desk_places.specs.declared.Place.{Place}
 use Rattle.desk_places.specs.declared.Next.{Next}
 use Rattle.desk_places.specs.declared.Next.the-variants.{NoneWaiting, Turn}
 use Rattle.desk_places.specs.Places.{isOpen, nextWaiting, afterBand}
@@ -31,7 +29,7 @@ use Rattle.desk_lists.specs.Isolation.{LastStep, noStep, lastStep, lastO
 use Rattle.desk_lists.specs.Isolation.{Turned, dropped, called, callsOf, bandOf, bandsOf, History, noFrame, since, isFinished, callIn, turnedIn}
 use Rattle.desk_lists.specs.Isolation.{andTurned, andOffered, andServed, noted, historyOf, Isolated, Isolation}
 use Rattle.desk_lists.proofs.Slots.{Whole, both?, if-true, if-false, is-finished, opened, offered-to, open-changed, offer-changed}
-use Rattle.desk_lists.proofs.Slots.{waits, served-slot, served-whole}
+use Rattle.desk_lists.proofs.Slots.{fresh-free, waits, served-slot, served-whole}
 use Rattle.desk_lists.proofs.Bands.{calls-called, calls-dropped, bands-more}
 use Rattle.desk_lists.proofs.Apart.{HasParts, planes-kept, Apart, open-apart, offer-apart, served-apart, served-clear}
 use Rattle.desk_lists.proofs.Kept.{Kept, other-offer, other-step, opens, offers, drops, serves}
@@ -197,15 +195,6 @@ good-after c (step k ∷ ks) h d source l good met hand back =
     good-after c ks (noted c (step k) h) (k .result .desk) (k .lent .source) (lastStep k)
     (step-good c h source l k (subst⁻¹ (λ (x : Desk). Good c h x source l) (hand .0) good) (back .0) (back .1 .0)
     (nextWaiting (k .desk .places) (k .desk .from)) refl (met .0)) (met .1) (hand .1) (back .1 .1)
-
-alike : (n i : ℕ) (x : Place) → getD (replicate n x) i x ≡ x
-alike zero i x = refl
-alike (suc n) zero x = refl
-alike (suc n) (suc i) x = alike n i x
-
--- every number of a fresh desk is free
-fresh-free : (c : ℕ) → slotAt fresh c ≡ Free
-fresh-free c = ap (λ (p : Place). p .slot) (alike 32 c (record { slot = Free }))
 
 fresh-good : (c : ℕ) → Good c noFrame fresh [] noStep
 fresh-good c = record {

@@ -8,3 +8,4 @@ pub mod Isolation
 pub mod OwnBands
 pub mod CanServe
 pub mod NotEmpty
+pub mod ThirtyOne

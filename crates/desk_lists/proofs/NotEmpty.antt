@@ -36,17 +36,17 @@ pub data Ask : Type 0 where
 
 -- ---- a call that keeps its promise
 
-abbrev openAnswer : Desk → (camera : ℕ) → FrameDescription → FrameParts → BufferLengths → YuvAnswer
+abbrev pub openAnswer : Desk → (camera : ℕ) → FrameDescription → FrameParts → BufferLengths → YuvAnswer
 openAnswer d c frame w n = answerOf (firstOf (openRules (openCall d c frame w n (record { desk = d; answer = answerOf (firstOf []) }))))
 
-abbrev offerAnswer : Desk → (camera : ℕ) → WaitingBand → (len : ℕ) → YuvAnswer
+abbrev pub offerAnswer : Desk → (camera : ℕ) → WaitingBand → (len : ℕ) → YuvAnswer
 offerAnswer d c b n = answerOf (firstOf (offerRules (offerCall d c b n (record { desk = d; answer = answerOf (firstOf []) }))))
 
-abbrev stepAnswer : Next → Desk → Buffers → StepAnswer
+abbrev pub stepAnswer : Next → Desk → Buffers → StepAnswer
 stepAnswer NoneWaiting d p = record { desk = d; served = Nobody }
 stepAnswer (Turn c f b) d p = record { desk = servedDesk d c f (serveAnswer f b p .state); served = Camera c (serveAnswer f b p .answer) }
 
-abbrev stepLeft : Next → Buffers → Buffers
+abbrev pub stepLeft : Next → Buffers → Buffers
 stepLeft NoneWaiting p = p
 stepLeft (Turn c f b) p = serveLeft f b p
 

@@ -1,12 +1,12 @@
 -- What each call leaves at one camera's number.
 -- Assumes nothing.
-use Prim.Native.Nat.{ℕ, _<_}
+use Prim.Native.Nat.{ℕ, zero, suc, _<_}
 use mathlib.Core.Path.{_≡_, refl, sym, ap, subst, subst⁻¹, _∙_}
 use mathlib.Core.Bool.{Bool, true, false, cond, _&&_, true≢false}
 use native.Mathlib.Omega.{arith}
 use borrow.Author.Tests.{eqb-true, eqb-false, ltb-true, ltb-false}
 use lib.Dec.{eqb, ltb}
-use lib.ListN.{length, length-set, List·getD-eq-default}
+use lib.ListN.{length, getD, replicate, length-set, List·getD-eq-default}
 use lib.Seq.{getD-set-same, getD-set-other}
 use Rattle.yuv_error.specs.declared.YuvAnswer.{YuvAnswer}
 use Rattle.yuv_error.specs.declared.YuvAnswer.the-variants.{Finished, Refused}
@@ -44,6 +44,18 @@ put d e c s whole l =
       | false ↦ λ is. put-other d e c s (λ x. eqb-false e c is (sym x))
     ]) refl
 
+pub put-whole : (d : Desk) (c : ℕ) (s : Slot) → Whole d → Whole (putSlot d c s)
+put-whole d c s whole = length-set (d .places) c (record { slot = s }) ∙ whole
+
+alike : (n i : ℕ) (x : Place) → getD (replicate n x) i x ≡ x
+alike zero i x = refl
+alike (suc n) zero x = refl
+alike (suc n) (suc i) x = alike n i x
+
+-- every number of a fresh desk is free
+pub fresh-free : (c : ℕ) → slotAt fresh c ≡ Free
+fresh-free c = ap (λ (p : Place). p .slot) (alike 32 c (record { slot = Free }))
+
 -- a number with a frame is one of the 32
 pub open-below : (d : Desk) (c : ℕ) → Whole d → isOpen (slotAt d c) ≡ true → c < 32
 open-below d c w is = (elim (ltb c 32) as (λ a. ltb c 32 ≡ a → c < 32) [
@@ -78,7 +90,7 @@ changed : (d : Desk) (camera : ℕ) (s : Slot) (a : YuvAnswer) → Whole d → (
 changed d camera s Finished whole below = record {
   slot = λ c. put d camera c s whole (below refl);
   from = refl;
-  whole = length-set (d .places) camera (record { slot = s }) ∙ whole;
+  whole = put-whole d camera s whole;
 }
 changed d camera s (Refused e) whole below = record { slot = λ c. refl; from = refl; whole = whole }
 
