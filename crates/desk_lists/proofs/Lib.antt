@@ -9,3 +9,4 @@ pub mod OwnBands
 pub mod CanServe
 pub mod NotEmpty
 pub mod ThirtyOne
+pub mod WholeFrame

@@ -103,7 +103,7 @@ same-planes Free p = tt
 same-planes (Idle f) p = refl
 same-planes (Waiting f b) p = refl
 
-same-band : (s : Slot) (x : List ℕ) → SameBand s x x
+pub same-band : (s : Slot) (x : List ℕ) → SameBand s x x
 same-band Free x = tt
 same-band (Idle f) x = tt
 same-band (Waiting f b) x = refl

@@ -47,7 +47,7 @@ use Rattle.desk_lists.proofs.NotEmpty.{Ask, toOpen, toOffer, toStep, st
 
 -- ---- frames that take no bytes
 
-abbrev tiny : FrameDescription
+abbrev pub tiny : FrameDescription
 tiny = record {
   width = 1;
   height = 1;
@@ -58,13 +58,13 @@ tiny = record {
   «v_stride» = 1;
 }
 
-abbrev noBytes : BufferPart
+abbrev pub noBytes : BufferPart
 noBytes = record { offset = 0; length = 0 }
 
-abbrev noParts : FrameParts
+abbrev pub noParts : FrameParts
 noParts = record { y = noBytes; u = noBytes; v = noBytes; carried = noBytes }
 
-abbrev noLengths : BufferLengths
+abbrev pub noLengths : BufferLengths
 noLengths = record { y = 0; u = 0; v = 0; carried = 0 }
 
 abbrev noBand : WaitingBand
@@ -102,7 +102,7 @@ isIdle Free = false
 isIdle (Idle f) = true
 isIdle (Waiting f b) = false
 
-abbrev isFree : Slot → Bool
+abbrev pub isFree : Slot → Bool
 isFree Free = true
 isFree (Idle f) = false
 isFree (Waiting f b) = false
@@ -126,7 +126,7 @@ half-more old new n d s l is h = record {
   ]) refl;
 }
 
-open-first : (d : Desk) (n : ℕ) (r : DeskAnswer) → n < 32 → isFree (slotAt d n) ≡ true → firstOf (openRules (openCall d n tiny noParts noLengths r)) ≡ numbers 0 0 0
+pub open-first : (d : Desk) (n : ℕ) (r : DeskAnswer) → n < 32 → isFree (slotAt d n) ≡ true → firstOf (openRules (openCall d n tiny noParts noLengths r)) ≡ numbers 0 0 0
 open-first d n r l free = by-tests (le-ltb 31 n (omega arith)) (closed (slotAt d n) free) (clear (d .places) 32)
   where
     closed : (s : Slot) → isFree s ≡ true → isOpen s ≡ false
