@@ -1,2 +1,3 @@
 -- Laws of a band call on parts of the buffers.
 pub mod Parts
+pub mod Right

@@ -2,13 +2,17 @@
 -- Assumes nothing.
 use Prim.Native.Nat.{ℕ}
 use mathlib.Core.Path.{_≡_}
-use mathlib.Core.Bool.{Bool, true, false, _&&_}
-use mathlib.Core.List.{List}
+use mathlib.Core.Bool.{Bool, true, false, not, _&&_}
+use mathlib.Core.List.{List, _∷_}
 use lib.ListN.{length}
+use Rattle.yuv_error.specs.declared.YuvError.{YuvError}
 use Rattle.yuv_error.specs.declared.YuvError.the-variants.{PartsMismatch}
 use Rattle.yuv_error.specs.declared.YuvAnswer.the-variants.{Refused}
+use Rattle.yuv_error.specs.Numbers.{numbersOf}
+use Rattle.yuv_error.specs.Rules.{Rule, rule, firstOf}
+use Rattle.yuv_error.specs.Lent.{lengthsOf as lengthsLent}
 use Rattle.band_calls.specs.declared.FrameAnswer.{FrameAnswer}
-use Rattle.band_calls.specs.BandCall.{BandCall, bandCall, BandPost}
+use Rattle.band_calls.specs.BandCall.{bandRules, BandCall, bandCall, BandPost}
 use Rattle.buffer_parts.specs.Parts.{isInside, partOf, Elsewhere}
 use Rattle.desk_places.specs.declared.FrameParts.{FrameParts}
 use Rattle.desk_places.specs.declared.BufferLengths.{BufferLengths}
@@ -76,5 +80,18 @@ abbrev pub ifLent : Bool → Type 0 → Type 0 → Type 0
 ifLent true inside outside = inside
 ifLent false inside outside = outside
 
+-- RULES 16.4
 abbrev pub ServePost : OpenFrame → WaitingBand → (lent : Buffers) → FrameAnswer → (left : Buffers) → Type 0
 ServePost f b lent r left = ifLent (areLent f b lent) (Converted f b lent r left) (Outside f lent r left)
+
+-- RULES 16.4: the rules of a band served: 18, then the band call's own, of the frame's parts
+abbrev pub serveRules : OpenFrame → WaitingBand → (lent : Buffers) → List Rule
+serveRules f b lent =
+    let x = planesIn (f .parts) lent in
+    rule 18 (not (areLent f b lent)) 0 0
+    ∷ bandRules (f .state) (b .rows) (b .stride) (lengthsLent (partOf (b .source) (lent .source)) (x .y) (x .u) (x .v)) (length (x .carried))
+
+-- RULES 7.1, 7.2, 16.4: the answer is that of the first of these that holds, and a band that is refused changes no byte and no state
+pub record ServedRight (f : OpenFrame) (b : WaitingBand) (lent : Buffers) (r : FrameAnswer) (left : Buffers) : Type 0 where
+  pub answered : numbersOf (r .answer) ≡ firstOf (serveRules f b lent)
+  pub refused : {e : YuvError} → r .answer ≡ Refused e → (r .state ≡ f .state) × (left ≡ lent)
