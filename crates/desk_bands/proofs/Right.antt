@@ -1,5 +1,5 @@
--- A band served is answered by the first rule that holds, and where it is refused, every byte of every buffer is as it was: those of the frame's parts by the
--- band call's promise, all others since only the parts are lent.
+-- A band served is answered by the first rule that holds, and where it is refused, every byte of every buffer is as it was: those of the frame's
+-- parts by the band call's promise, all others since only the parts are lent.
 -- Assumes nothing.
 use Prim.Native.Nat.{ℕ, _+_, _-_, _≤_, _<_}
 use mathlib.Core.Path.{_≡_, refl, sym, ap, subst, _∙_}
@@ -69,5 +69,5 @@ outside-right f b p r q out post = record {
 }
 
 pub served-right : (f : OpenFrame) (b : WaitingBand) (p : Buffers) (r : FrameAnswer) (q : Buffers) → ServePost f b p r q → ServedRight f b p r q
-served-right f b p r q post = (elim (areLent f b p) as (λ t. areLent f b p ≡ t → ifLent t (Converted f b p r q) (Outside f p r q) → ServedRight f b p r q)
-    [ true ↦ converted-right f b p r q | false ↦ outside-right f b p r q ]) refl post
+served-right f b p r q post = (elim (areLent f b p) as (λ t. areLent f b p ≡ t → ifLent t (Converted f b p r q) (Outside f p r q)
+    → ServedRight f b p r q) [ true ↦ converted-right f b p r q | false ↦ outside-right f b p r q ]) refl post

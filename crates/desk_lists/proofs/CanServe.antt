@@ -3,7 +3,7 @@
 use Prim.Native.Nat.{ℕ, _+_, _-_, _/_, _%_}
 use mathlib.Core.Path.{_≡_, refl, sym, ap, _∙_}
 use mathlib.Core.Bool.{Bool, true, false, cond, true≢false}
-use mathlib.Core.List.{List, [], _∷_}
+use mathlib.Core.List.{List, [], _∷_, _++_}
 use native.Mathlib.Nat.{le-trans}
 use borrow.Author.Tests.{eqb-true}
 use lib.Dec.{eqb}
@@ -15,11 +15,11 @@ use Rattle.yuv_error.specs.declared.YuvAnswer.{YuvAnswer}
 use Rattle.yuv_error.specs.declared.YuvAnswer.the-variants.{Finished, Refused}
 use Rattle.yuv_error.specs.Numbers.{Numbers, numbersOf, answerOf}
 use Rattle.yuv_error.specs.Rules.{Rule, firstOf}
-use Rattle.yuv_error.specs.Lent.{lengthsOf}
+use Rattle.yuv_error.specs.Lent.{lengthsOf, openingRules, lentRules}
 use Rattle.definitions.specs.Bands.{ownRows, bandImage}
 use Rattle.band_calls.specs.declared.FrameState.{FrameState}
 use Rattle.band_calls.specs.declared.FrameAnswer.{FrameAnswer}
-use Rattle.band_calls.specs.BandCall.{stateOf, bandOf, bandRules, bandCall, BandPost}
+use Rattle.band_calls.specs.BandCall.{stateOf, bandOf, rowRules, carriedRules, bandRules, bandCall, BandPost}
 use Rattle.band_calls.proofs.Accepted.{accepted-band, band-passes, carried-few}
 use Rattle.band_calls.proofs.Post.{refused, finished}
 use Rattle.band_lists.proofs.Repainted.{can-paint, can-sharpen}
@@ -42,9 +42,19 @@ said (r ∷ rs) s = elim (r .holds) as (λ t. numbersOf (answerOf (cond t (r .sa
   | false ↦ said rs (s .1)
 ]
 
+both-sayable : (xs ys : List Rule) → Sayable xs → Sayable ys → Sayable (xs ++ ys)
+both-sayable [] ys s t = t
+both-sayable (x ∷ xs) ys s t = (s .0, both-sayable xs ys (s .1) t)
+
+-- 2, 3, 4 and 14, then 5, then 6 to 12, then 13
 band-sayable : (s : FrameState) (rows stride : ℕ) (n : Lengths) (carried : ℕ) → Sayable (bandRules s rows stride n carried)
 band-sayable s rows stride n carried =
-    (refl, (refl, (refl, (refl, (refl, (refl, (refl, (refl, (refl, (refl, (refl, (refl, (refl, (refl, (refl, (refl, (refl, (refl, (refl, tt)))))))))))))))))))
+    let opening = openingRules (s .frame) in
+    let row = rowRules (s .frame .height) (s .done) rows in
+    let lent = lentRules (s .frame) rows stride n in
+    both-sayable (opening ++ row ++ lent) (carriedRules (s .frame .width) carried)
+    (both-sayable (opening ++ row) lent (both-sayable opening row (refl, (refl, (refl, (refl, (refl, tt))))) (refl, tt))
+    (refl, (refl, (refl, (refl, (refl, (refl, (refl, (refl, (refl, (refl, (refl, (refl, tt))))))))))))) (refl, tt)
 
 is-refused : (a : YuvAnswer) → eqb (numbersOf a .number) 0 ≡ false → (e : YuvError) × (a ≡ Refused e)
 is-refused Finished none = absurd (true≢false none)
@@ -108,13 +118,14 @@ can-convert : (f : OpenFrame) (b : WaitingBand) (p : Buffers) → areLent f b p 
 can-convert f b p e =
     let w = f .parts in
     let all = all-inside f b p e in
-    let c = can-call (f .state) (b .rows) (b .stride) (partOf (b .source) (p .source)) (partOf (w .y) (p .y)) (partOf (w .u) (p .u)) (partOf (w .v) (p .v))
-    (partOf (w .carried) (p .carried)) in
+    let c = can-call (f .state) (b .rows) (b .stride) (partOf (b .source) (p .source)) (partOf (w .y) (p .y)) (partOf (w .u) (p .u))
+    (partOf (w .v) (p .v)) (partOf (w .carried) (p .carried)) in
     record {
       call = c .result;
       left = with-parts f b p (c .result) (c .y′) (c .u′) (c .v′) (c .carried′) e;
       source = refl;
-      met = rw e (converted f b p (c .result) (c .y′) (c .u′) (c .v′) (c .carried′) e (c .met .planes .luma .size ∙ part-length (w .y) (p .y) (all .y))
+      met = rw e (converted f b p (c .result) (c .y′) (c .u′) (c .v′) (c .carried′) e
+          (c .met .planes .luma .size ∙ part-length (w .y) (p .y) (all .y))
           (c .met .planes .cb .size ∙ part-length (w .u) (p .u) (all .u)) (c .met .planes .cr .size ∙ part-length (w .v) (p .v) (all .v))
           (c .met .carry .size ∙ part-length (w .carried) (p .carried) (all .carried)) (c .met));
     }
@@ -139,7 +150,8 @@ pub record Served (f : OpenFrame) (b : WaitingBand) (p : Buffers) (r : FrameAnsw
 
 pub served : (f : OpenFrame) (b : WaitingBand) (p : Buffers) → Served f b p (serveAnswer f b p) (serveLeft f b p)
 served f b p =
-    (elim (areLent f b p) as (λ t. areLent f b p ≡ t → Served f b p (cond t (can-serve f b p .call) (record { state = f .state; answer = Refused PartsMismatch }))
+    (elim (areLent f b p) as (λ t. areLent f b p ≡ t
+    → Served f b p (cond t (can-serve f b p .call) (record { state = f .state; answer = Refused PartsMismatch }))
     (cond t (can-serve f b p .left) p)) [
       | true ↦ λ e. record { met = can-serve f b p .met; source = can-serve f b p .source }
       | false ↦ λ e. record { met = serve-outside f b p e; source = refl }

@@ -23,9 +23,10 @@ use Rattle.desk_bands.specs.Buffers.{Buffers, areLent, planesIn, bandCallIn, Co
 use Rattle.desk.specs.declared.Desk.{Desk}
 use Rattle.desk.specs.declared.Served.{Served}
 use Rattle.desk.specs.declared.Served.the-variants.{Nobody, Camera}
-use Rattle.desk.specs.DeskCall.{fresh, slotAt, OpenCall, openedFrame, OpenPost, OfferCall, offered, OfferPost, StepCall, BandServed, Stepped, StepPost}
+use Rattle.desk.specs.DeskCall.{fresh, slotAt, OpenCall, openedFrame, OpenPost, OfferCall, OfferPost, StepCall, BandServed, Stepped}
 use Rattle.desk_lists.specs.DeskLists.{DeskCall, opening, offering, step, AllMet, HandedOn, deskAfter, tells}
-use Rattle.desk_lists.specs.Isolation.{LastStep, noStep, lastStep, lastOf, PlanesBack, SameBand, BandsBack, sourceAfter, AsLeft, OwnBand, ownBand}
+use Rattle.desk_lists.specs.Isolation.{LastStep, noStep, lastStep, lastOf, PlanesBack, SameBand, BandsBack, sourceAfter, AsLeft}
+use Rattle.desk_lists.specs.Isolation.{OwnBand, ownBand}
 use Rattle.desk_lists.specs.Isolation.{Turned, dropped, called, callsOf, bandOf, bandsOf, History, noFrame, since, isFinished, callIn, turnedIn}
 use Rattle.desk_lists.specs.Isolation.{andTurned, andOffered, andServed, noted, historyOf, Isolated, Isolation}
 use Rattle.desk_lists.proofs.Slots.{Whole, both?, if-true, if-false, is-finished, opened, offered-to, open-changed, offer-changed}
@@ -44,7 +45,8 @@ not-free s e o = true≢false (sym o ∙ ap isOpen e)
 
 -- ---- calls of others, for every history
 
-source-seen : (c : ℕ) (h : History) (s : Slot) (before now : List ℕ) (l : LastStep) → SameBand s now before → KeptOf c h s before l → KeptOf c h s now l
+source-seen : (c : ℕ) (h : History) (s : Slot) (before now : List ℕ) (l : LastStep) → SameBand s now before → KeptOf c h s before l
+    → KeptOf c h s now l
 source-seen c noFrame s before now l same k = k
 source-seen c (since d w ts os) s before now l same k = other-offer s before now l same k
 
@@ -69,7 +71,8 @@ module _ (c : ℕ) (f : OpenFrame) (b : WaitingBand) (before : List ℕ) (l : La
   has-dropped noFrame a kept slot = absurd (not-free (Waiting f b) a refl)
   has-dropped (since d w ts os) a kept slot =
       let x = ownBand b (k .lent .source) in
-      subst⁻¹ (λ (ks : List BandCall). Kept c d w ks (bandsOf (ts ++ (dropped x ∷ []))) os (slotAt (k .result .desk) c) (k .lent .source) (lastStep k))
+      subst⁻¹ (λ (ks : List BandCall).
+      Kept c d w ks (bandsOf (ts ++ (dropped x ∷ []))) os (slotAt (k .result .desk) c) (k .lent .source) (lastStep k))
       (calls-dropped ts x)
       (subst⁻¹ (λ (bs : List OwnBand). Kept c d w (callsOf ts) bs os (slotAt (k .result .desk) c) (k .lent .source) (lastStep k))
       (bands-more ts (dropped x)) (drops c d w (callsOf ts) (bandsOf ts) os f b before l a k back band kept slot))
@@ -80,7 +83,8 @@ module _ (c : ℕ) (f : OpenFrame) (b : WaitingBand) (before : List ℕ) (l : La
     has-called noFrame a slot = absurd (not-free (Waiting f b) a refl)
     has-called (since d w ts os) a slot =
         let j = callIn f b k (r .answer) in
-        subst⁻¹ (λ (ks : List BandCall). Kept c d w ks (bandsOf (ts ++ (called j ∷ []))) os (slotAt (k .result .desk) c) (k .lent .source) (lastStep k))
+        subst⁻¹ (λ (ks : List BandCall).
+        Kept c d w ks (bandsOf (ts ++ (called j ∷ []))) os (slotAt (k .result .desk) c) (k .lent .source) (lastStep k))
         (calls-called ts j)
         (subst⁻¹ (λ (bs : List OwnBand). Kept c d w (callsOf ts ++ (j ∷ [])) bs os (slotAt (k .result .desk) c) (k .lent .source) (lastStep k))
         (bands-more ts (called j)) (serves c d w (callsOf ts) (bandsOf ts) os f b before l a k back band r (made .met) slot))
@@ -132,10 +136,12 @@ module _ (c : ℕ) (h : History) (before : List ℕ) (l : LastStep) (k : StepCal
         apart = subst⁻¹ Apart (s .desk) (good .apart);
         kept = subst⁻¹ (λ (x : Served). KeptOf c (andServed c k x h) (slotAt (k .result .desk) c) (k .lent .source) (lastStep k)) (s .served)
             (subst⁻¹ (λ (x : Slot). KeptOf c h x (k .lent .source) (lastStep k)) slot
-            (not-served c h k (slotAt (k .desk) c) before l slot (ap (tells c) (s .served)) back (bands c) (λ w _. ap (planesIn w) (s .buffers)) (good .kept)));
+            (not-served c h k (slotAt (k .desk) c) before l slot (ap (tells c) (s .served)) back (bands c)
+            (λ w _. ap (planesIn w) (s .buffers)) (good .kept)));
       }
 
-  module _ (e : ℕ) (f : OpenFrame) (b : WaitingBand) (turn : nextWaiting (k .desk .places) (k .desk .from) ≡ Turn e f b) (s : BandServed k e f b) where
+  module _ (e : ℕ) (f : OpenFrame) (b : WaitingBand) (turn : nextWaiting (k .desk .places) (k .desk .from) ≡ Turn e f b)
+      (s : BandServed k e f b) where
     -- nothing but the served frame's parts was written
     bytes : (t : Bool) → ifLent t (Converted f b (k .lent) (s .call) (k .left)) (Outside f (k .lent) (s .call) (k .left)) → eqb e c ≡ false
         → (w : FrameParts) → HasParts (slotAt (k .desk) c) w → planesIn w (k .left) ≡ planesIn w (k .lent)
@@ -150,14 +156,16 @@ module _ (c : ℕ) (h : History) (before : List ℕ) (l : LastStep) (k : StepCal
         (not-served c h k (slotAt (k .desk) c) before l slot (ap (tells c) (s .served) ∙ other) back (bands c)
         (bytes (areLent f b (k .lent)) (s .met) other) (good .kept))
 
-    own-good : eqb e c ≡ true → KeptOf c (andTurned h (turnedIn (slotAt (k .desk) c) k (s .call .answer))) (slotAt (k .result .desk) c) (k .lent .source) (lastStep k)
+    own-good : eqb e c ≡ true
+        → KeptOf c (andTurned h (turnedIn (slotAt (k .desk) c) k (s .call .answer))) (slotAt (k .result .desk) c) (k .lent .source) (lastStep k)
     own-good same =
         let stood : slotAt (k .desk) c ≡ Waiting f b
         = ap (slotAt (k .desk)) (sym (eqb-true e c same)) ∙ waits k e f b turn s (good .whole) .slot in
         let slot = served-slot k e f b turn s (good .whole) c ∙ if-true _ _ _ same in
         let a = subst (λ (x : Slot). KeptOf c h x before l) stood (good .kept) in
         let band = subst (λ (x : Slot). SameBand x (k .lent .source) before) stood (bands c) in
-        subst⁻¹ (λ (x : Slot). KeptOf c (andTurned h (turnedIn x k (s .call .answer))) (slotAt (k .result .desk) c) (k .lent .source) (lastStep k)) stood
+        subst⁻¹ (λ (x : Slot). KeptOf c (andTurned h (turnedIn x k (s .call .answer))) (slotAt (k .result .desk) c) (k .lent .source) (lastStep k))
+        stood
         ((elim (areLent f b (k .lent)) as (λ t. ifLent t (Converted f b (k .lent) (s .call) (k .left)) (Outside f (k .lent) (s .call) (k .left))
         → KeptOf c (andTurned h (cond t (called (callIn f b k (s .call .answer))) (dropped (ownBand b (k .lent .source))) ∷ []))
         (slotAt (k .result .desk) c) (k .lent .source) (lastStep k)) [
@@ -170,8 +178,10 @@ module _ (c : ℕ) (h : History) (before : List ℕ) (l : LastStep) (k : StepCal
     served-good = record {
       whole = served-whole k e f b turn s (good .whole);
       apart = served-apart k e f b turn s (good .whole) (good .apart);
-      kept = subst⁻¹ (λ (x : Served). KeptOf c (andServed c k x h) (slotAt (k .result .desk) c) (k .lent .source) (lastStep k)) (s .served) ((elim (eqb e c) as (λ t. eqb e c ≡ t
-          → KeptOf c (cond t (andTurned h (turnedIn (slotAt (k .desk) c) k (s .call .answer))) h) (slotAt (k .result .desk) c) (k .lent .source) (lastStep k)) [
+      kept = subst⁻¹ (λ (x : Served). KeptOf c (andServed c k x h) (slotAt (k .result .desk) c) (k .lent .source) (lastStep k)) (s .served)
+          ((elim (eqb e c) as (λ t. eqb e c ≡ t
+          → KeptOf c (cond t (andTurned h (turnedIn (slotAt (k .desk) c) k (s .call .answer))) h)
+          (slotAt (k .result .desk) c) (k .lent .source) (lastStep k)) [
             | true ↦ own-good
             | false ↦ other-good
           ]) refl);

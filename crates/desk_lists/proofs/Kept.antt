@@ -36,8 +36,8 @@ use Rattle.desk_bands.specs.Buffers.{Buffers, FramePlanes, planesIn, bandCallIn
 use Rattle.desk.specs.declared.Desk.{Desk}
 use Rattle.desk.specs.DeskCall.{slotAt, openedFrame, StepCall}
 use Rattle.desk_lists.specs.DeskLists.{tells}
-use Rattle.desk_lists.specs.Isolation.{LastStep, noStep, lastStep, SamePlanes, PlanesBack, SameBand, OwnBand, ownBand, callIn, waitingIn, HasRows}
-use Rattle.desk_lists.specs.Isolation.{planesAfter, PlanesLeft, lastTells, inView}
+use Rattle.desk_lists.specs.Isolation.{LastStep, noStep, lastStep, SamePlanes, PlanesBack, SameBand, OwnBand, ownBand, callIn, waitingIn}
+use Rattle.desk_lists.specs.Isolation.{HasRows, planesAfter, PlanesLeft, lastTells, inView}
 use Rattle.desk_lists.proofs.Bands.{met-more, chained-more, last-more, tally-more}
 use Rattle.desk_lists.proofs.Apart.{HasParts}
 
@@ -51,7 +51,8 @@ Seated noStep c w (call j) = ⊥
 Seated (lastStep k) c w (call j) = HasParts (slotAt (k .result .desk) c) w
 
 -- what is known of a camera: its band calls and its bands so far, and what stands at its number
-pub record Kept (c : ℕ) (d : FrameDescription) (w : FrameParts) (ks : List BandCall) (bs os : List OwnBand) (s : Slot) (source : List ℕ) (l : LastStep) : Type 0 where
+pub record Kept (c : ℕ) (d : FrameDescription) (w : FrameParts) (ks : List BandCall) (bs os : List OwnBand) (s : Slot) (source : List ℕ)
+    (l : LastStep) : Type 0 where
   pub opened : Fresh d (openingOf d)
   pub met : bands.AllMet ks
   pub chained : Chained (stateOf d 0) none ks
@@ -111,7 +112,8 @@ view-open (Waiting f b) t e v = refl
 
 module _ {c : ℕ} {d : FrameDescription} {w : FrameParts} {ks : List BandCall} {bs os : List OwnBand} where
   -- the source buffer was seen again, and the waiting band is as it was
-  pub other-offer : (s : Slot) (before now : List ℕ) (l : LastStep) → SameBand s now before → Kept c d w ks bs os s before l → Kept c d w ks bs os s now l
+  pub other-offer : (s : Slot) (before now : List ℕ) (l : LastStep) → SameBand s now before → Kept c d w ks bs os s before l
+      → Kept c d w ks bs os s now l
   other-offer s before now l same a = record {
     opened = a .opened;
     met = a .met;
@@ -159,7 +161,8 @@ opens c d w source l e =
     }
 
 pub offers : {c : ℕ} {d : FrameDescription} {w : FrameParts} {ks : List BandCall} {bs os : List OwnBand} (f : OpenFrame) (b : WaitingBand)
-    (before source : List ℕ) (l : LastStep) → Kept c d w ks bs os (Idle f) before l → Kept c d w ks bs (os ++ (ownBand b source ∷ [])) (Waiting f b) source l
+    (before source : List ℕ) (l : LastStep) → Kept c d w ks bs os (Idle f) before l
+    → Kept c d w ks bs (os ++ (ownBand b source ∷ [])) (Waiting f b) source l
 offers {bs = bs} f b before source l a = record {
   opened = a .opened;
   met = a .met;
@@ -213,17 +216,18 @@ record Stands (c : ℕ) (d : FrameDescription) (w : FrameParts) (n : ℕ) (sourc
 
 stands : (c : ℕ) (d : FrameDescription) (w : FrameParts) (n : ℕ) (source : List ℕ) (g : OpenFrame) → g .parts ≡ w → n ≤ d .height
     → Stands c d w n source (afterBand g (stateOf d n))
-stands c d w n source g is most = (elim (leb (d .height) n) as (λ t. leb (d .height) n ≡ t → Stands c d w n source (cond t Free (Idle (withState g (stateOf d n))))) [
-  | true ↦ λ e. record { rows = omega (arith, leb-true (d .height) n e); nothing = refl; parts = λ o. absurd (true≢false (sym o)) }
-  | false ↦ λ e. record {
-    rows = (ap (λ (x : FrameParts). record { state = stateOf d n; parts = x }) is, leb-false (d .height) n e);
-    nothing = refl;
-    parts = λ o. is;
-  }
-]) refl
+stands c d w n source g is most = (elim (leb (d .height) n) as (λ t. leb (d .height) n ≡ t
+    → Stands c d w n source (cond t Free (Idle (withState g (stateOf d n))))) [
+      | true ↦ λ e. record { rows = omega (arith, leb-true (d .height) n e); nothing = refl; parts = λ o. absurd (true≢false (sym o)) }
+      | false ↦ λ e. record {
+        rows = (ap (λ (x : FrameParts). record { state = stateOf d n; parts = x }) is, leb-false (d .height) n e);
+        nothing = refl;
+        parts = λ o. is;
+      }
+    ]) refl
 
-module _ (c : ℕ) (d : FrameDescription) (w : FrameParts) (ks : List BandCall) (bs os : List OwnBand) (g : OpenFrame) (b : WaitingBand) (before : List ℕ)
-    (l : LastStep) (a : Kept c d w ks bs os (Waiting g b) before l) (k : StepCall) (back : PlanesBack l (k .lent))
+module _ (c : ℕ) (d : FrameDescription) (w : FrameParts) (ks : List BandCall) (bs os : List OwnBand) (g : OpenFrame) (b : WaitingBand)
+    (before : List ℕ) (l : LastStep) (a : Kept c d w ks bs os (Waiting g b) before l) (k : StepCall) (back : PlanesBack l (k .lent))
     (band : SameBand (Waiting g b) (k .lent .source) before) where
   abbrev t : Tally
   t = tallyOf d noRows ks
@@ -254,7 +258,8 @@ module _ (c : ℕ) (d : FrameDescription) (w : FrameParts) (ks : List BandCall) 
       → Kept c d w ks (bs ++ (ownBand b (k .lent .source) ∷ [])) os (slotAt (k .result .desk) c) (k .lent .source) (lastStep k)
   drops kept slot =
       let most : t .n ≤ d .height = omega (arith, a .rows .1) in
-      let s = subst⁻¹ (Stands c d w (t .n) (k .lent .source)) (slot ∙ ap (afterBand g) is-state) (stands c d w (t .n) (k .lent .source) g is-parts most) in
+      let s = subst⁻¹ (Stands c d w (t .n) (k .lent .source)) (slot ∙ ap (afterBand g) is-state)
+      (stands c d w (t .n) (k .lent .source) g is-parts most) in
       record {
         opened = a .opened;
         met = a .met;
@@ -265,7 +270,8 @@ module _ (c : ℕ) (d : FrameDescription) (w : FrameParts) (ks : List BandCall) 
         seated = λ o. seat k c w last (s .parts o);
       }
 
-  module _ (r : FrameAnswer) (post : BandPost (bandCallIn g b (k .lent) r (k .left))) (slot : slotAt (k .result .desk) c ≡ afterBand g (r .state)) where
+  module _ (r : FrameAnswer) (post : BandPost (bandCallIn g b (k .lent) r (k .left)))
+      (slot : slotAt (k .result .desk) c ≡ afterBand g (r .state)) where
     abbrev j : BandCall
     j = callIn g b k (r .answer)
 
@@ -309,11 +315,13 @@ module _ (c : ℕ) (d : FrameDescription) (w : FrameParts) (ks : List BandCall) 
           let none-taken = call-refused j (met-j .answered) e in
           let tally : t′ .n ≡ t .n = rw (tally-more d noRows ks j, e) in
           let u = refused-writes-nothing {k = j} none-taken met-j in
-          let same : planesIn (g .parts) (k .left) ≡ planesIn (g .parts) (k .lent) = λ i. record { y = u .1 i; u = u .2 i; v = u .3 i; carried = u .4 i } in
+          let same : planesIn (g .parts) (k .left) ≡ planesIn (g .parts) (k .lent) =
+          λ i. record { y = u .1 i; u = u .2 i; v = u .3 i; carried = u .4 i } in
           record {
             state = by-answer (t′ .n) 0 (none-taken (b .rows)) (add-zero (t .n) ∙ sym tally);
             most = omega (arith, a .rows .1, tally);
-            held = rw (last-more none ks j, e) (held-same (k .lent) (k .left) w last (subst (λ (x : FrameParts). planesIn x (k .left) ≡ planesIn x (k .lent)) is-parts same) held);
+            held = rw (last-more none ks j, e) (held-same (k .lent) (k .left) w last
+                (subst (λ (x : FrameParts). planesIn x (k .left) ≡ planesIn x (k .lent)) is-parts same) held);
           }
     ]) refl
 

@@ -33,8 +33,8 @@ no-row m r is l = omega arith
 byte-of : (p : ℕ) {x y : List ℕ} → x ≡ y → getD x p 0 ≡ getD y p 0
 byte-of p e = ap (λ (z : List ℕ). getD z p 0) e
 
-agrees : (d : FrameDescription) (w : FrameParts) (o : FrameState) (t : Tally) (l : LastStep) (first last : Accepted) → Sized d → After d o t first last
-    → PlanesLeft l w last → AgreesWith d w t l
+agrees : (d : FrameDescription) (w : FrameParts) (o : FrameState) (t : Tally) (l : LastStep) (first last : Accepted) → Sized d
+    → After d o t first last → PlanesLeft l w last → AgreesWith d w t l
 agrees d w o t noStep none none sized a left = a .0
 agrees d w o t (lastStep k) none none sized a left = λ f same.
     let none-finished = ap (finishedOf d) (a .0) ∙ finished-none d (sized .height-least) in
@@ -63,4 +63,5 @@ own-rows c (since d w ts os) s source l a = λ view.
 
 pub planes-of-own-bands : PlanesOfOwnBands
 planes-of-own-bands c calls met hand back =
-    own-rows c (historyOf c noFrame calls) (slotAt (deskAfter fresh calls) c) (sourceAfter [] calls) (lastOf noStep calls) (isolation c calls met hand back)
+    own-rows c (historyOf c noFrame calls) (slotAt (deskAfter fresh calls) c) (sourceAfter [] calls) (lastOf noStep calls)
+    (isolation c calls met hand back)

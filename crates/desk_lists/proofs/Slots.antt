@@ -110,11 +110,15 @@ open-changed k whole p =
     subst⁻¹ (λ (e : Desk). Changed (k .desk) (λ c. isFinished (k .result .answer) && eqb (k .camera) c) (Idle (openedFrame (k .frame) (k .parts))) e)
     (p .desk) (changed (k .desk) (k .camera) (Idle (openedFrame (k .frame) (k .parts))) (k .result .answer) whole (λ is. opened k p is .below))
 
+-- what stands at the number once the band waits
+abbrev newlyOffered : OfferCall → Slot
+newlyOffered k = offered (slotAt (k .desk) (k .camera)) (k .band)
+
 pub offer-changed : (k : OfferCall) → Whole (k .desk) → OfferPost k
-    → Changed (k .desk) (λ c. isFinished (k .result .answer) && eqb (k .camera) c) (offered (slotAt (k .desk) (k .camera)) (k .band)) (k .result .desk)
+    → Changed (k .desk) (λ c. isFinished (k .result .answer) && eqb (k .camera) c) (newlyOffered k) (k .result .desk)
 offer-changed k whole p =
-    subst⁻¹ (λ (e : Desk). Changed (k .desk) (λ c. isFinished (k .result .answer) && eqb (k .camera) c) (offered (slotAt (k .desk) (k .camera)) (k .band)) e)
-    (p .desk) (changed (k .desk) (k .camera) (offered (slotAt (k .desk) (k .camera)) (k .band)) (k .result .answer) whole (λ is. offered-to k p is .below))
+    subst⁻¹ (λ (e : Desk). Changed (k .desk) (λ c. isFinished (k .result .answer) && eqb (k .camera) c) (newlyOffered k) e)
+    (p .desk) (changed (k .desk) (k .camera) (newlyOffered k) (k .result .answer) whole (λ is. offered-to k p is .below))
 
 -- ---- a step: the number of the camera that was served is set
 

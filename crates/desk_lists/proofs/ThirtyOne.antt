@@ -1,5 +1,5 @@
--- 32 steps are not too many: with a band of every camera waiting, camera 31 is not served in 31 steps. Frames with parts of no bytes overlap nothing, so all
--- 32 open; then each step serves the camera whose turn it is and passes to the next.
+-- 32 steps are not too many: with a band of every camera waiting, camera 31 is not served in 31 steps. Frames with parts of no bytes overlap nothing,
+-- so all 32 open; then each step serves the camera whose turn it is and passes to the next.
 -- Assumes nothing.
 use Prim.Native.Nat.{ℕ, zero, suc, _+_, _%_, _≤_, _<_, min, max}
 use mathlib.Core.Path.{_≡_, refl, sym, ap, subst, subst⁻¹, _∙_}
@@ -80,7 +80,8 @@ clear-slot (Waiting f b) = let w = f .parts in rw (no-overlap (w .y), no-overlap
 
 clear : (ps : List Place) (n : ℕ) → overlapsOpen ps noParts n ≡ false
 clear ps zero = overlaps-start ps noParts
-clear ps (suc n) = subst (λ (m : ℕ). overlapsOpen ps noParts m ≡ false) (add-one n) (overlaps-next ps noParts n (clear-slot (slotIn ps n)) (clear ps n))
+clear ps (suc n) =
+    subst (λ (m : ℕ). overlapsOpen ps noParts m ≡ false) (add-one n) (overlaps-next ps noParts n (clear-slot (slotIn ps n)) (clear ps n))
 
 -- ---- all open, then all wait
 
@@ -126,7 +127,8 @@ half-more old new n d s l is h = record {
   ]) refl;
 }
 
-pub open-first : (d : Desk) (n : ℕ) (r : DeskAnswer) → n < 32 → isFree (slotAt d n) ≡ true → firstOf (openRules (openCall d n tiny noParts noLengths r)) ≡ numbers 0 0 0
+pub open-first : (d : Desk) (n : ℕ) (r : DeskAnswer) → n < 32 → isFree (slotAt d n) ≡ true
+    → firstOf (openRules (openCall d n tiny noParts noLengths r)) ≡ numbers 0 0 0
 open-first d n r l free = by-tests (le-ltb 31 n (omega arith)) (closed (slotAt d n) free) (clear (d .places) 32)
   where
     closed : (s : Slot) → isFree s ≡ true → isOpen s ≡ false
@@ -138,8 +140,10 @@ open-first d n r l free = by-tests (le-ltb 31 n (omega arith)) (closed (slotAt d
         → firstOf (openRules (openCall d n tiny noParts noLengths r)) ≡ numbers 0 0 0
     by-tests p q o = rw (p, q, o)
 
-offer-first : (d : Desk) (n m : ℕ) (r : DeskAnswer) → n < 32 → isIdle (slotAt d n) ≡ true → firstOf (offerRules (offerCall d n noBand m r)) ≡ numbers 0 0 0
-offer-first d n m r l idle = by-tests (le-ltb 31 n (omega arith)) (slot-open (slotAt d n) idle) (not-waiting (slotAt d n) idle) (le-leb 0 m (omega arith))
+offer-first : (d : Desk) (n m : ℕ) (r : DeskAnswer) → n < 32 → isIdle (slotAt d n) ≡ true
+    → firstOf (offerRules (offerCall d n noBand m r)) ≡ numbers 0 0 0
+offer-first d n m r l idle =
+    by-tests (le-ltb 31 n (omega arith)) (slot-open (slotAt d n) idle) (not-waiting (slotAt d n) idle) (le-leb 0 m (omega arith))
   where
     slot-open : (s : Slot) → isIdle s ≡ true → isOpen s ≡ true
     slot-open Free e = e
@@ -165,8 +169,8 @@ opened-all p zero d l h = h
 opened-all p (suc n) d l h =
     let r : DeskAnswer = record { desk = d; answer = answerOf (firstOf []) } in
     let yes = ap answerOf (open-first d n r (omega arith) (h .below n (omega arith))) in
-    opened-all p n (leftBy (answerOf (firstOf (openRules (openCall d n tiny noParts noLengths r)))) (putSlot d n (Idle (openedFrame tiny noParts))) d) (omega arith)
-    (subst⁻¹ (λ (a : YuvAnswer). Half isFree isIdle n (leftBy a (putSlot d n (Idle (openedFrame tiny noParts))) d)) yes
+    opened-all p n (leftBy (answerOf (firstOf (openRules (openCall d n tiny noParts noLengths r)))) (putSlot d n (Idle (openedFrame tiny noParts))) d)
+    (omega arith) (subst⁻¹ (λ (a : YuvAnswer). Half isFree isIdle n (leftBy a (putSlot d n (Idle (openedFrame tiny noParts))) d)) yes
     (half-more isFree isIdle n d (Idle (openedFrame tiny noParts)) (omega arith) refl h))
 
 offered-all : (p : Buffers) (n : ℕ) (d : Desk) → n ≤ 32 → Half isIdle isWaiting n d → Half isIdle isWaiting 0 (deskAfter d (run d p (offersBelow n)))
@@ -197,7 +201,8 @@ module _ (i : ℕ) (k : StepCall) (less : i < 31) (q : Next′ i (k .desk)) (e :
 
   others-wait : (c : ℕ) → i + 1 ≤ c → c < 32 → isWaiting (slotAt (k .result .desk) c) ≡ true
   others-wait c m l =
-      let same = served-slot k e f b turn s (q .whole) c ∙ if-false (eqb e c) (afterBand f (s .call .state)) (slotAt (k .desk) c) (ne-eqb e c (λ x. omega arith)) in
+      let same = served-slot k e f b turn s (q .whole) c
+      ∙ if-false (eqb e c) (afterBand f (s .call .state)) (slotAt (k .desk) c) (ne-eqb e c (λ x. omega arith)) in
       ap isWaiting same ∙ q .waiting c (omega arith) l
 
   passes-on : Next′ (i + 1) (k .result .desk)
@@ -207,14 +212,18 @@ module _ (i : ℕ) (k : StepCall) (less : i < 31) (q : Next′ i (k .desk)) (e :
     waiting = others-wait;
   }
 
-step-next : (i : ℕ) (k : StepCall) → i < 31 → Next′ i (k .desk) → StepPost k → (tells 31 (k .result .served) ≡ false) × Next′ (i + 1) (k .result .desk)
+step-next : (i : ℕ) (k : StepCall) → i < 31 → Next′ i (k .desk) → StepPost k
+    → (tells 31 (k .result .served) ≡ false) × Next′ (i + 1) (k .result .desk)
 step-next i k l q post =
     let d = k .desk in
     let here : asked (d .from) 0 ≡ i = omega (arith, q .from) in
-    let t = next-reached (d .places) (d .from) 0 (omega arith) (ap (λ (x : ℕ). isWaiting (slotAt d x)) here ∙ q .waiting i (omega arith) (omega arith)) in
+    let t = next-reached (d .places) (d .from) 0 (omega arith)
+    (ap (λ (x : ℕ). isWaiting (slotAt d x)) here ∙ q .waiting i (omega arith) (omega arith)) in
     let is : asked (d .from) (t .k) ≡ i = omega (arith, q .from, t .near) in
-    let s = subst (λ (n : Next). Stepped n k) (t .turn) post in
-    (not-31 i k l q (asked (d .from) (t .k)) (t .frame) (t .band) is (t .turn) s, passes-on i k l q (asked (d .from) (t .k)) (t .frame) (t .band) is (t .turn) s)
+    let s = subst (λ (n : Next). Stepped n k) (t .turn) post in (
+      not-31 i k l q (asked (d .from) (t .k)) (t .frame) (t .band) is (t .turn) s,
+      passes-on i k l q (asked (d .from) (t .k)) (t .frame) (t .band) is (t .turn) s,
+    )
 
 -- the step of a run
 abbrev stepOf : Desk → Buffers → StepCall
@@ -263,7 +272,8 @@ thirty-one-are-too-few p =
     let offers = run d p (offersBelow 32) in
     let e = deskAfter d offers in
     let few = run e p (steps 31) in
-    let idle = opened-all p 32 fresh (omega arith) (record { whole = refl; from = refl; below = λ c l. ap isFree (fresh-free c); above = λ c l m. absurd (omega arith) }) in
+    let idle = opened-all p 32 fresh (omega arith)
+    (record { whole = refl; from = refl; below = λ c l. ap isFree (fresh-free c); above = λ c l m. absurd (omega arith) }) in
     let ready = offered-all p 32 d (omega arith) (record {
       whole = idle .whole;
       from = idle .from;
@@ -274,10 +284,13 @@ thirty-one-are-too-few p =
     record {
       before = opens ++ offers;
       after = few;
-      met = met-append (opens ++ offers) few (met-append opens offers (run-met fresh p (opensBelow 32)) (run-met d p (offersBelow 32))) (run-met e p (steps 31));
-      handed = handed-append fresh (opens ++ offers) few (handed-append fresh opens offers (run-handed fresh p (opensBelow 32)) (run-handed d p (offersBelow 32)))
+      met = met-append (opens ++ offers) few (met-append opens offers (run-met fresh p (opensBelow 32)) (run-met d p (offersBelow 32)))
+          (run-met e p (steps 31));
+      handed = handed-append fresh (opens ++ offers) few
+          (handed-append fresh opens offers (run-handed fresh p (opensBelow 32)) (run-handed d p (offersBelow 32)))
           (subst⁻¹ (λ (x : Desk). HandedOn x few) there (run-handed e p (steps 31)));
       waiting = ap (λ (x : Desk). isWaiting (slotAt x 31)) there ∙ ready .above 31 (omega arith) (omega arith);
       short = counted 31 e p;
-      unserved = not-served 31 0 e p (omega arith) (record { whole = ready .whole; from = ready .from; waiting = λ c l m. ready .above c (omega arith) m });
+      unserved = not-served 31 0 e p (omega arith)
+          (record { whole = ready .whole; from = ready .from; waiting = λ c l m. ready .above c (omega arith) m });
     }

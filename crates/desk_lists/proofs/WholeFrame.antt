@@ -1,5 +1,5 @@
--- Isolation speaks of frames that are converted: every frame whose rows a band call accepts in one band is finished by one step of the desk, with another
--- camera's frame open beside it. Its tally then has all rows, and its planes are in view.
+-- Isolation speaks of frames that are converted: every frame whose rows a band call accepts in one band is finished by one step of the desk, with
+-- another camera's frame open beside it. Its tally then has all rows, and its planes are in view.
 -- Assumes nothing.
 use Prim.Native.Nat.{ℕ, zero, suc, _+_, _≤_, _<_, min, max}
 use mathlib.Core.Path.{_≡_, refl, sym, ap, subst, subst⁻¹, _∙_}
@@ -134,7 +134,8 @@ module _ (d : FrameDescription) (stride : ℕ) (p : Buffers)
 
   taken-none : overlapsOpen (d₁ .places) w 32 ≡ false
   taken-none = clear (d₁ .places) w 32 (λ e.
-      ap (overlapsSlot w) (put fresh 4 e (Idle (openedFrame tiny noParts)) refl (omega arith) ∙ ap (cond (eqb 4 e) (Idle (openedFrame tiny noParts))) (fresh-free e))
+      ap (overlapsSlot w) (put fresh 4 e (Idle (openedFrame tiny noParts)) refl (omega arith)
+      ∙ ap (cond (eqb 4 e) (Idle (openedFrame tiny noParts))) (fresh-free e))
       ∙ clear-slot w (eqb 4 e))
 
   met₂ : OpenPost k₂
@@ -174,7 +175,8 @@ module _ (d : FrameDescription) (stride : ℕ) (p : Buffers)
 
   none-waits : (e : ℕ) → isWaiting (slotAt d₂ e) ≡ false
   none-waits e =
-      ap isWaiting (put d₁ 7 e (Idle f) refl (omega arith) ∙ ap (cond (eqb 7 e) (Idle f)) (put fresh 4 e (Idle (openedFrame tiny noParts)) refl (omega arith)
+      ap isWaiting (put d₁ 7 e (Idle f) refl (omega arith)
+      ∙ ap (cond (eqb 7 e) (Idle f)) (put fresh 4 e (Idle (openedFrame tiny noParts)) refl (omega arith)
       ∙ ap (cond (eqb 4 e) (Idle (openedFrame tiny noParts))) (fresh-free e)))
       ∙ idle (eqb 7 e) (eqb 4 e)
     where

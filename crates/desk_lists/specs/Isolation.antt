@@ -112,8 +112,8 @@ abbrev pub bandsOf : List Turned → List OwnBand
 bandsOf [] = []
 bandsOf (t ∷ ts) = bandOf t ∷ bandsOf ts
 
--- RULES 16.6: a camera's own calls since its last accepted opening: the frame and its parts, what became of its bands at its steps, and the bands that
--- it offered and that were accepted
+-- RULES 16.6: a camera's own calls since its last accepted opening: the frame and its parts, what became of its bands at its steps, and the bands
+-- that it offered and that were accepted
 pub data History : Type 0 where
   noFrame : History
   since : FrameDescription → FrameParts → List Turned → List OwnBand → History
@@ -193,7 +193,8 @@ abbrev pub inView : ℕ → Slot → LastStep → Bool
 inView c s l = isOpen s || lastTells c l
 
 -- RULES 16.6: a camera's calls, as if there were no other camera
-pub record Alone (c : ℕ) (d : FrameDescription) (w : FrameParts) (ts : List Turned) (os : List OwnBand) (s : Slot) (source : List ℕ) (l : LastStep) : Type 0 where
+pub record Alone (c : ℕ) (d : FrameDescription) (w : FrameParts) (ts : List Turned) (os : List OwnBand) (s : Slot) (source : List ℕ)
+    (l : LastStep) : Type 0 where
   pub opened : Fresh d (record { state = stateOf d 0; answer = Finished })
   pub met : bands.AllMet (callsOf ts)
   pub chained : Chained (stateOf d 0) none (callsOf ts)
@@ -231,8 +232,8 @@ abbrev pub OwnRows : ℕ → History → Slot → LastStep → Type 0
 OwnRows c noFrame s l = Unit {0}
 OwnRows c (since d w ts os) s l = inView c s l ≡ true → AgreesWith d w (tallyOf d noRows (callsOf ts)) l
 
--- RULES 16.6: up to its last row's step a camera's planes are those of its own accepted bands converted alone: byte for byte those of every frame call
--- with these rows
+-- RULES 16.6: up to its last row's step a camera's planes are those of its own accepted bands converted alone: byte for byte those of every frame
+-- call with these rows
 abbrev pub PlanesOfOwnBands : Type 0
 PlanesOfOwnBands =
     (c : ℕ) (calls : List DeskCall) → AllMet calls → HandedOn fresh calls → AsLeft noStep [] calls

@@ -2,3 +2,4 @@
 pub mod Taken
 pub mod Means
 pub mod Turn
+pub mod Exact

@@ -53,8 +53,8 @@ returns c =
     let k = c .before .before .before .before .before .before .before .before in
     let s = Start (k .before .before .before .before .before .before .before .before .before .before) in
     let kept = k .band .kept .1 .1 .1 .1 in
-    serve-inside (s .args .frame) (s .args .band) (lent s) (k .band .result) _ _ _ _ (s .pre) (kept .0) (kept .1 .0) (kept .1 .1 .0) (kept .1 .1 .1 .0)
-    (k .band .ensures)
+    serve-inside (s .args .frame) (s .args .band) (lent s) (k .band .result) _ _ _ _ (s .pre)
+    (kept .0) (kept .1 .0) (kept .1 .1 .0) (kept .1 .1 .1 .0) (k .band .ensures)
 
 pub band-in-parts-spec : {M : Type 1} → statement M
 band-in-parts-spec =

@@ -1,6 +1,6 @@
 -- `overlap_open` meets its contract: none of the first cameras has a frame whose parts overlap.
 -- Assumes nothing.
-use Prim.Native.Nat.{ℕ, suc, _+_, _-_, _≤_}
+use Prim.Native.Nat.{ℕ, suc, _+_, _-_, _≤_, _<_}
 use mathlib.Core.Path.{_≡_, sym, refl, ap, _∙_}
 use mathlib.Core.Bool.{true, false}
 use native.Mathlib.Omega.{arith}
@@ -33,7 +33,8 @@ returns c =
     let k = c .before in
     let l = k .before .before in
     let a = l .before .before .args in
-    overlaps-one (a .t2) (a .self) (l .loop-test .taken) (sym (k .overlap-slot .ensures) ∙ c .if1 .taken)
+    let below : l .before .loop .camera < 32 = omega (arith, l .loop-test .taken) in
+    overlaps-one (a .t2) (a .self) below (sym (k .overlap-slot .ensures) ∙ c .if1 .taken)
 
 add-camera : tie.Need-add-camera Inv-loop μ-loop
 add-camera c = omega arith
