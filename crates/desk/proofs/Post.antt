@@ -4,7 +4,6 @@ use Prim.Native.Nat.{ℕ}
 use mathlib.Core.Path.{_≡_, refl, sym, ap, subst, _∙_}
 use mathlib.Core.Bool.{Bool, true, false, cond, not}
 use mathlib.Core.List.{List}
-use lib.Dec.{ltb}
 use Rattle.yuv_error.specs.declared.YuvError.{YuvError}
 use Rattle.yuv_error.specs.declared.YuvAnswer.{YuvAnswer}
 use Rattle.yuv_error.specs.declared.YuvAnswer.the-variants.{Finished, Refused}
@@ -20,15 +19,14 @@ use Rattle.desk_places.specs.declared.BufferLengths.{BufferLengths}
 use Rattle.desk_places.specs.declared.OpenFrame.{OpenFrame}
 use Rattle.desk_places.specs.declared.WaitingBand.{WaitingBand}
 use Rattle.desk_places.specs.declared.Slot.{Slot}
-use Rattle.desk_places.specs.declared.Slot.the-variants.{Idle, Waiting}
+use Rattle.desk_places.specs.declared.Slot.the-variants.{Idle}
 use Rattle.desk_places.specs.declared.Place.{Place}
 use Rattle.desk_places.specs.declared.Next.the-variants.{NoneWaiting, Turn}
-use Rattle.desk_places.specs.Places.{withSlot, isOpen, isWaiting, areInside, overlapsOpen, nextWaiting, afterBand}
+use Rattle.desk_places.specs.Places.{withSlot, areInside, overlapsOpen, offered, nextWaiting, afterBand}
 use Rattle.desk.specs.declared.Desk.{Desk}
-use Rattle.desk.specs.declared.DeskAnswer.{DeskAnswer}
 use Rattle.desk.specs.declared.Served.the-variants.{Nobody, Camera}
 use Rattle.desk_bands.specs.Buffers.{Buffers, ServePost}
-use Rattle.desk.specs.DeskCall.{slotAt, putSlot, partRules, openCall, openRules, OpenPost, offerCall, offerRules, OfferPost}
+use Rattle.desk.specs.DeskCall.{slotAt, putSlot, partRules, openCall, openRules, OpenPost, sourceRules, offerCall, offerRules, OfferPost}
 use Rattle.desk.specs.DeskCall.{stepCall, servedDesk, StepPost}
 
 -- 18 of an opening, by its two tests
@@ -45,24 +43,18 @@ module _ (d : Desk) (c : ℕ) (frame : FrameDescription) (parts : FrameParts) (l
       → OpenPost (openCall d c frame parts lens (record { desk = putSlot d c (Idle (record { state = s; parts = parts })); answer = a }))
   open-accepted is fresh = record { answered = answered; desk = rw (is, fresh) }
 
--- the answer of an offer, by its four tests
-pub offer-first : (d : Desk) (c : ℕ) (b : WaitingBand) (n : ℕ) {w x y z : Bool} → ltb 31 c ≡ w → not (isOpen (slotAt d c)) ≡ x
-    → isWaiting (slotAt d c) ≡ y → not (isInside (b .source) n) ≡ z
-    → firstOf (offerRules (offerCall d c b n (record { desk = d; answer = Finished })))
-    ≡ cond w (numbers 21 0 0) (cond x (numbers 21 0 0) (cond y (numbers 22 0 0) (cond z (numbers 18 0 0) (numbers 0 0 0))))
-offer-first d c b n pw px py pz =
-    λ i. cond (pw i) (numbers 21 0 0) (cond (px i) (numbers 21 0 0) (cond (py i) (numbers 22 0 0) (cond (pz i) (numbers 18 0 0) (numbers 0 0 0))))
+-- 18 of an offer, by its test
+pub source-first : (b : WaitingBand) (n : ℕ) {t : Bool} → isInside (b .source) n ≡ t
+    → firstOf (sourceRules b n) ≡ cond (not t) (numbers 18 0 0) (numbers 0 0 0)
+source-first b n p = λ i. cond (not (p i)) (numbers 18 0 0) (numbers 0 0 0)
 
-pub offer-refused : (d : Desk) (c : ℕ) (b : WaitingBand) (n : ℕ) (e : YuvError)
-    → let r : DeskAnswer = record { desk = d; answer = Refused e } in firstOf (offerRules (offerCall d c b n r)) ≡ numbersOf (Refused e)
-    → OfferPost (offerCall d c b n r)
-offer-refused d c b n e answered = record { answered = sym answered; desk = refl }
+module _ (d : Desk) (c : ℕ) (b : WaitingBand) (n : ℕ) (a : YuvAnswer)
+    (answered : numbersOf a ≡ firstOf (offerRules (offerCall d c b n (record { desk = d; answer = a })))) where
+  pub offer-refused : {e : YuvError} → a ≡ Refused e → OfferPost (offerCall d c b n (record { desk = d; answer = a }))
+  offer-refused is = record { answered = answered; desk = rw is }
 
-pub offer-accepted : (d : Desk) (c : ℕ) (b : WaitingBand) (n : ℕ) {f : OpenFrame} → slotAt d c ≡ Idle f
-    → let r : DeskAnswer = record { desk = putSlot d c (Waiting f b); answer = Finished } in
-    firstOf (offerRules (offerCall d c b n r)) ≡ numbersOf Finished
-    → OfferPost (offerCall d c b n r)
-offer-accepted d c b n idle answered = record { answered = sym answered; desk = rw idle }
+  pub offer-accepted : {s : Slot} → a ≡ Finished → s ≡ offered (slotAt d c) b → OfferPost (offerCall d c b n (record { desk = putSlot d c s; answer = a }))
+  offer-accepted is slot = record { answered = answered; desk = rw (is, slot) }
 
 pub step-none : (d : Desk) (p : Buffers) → NoneWaiting ≡ nextWaiting (d .places) (d .from)
     → StepPost (stepCall d p (record { desk = d; served = Nobody }) p)

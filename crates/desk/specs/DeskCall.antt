@@ -20,11 +20,11 @@ use Rattle.desk_places.specs.declared.BufferLengths.{BufferLengths}
 use Rattle.desk_places.specs.declared.OpenFrame.{OpenFrame}
 use Rattle.desk_places.specs.declared.WaitingBand.{WaitingBand}
 use Rattle.desk_places.specs.declared.Slot.{Slot}
-use Rattle.desk_places.specs.declared.Slot.the-variants.{Free, Idle, Waiting}
+use Rattle.desk_places.specs.declared.Slot.the-variants.{Idle}
 use Rattle.desk_places.specs.declared.Place.{Place}
 use Rattle.desk_places.specs.declared.Next.{Next}
 use Rattle.desk_places.specs.declared.Next.the-variants.{NoneWaiting, Turn}
-use Rattle.desk_places.specs.Places.{slotIn, withSlot, noFrames, isOpen, isWaiting, areInside, overlapsOpen, nextWaiting, afterBand}
+use Rattle.desk_places.specs.Places.{slotIn, withSlot, noFrames, isOpen, isWaiting, areInside, overlapsOpen, offered, nextWaiting, afterBand}
 use Rattle.desk.specs.declared.Desk.{Desk}
 use Rattle.desk.specs.declared.DeskAnswer.{DeskAnswer}
 use Rattle.desk.specs.declared.Served.{Served}
@@ -86,6 +86,16 @@ pub record OpenPost (k : OpenCall) : Type 0 where
 
 -- ---- an offer
 
+-- RULES 16.3: 21, the number is above 31 or has no frame; 22, a band of it waits
+abbrev pub waitingRules : List Place → (camera : ℕ) → List Rule
+waitingRules ps c =
+    let s = slotIn ps c in
+    rule 21 (ltb 31 c) 0 0 ∷ rule 21 (not (isOpen s)) 0 0 ∷ rule 22 (isWaiting s) 0 0 ∷ []
+
+-- RULES 16.3: 18, the band reaches outside a source buffer of n bytes
+abbrev pub sourceRules : WaitingBand → (n : ℕ) → List Rule
+sourceRules b n = rule 18 (not (isInside (b .source) n)) 0 0 ∷ []
+
 -- RULES 16.3: what an offer was given, and what it handed back
 pub record OfferCall : Type 0 where
   pub desk : Desk
@@ -97,20 +107,9 @@ pub record OfferCall : Type 0 where
 abbrev pub offerCall : Desk → (camera : ℕ) → WaitingBand → (len : ℕ) → DeskAnswer → OfferCall
 offerCall d c b n r = record { desk = d; camera = c; band = b; len = n; result = r }
 
--- RULES 16.3: 21, the number is above 31 or has no frame; 22, a band of it waits; 18, the band reaches outside the source buffer
+-- RULES 16.3: 21, 22, then 18
 abbrev pub offerRules : OfferCall → List Rule
-offerRules k =
-    let s = slotAt (k .desk) (k .camera) in
-    rule 21 (ltb 31 (k .camera)) 0 0 ∷
-    rule 21 (not (isOpen s)) 0 0 ∷
-    rule 22 (isWaiting s) 0 0 ∷
-    rule 18 (not (isInside (k .band .source) (k .len))) 0 0 ∷ []
-
--- RULES 16.3: the band waits where the frame had none
-abbrev pub offered : Slot → WaitingBand → Slot
-offered Free b = Free
-offered (Idle f) b = Waiting f b
-offered (Waiting f w) b = Waiting f w
+offerRules k = waitingRules (k .desk .places) (k .camera) ++ sourceRules (k .band) (k .len)
 
 -- RULES 16.3
 pub record OfferPost (k : OfferCall) : Type 0 where

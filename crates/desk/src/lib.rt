@@ -15,7 +15,8 @@ ghost use mathlib.Core.Path.{_≡_};
 ghost use Rattle.yuv_error.specs.Numbers.{numbersOf};
 ghost use Rattle.yuv_error.specs.Rules.{firstOf};
 ghost use Rattle.desk_bands.specs.Buffers.{buffersOf};
-ghost use Rattle.desk.specs.DeskCall.{fresh, numberRules, partRules, openCall, OpenPost, offerCall, OfferPost, stepCall, StepPost};
+ghost use Rattle.desk.specs.DeskCall.{fresh, numberRules, partRules, openCall, OpenPost, waitingRules, sourceRules, offerCall, OfferPost};
+ghost use Rattle.desk.specs.DeskCall.{stepCall, StepPost};
 
 // What stands at each camera's number, and which camera is asked first at the next step.
 pub struct Desk {
@@ -70,6 +71,34 @@ fn check_parts(places: [Place; 32], parts: FrameParts, lens: BufferLengths) -> Y
     YuvAnswer::Finished
 }
 
+// Refusals 21 and 22 of an offer.
+fn check_waiting(places: [Place; 32], camera: u32) -> YuvAnswer
+    ensures { λ a. ⌜ numbersOf a ≡ firstOf (waitingRules places camera) ⌝ }
+{
+    if 31 < camera {
+        return YuvAnswer::Refused(YuvError::CameraMismatch);
+    }
+    let place = places[camera as usize];
+    let slot = place.slot;
+    match slot {
+        Slot::Free => YuvAnswer::Refused(YuvError::CameraMismatch),
+        Slot::Idle(_) => YuvAnswer::Finished,
+        Slot::Waiting(_, _) => YuvAnswer::Refused(YuvError::BandStillWaiting),
+    }
+}
+
+// Refusal 18 of an offer.
+fn check_source(band: WaitingBand, source_len: usize) -> YuvAnswer
+    ensures { λ a. ⌜ numbersOf a ≡ firstOf (sourceRules band «source_len») ⌝ }
+{
+    let source = band.source;
+    if buffer_parts::is_inside(source, source_len) {
+        YuvAnswer::Finished
+    } else {
+        YuvAnswer::Refused(YuvError::PartsMismatch)
+    }
+}
+
 impl Desk {
     // A desk with no frame open.
     pub fn new() -> Desk
@@ -93,11 +122,11 @@ impl Desk {
         ensures { λ r. ⌜ OpenPost (openCall self camera frame parts lens r) ⌝ }
     {
         let places = self.places;
+        let number = check_number(places, camera);
+        let taken = check_parts(places, parts, lens);
         let opened = FrameState::open(frame);
         let opening = opened.answer;
-        let answer = check_number(places, camera)
-            .and(check_parts(places, parts, lens))
-            .and(opening);
+        let answer = number.and(taken).and(opening);
         match answer {
             YuvAnswer::Refused(_) => {
                 return DeskAnswer { desk: self, answer };
@@ -116,41 +145,22 @@ impl Desk {
     pub fn offer(self, camera: u32, band: WaitingBand, source_len: usize) -> DeskAnswer
         ensures { λ r. ⌜ OfferPost (offerCall self camera band «source_len» r) ⌝ }
     {
-        if 31 < camera {
-            return DeskAnswer {
-                desk: self,
-                answer: YuvAnswer::Refused(YuvError::CameraMismatch),
-            };
-        }
-        let place = self.places[camera as usize];
-        let slot = place.slot;
-        match slot {
-            Slot::Free => DeskAnswer {
-                desk: self,
-                answer: YuvAnswer::Refused(YuvError::CameraMismatch),
-            },
-            Slot::Waiting(_, _) => DeskAnswer {
-                desk: self,
-                answer: YuvAnswer::Refused(YuvError::BandStillWaiting),
-            },
-            Slot::Idle(frame) => {
-                let source = band.source;
-                if !buffer_parts::is_inside(source, source_len) {
-                    return DeskAnswer {
-                        desk: self,
-                        answer: YuvAnswer::Refused(YuvError::PartsMismatch),
-                    };
-                }
-                let mut next = self;
-                next.places[camera as usize] = Place {
-                    slot: Slot::Waiting(frame, band),
-                };
-                DeskAnswer {
-                    desk: next,
-                    answer: YuvAnswer::Finished,
-                }
+        let places = self.places;
+        let waiting = check_waiting(places, camera);
+        let outside = check_source(band, source_len);
+        let answer = waiting.and(outside);
+        match answer {
+            YuvAnswer::Refused(_) => {
+                return DeskAnswer { desk: self, answer };
             }
+            YuvAnswer::Finished => {}
         }
+        let place = places[camera as usize];
+        let slot = place.slot;
+        let slot_with = slot.with_band(band);
+        let mut next = self;
+        next.places[camera as usize] = Place { slot: slot_with };
+        DeskAnswer { desk: next, answer }
     }
 
     // Serves the next camera with a band waiting: 18 where a part of its frame or band reaches outside the buffers, else as FrameState::band.

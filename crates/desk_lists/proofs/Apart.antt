@@ -16,13 +16,13 @@ use Rattle.desk_places.specs.declared.WaitingBand.{WaitingBand}
 use Rattle.desk_places.specs.declared.Slot.{Slot}
 use Rattle.desk_places.specs.declared.Slot.the-variants.{Free, Idle, Waiting}
 use Rattle.desk_places.specs.declared.Next.the-variants.{Turn}
-use Rattle.desk_places.specs.Places.{isOpen, overlapsSlot, overlapsOpen, nextWaiting, withState, afterBand}
+use Rattle.desk_places.specs.Places.{isOpen, overlapsSlot, overlapsOpen, offered, nextWaiting, withState, afterBand}
 use Rattle.desk_places.specs.Means.{ShareByte}
 use Rattle.desk_places.proofs.Taken.{overlaps-none}
 use Rattle.desk_places.proofs.Means.{share-exact}
 use Rattle.desk_bands.specs.Buffers.{Buffers, FramePlanes, planesIn, ElsewhereKept}
 use Rattle.desk.specs.declared.Desk.{Desk}
-use Rattle.desk.specs.DeskCall.{slotAt, OpenCall, openedFrame, OpenPost, OfferCall, offered, OfferPost, StepCall, BandServed}
+use Rattle.desk.specs.DeskCall.{slotAt, OpenCall, openedFrame, OpenPost, OfferCall, OfferPost, StepCall, BandServed}
 use Rattle.desk_lists.specs.Isolation.{isFinished}
 use Rattle.desk_lists.proofs.Slots.{Whole, open-below, both?, if-true, if-false, is-finished, opened, open-changed, offer-changed}
 use Rattle.desk_lists.proofs.Slots.{waits, served-slot}

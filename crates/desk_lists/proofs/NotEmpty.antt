@@ -16,13 +16,13 @@ use Rattle.desk_places.specs.declared.Slot.{Slot}
 use Rattle.desk_places.specs.declared.Slot.the-variants.{Free, Idle, Waiting}
 use Rattle.desk_places.specs.declared.Next.{Next}
 use Rattle.desk_places.specs.declared.Next.the-variants.{NoneWaiting, Turn}
-use Rattle.desk_places.specs.Places.{nextWaiting}
+use Rattle.desk_places.specs.Places.{offered, nextWaiting}
 use Rattle.desk_bands.specs.Buffers.{Buffers}
 use Rattle.desk.specs.declared.Desk.{Desk}
 use Rattle.desk.specs.declared.DeskAnswer.{DeskAnswer}
 use Rattle.desk.specs.declared.Served.the-variants.{Nobody, Camera}
 use Rattle.desk.specs.declared.StepAnswer.{StepAnswer}
-use Rattle.desk.specs.DeskCall.{slotAt, putSlot, leftBy, OpenCall, openCall, openRules, openedFrame, OfferCall, offerCall, offerRules, offered}
+use Rattle.desk.specs.DeskCall.{slotAt, putSlot, leftBy, OpenCall, openCall, openRules, openedFrame, OfferCall, offerCall, offerRules}
 use Rattle.desk.specs.DeskCall.{stepCall, servedDesk, Stepped}
 use Rattle.desk_lists.specs.DeskLists.{DeskCall, opening, offering, step, AllMet, handedBack, HandedOn}
 use Rattle.desk_lists.specs.Isolation.{LastStep, lastStep, SamePlanes, PlanesBack, SameBand, AsLeft}

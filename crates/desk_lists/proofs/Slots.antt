@@ -18,10 +18,10 @@ use Rattle.desk_places.specs.declared.Slot.the-variants.{Free, Idle}
 use Rattle.desk_places.specs.declared.Place.{Place}
 use Rattle.desk_places.specs.declared.Next.{Next}
 use Rattle.desk_places.specs.declared.Next.the-variants.{NoneWaiting, Turn}
-use Rattle.desk_places.specs.Places.{isOpen, nextWaiting, afterBand}
+use Rattle.desk_places.specs.Places.{isOpen, offered, nextWaiting, afterBand}
 use Rattle.desk_places.proofs.Turn.{Waits, turn-waits}
 use Rattle.desk.specs.declared.Desk.{Desk}
-use Rattle.desk.specs.DeskCall.{fresh, slotAt, putSlot, leftBy, OpenCall, openRules, openedFrame, OpenPost, OfferCall, offerRules, offered, OfferPost}
+use Rattle.desk.specs.DeskCall.{fresh, slotAt, putSlot, leftBy, OpenCall, openRules, openedFrame, OpenPost, OfferCall, offerRules, OfferPost}
 use Rattle.desk.specs.DeskCall.{StepCall, servedDesk, NothingDone, BandServed, Stepped, StepPost}
 use Rattle.desk.proofs.Given.{OpenGiven, open-given, OfferGiven, offer-given}
 use Rattle.desk_lists.specs.DeskLists.{DeskCall, opening, offering, step, Met, given, handedBack}

@@ -33,13 +33,13 @@ use Rattle.desk_places.specs.declared.Slot.the-variants.{Free, Idle, Waiting}
 use Rattle.desk_places.specs.declared.Place.{Place}
 use Rattle.desk_places.specs.declared.Next.{Next}
 use Rattle.desk_places.specs.declared.Next.the-variants.{Turn}
-use Rattle.desk_places.specs.Places.{slotIn, isOpen, isWaiting, overlapsSlot, overlapsOpen, asked, nextWaiting, afterBand}
+use Rattle.desk_places.specs.Places.{slotIn, isOpen, isWaiting, overlapsSlot, overlapsOpen, offered, asked, nextWaiting, afterBand}
 use Rattle.desk_places.proofs.Taken.{overlaps-start, overlaps-next}
 use Rattle.desk_places.proofs.Turn.{next-reached}
 use Rattle.desk_bands.specs.Buffers.{Buffers}
 use Rattle.desk.specs.declared.Desk.{Desk}
 use Rattle.desk.specs.declared.DeskAnswer.{DeskAnswer}
-use Rattle.desk.specs.DeskCall.{fresh, slotAt, putSlot, leftBy, openCall, openRules, openedFrame, offerCall, offerRules, offered}
+use Rattle.desk.specs.DeskCall.{fresh, slotAt, putSlot, leftBy, openCall, openRules, openedFrame, offerCall, offerRules}
 use Rattle.desk.specs.DeskCall.{StepCall, stepCall, BandServed, Stepped, StepPost}
 use Rattle.desk_lists.specs.DeskLists.{DeskCall, AllMet, handedBack, HandedOn, deskAfter, stepsIn, tells, servedIn}
 use Rattle.desk_lists.proofs.Slots.{Whole, put, put-whole, if-true, if-false, fresh-free, served-slot, served-whole}

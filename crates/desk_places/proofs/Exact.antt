@@ -1,4 +1,4 @@
--- Whose turn it is, exactly: of the cameras asked, either none has a band waiting, or the first that has one is told with how many were asked before it.
+-- Whose turn it is, exactly: of the cameras asked either none has a band waiting, or the first that has one stands behind so many that have none.
 -- Assumes nothing.
 use Prim.Native.Nat.{ℕ, zero, suc, _+_, _-_, _%_, _≤_, _<_}
 use mathlib.Core.Path.{_≡_, refl, sym, ap, subst, _∙_}
@@ -68,7 +68,8 @@ module _ (ps : List Place) (from : ℕ) where
   first-is : (i n : ℕ) → IsFirst i n (firstWaiting ps from i n)
   first-is i zero = subst (IsFirst i 0) (sym (none-left ps from i refl)) (λ k l m. absurd (omega arith))
   first-is i (suc n) =
-      subst (IsFirst i (suc n)) (sym (ask ps from i n)) (one-asked i n (slotIn ps (asked from i)) refl (firstWaiting ps from (i + 1) n) (first-is (i + 1) n))
+      subst (IsFirst i (suc n)) (sym (ask ps from i n))
+      (one-asked i n (slotIn ps (asked from i)) refl (firstWaiting ps from (i + 1) n) (first-is (i + 1) n))
 
   next-is : IsFirst 0 32 (nextWaiting ps from)
   unfolding nextWaiting

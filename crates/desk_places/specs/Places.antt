@@ -1,4 +1,4 @@
--- What stands at each camera's number, which parts of the shared buffers are taken, and whose turn it is: docs/RULES.md, 16.1, 16.2 and 16.4.
+-- What stands at each camera's number, which parts of the shared buffers are taken, and whose turn it is: docs/RULES.md, 16.1 to 16.4.
 -- Assumes nothing.
 use Prim.Native.Nat.{ℕ, zero, suc, _+_, _%_}
 use mathlib.Core.Bool.{Bool, true, false, cond, _&&_, _||_}
@@ -60,6 +60,12 @@ overlapsSlot w (Waiting f b) = overlapParts w (f .parts)
 unfoldable pub overlapsOpen : List Place → FrameParts → ℕ → Bool
 overlapsOpen ps w zero = false
 overlapsOpen ps w (suc n) = overlapsSlot w (slotIn ps n) || overlapsOpen ps w n
+
+-- RULES 16.3: the band waits where the frame has none waiting
+abbrev pub offered : Slot → WaitingBand → Slot
+offered Free b = Free
+offered (Idle f) b = Waiting f b
+offered (Waiting f w) b = Waiting f w
 
 -- RULES 16.4: the camera that is asked after i others, when `from` is asked first
 abbrev pub asked : (from i : ℕ) → ℕ

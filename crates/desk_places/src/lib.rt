@@ -3,7 +3,7 @@
 use band_calls::FrameState;
 use buffer_parts::BufferPart;
 ghost use mathlib.Core.Path.{_≡_};
-ghost use Rattle.desk_places.specs.Places.{areInside, overlapParts, overlapsSlot, overlapsOpen, nextWaiting, afterBand};
+ghost use Rattle.desk_places.specs.Places.{areInside, overlapParts, overlapsSlot, overlapsOpen, offered, nextWaiting, afterBand};
 
 // Where a frame's planes and its carried row stand in the shared buffers.
 pub struct FrameParts {
@@ -110,6 +110,19 @@ impl FrameParts {
             camera += 1;
         }
         false
+    }
+}
+
+impl Slot {
+    // The frame with a band to wait, where it has none waiting.
+    pub fn with_band(self, band: WaitingBand) -> Slot
+        ensures { λ r. ⌜ r ≡ offered self band ⌝ }
+    {
+        match self {
+            Slot::Free => self,
+            Slot::Idle(frame) => Slot::Waiting(frame, band),
+            Slot::Waiting(_, _) => self,
+        }
     }
 }
 

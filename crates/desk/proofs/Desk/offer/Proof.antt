@@ -1,71 +1,74 @@
--- `offer` meets its contract: each answer by the tests that led there.
+-- `offer` meets its contract: the checks of the number and of the band decide.
 -- Assumes nothing.
-use mathlib.Core.Path.{refl, sym, ap, _∙_}
-use mathlib.Core.Bool.{not}
+use Prim.Native.Nat.{_<_}
+use mathlib.Core.Path.{_≡_, refl}
+use mathlib.Core.List.{List, _++_}
+use native.Mathlib.Omega.{arith}
 use borrow.Author.Needs.{needs}
-use borrow.Author.Tests.{lt-ltb, le-ltb}
-use Rattle.desk_places.specs.declared.Slot.{Slot}
-use Rattle.desk_places.specs.Places.{isOpen, isWaiting}
-use Rattle.desk.proofs.Post.{offer-first, offer-refused, offer-accepted}
+use Rattle.yuv_error.specs.Rules.{Rule}
+use Rattle.yuv_error.proofs.First.{Answers, answers, both, finished-number}
+use Rattle.desk.specs.DeskCall.{waitingRules, sourceRules, offerCall}
+use Rattle.desk.proofs.Given.{OfferGiven, offer-given}
+use Rattle.desk.proofs.Post.{offer-refused, offer-accepted}
 use Rattle.desk.proofs.Desk.offer.Statement.{statement}
 use Rattle.desk.proofs.Desk.offer.Tie as tie
 
+abbrev Start : tie.After-and → tie.Start
+Start c = c .before .before .before .before
+
+abbrev rules : tie.Start → List Rule
+rules s =
+    let a = s .args in
+    waitingRules (a .self .places) (a .camera) ++ sourceRules (a .band) (a .«source-len»)
+
+decided : (c : tie.After-and) → Answers (c .and .result) (rules (Start c))
+decided c =
+    let a = Start c .args in
+    let s = c .before in
+    let w = s .before in
+    both (answers (w .check-waiting .result) (waitingRules (a .self .places) (a .camera)) refl (w .check-waiting .ensures))
+    (answers (s .check-source .result) (sourceRules (a .band) (a .«source-len»)) refl (s .check-source .ensures)) (c .and .ensures)
+
 returns : tie.Need-returns
 returns c =
-    let a = c .before .args in
-    offer-refused (a .t1) (a .camera) (a .band) (a .«source-len») _
-    (offer-first (a .t1) (a .camera) (a .band) (a .«source-len») (lt-ltb _ _ (c .if1 .taken)) refl refl refl)
+    let k = c .before .before in
+    let a = Start k .args in
+    offer-refused (a .self) (a .camera) (a .band) (a .«source-len») (k .and .result) (decided k .equation) (c .enum-told .given .1)
+
+-- the number, where the offer is accepted
+below : (c : tie.After-enum-told2) → Start (c .before .before) .args .camera < 32
+below c =
+    let k = c .before .before in
+    let a = Start k .args in
+    offer-given (offerCall (a .self) (a .camera) (a .band) (a .«source-len») (record { desk = a .self; answer = k .and .result }))
+    (finished-number (rules (Start k)) (c .enum-told2 .given .1) (decided k .equation)) .below
+
+array-copy-out-place : tie.Need-array-copy-out-place
+array-copy-out-place c = below c
+
+element-set-from-next : tie.Need-element-set-from-next
+element-set-from-next c = below (c .before .before)
 
 returns-2 : tie.Need-returns-2
 returns-2 c =
-    let i = c .before in
-    let s = i .before .before .before in
-    let k = s .before .before .before in
-    let a = k .before .args in
-    offer-refused (a .t1) (a .camera) (a .band) (a .«source-len») _
-    (offer-first (a .t1) (a .camera) (a .band) (a .«source-len») (le-ltb _ _ (k .if1 .left)) (ap (λ (x : Slot). not (isOpen x)) (s .slot .given .1))
-    (ap isWaiting (s .slot .given .1)) (ap not (sym (i .is-inside .ensures)) ∙ c .if2 .taken))
-
-returns-3 : tie.Need-returns-3
-returns-3 c =
-    let k = c .before .before .before in
-    let a = k .before .args in
-    offer-refused (a .t1) (a .camera) (a .band) (a .«source-len») _
-    (offer-first (a .t1) (a .camera) (a .band) (a .«source-len») (le-ltb _ _ (k .if1 .left))
-    (ap (λ (x : Slot). not (isOpen x)) (c .enum-told .given .1)) refl refl)
-
-returns-4 : tie.Need-returns-4
-returns-4 c =
-    let k = c .before .before .before in
-    let a = k .before .args in
-    offer-refused (a .t1) (a .camera) (a .band) (a .«source-len») _
-    (offer-first (a .t1) (a .camera) (a .band) (a .«source-len») (le-ltb _ _ (k .if1 .left))
-    (ap (λ (x : Slot). not (isOpen x)) (c .enum-told2 .given .1)) (ap isWaiting (c .enum-told2 .given .1)) refl)
-
-returns-5 : tie.Need-returns-5
-returns-5 c =
-    let i = c .before in
-    let s = i .before .before .before in
-    let k = s .before .before .before in
-    let a = k .before .args in
-    offer-accepted (a .t1) (a .camera) (a .band) (a .«source-len») (s .slot .given .1)
-    (offer-first (a .t1) (a .camera) (a .band) (a .«source-len») (le-ltb _ _ (k .if1 .left)) (ap (λ (x : Slot). not (isOpen x)) (s .slot .given .1))
-    (ap isWaiting (s .slot .given .1)) (ap not (sym (i .is-inside .ensures)) ∙ c .if2 .left))
+    let e = c .before .before in
+    let k = e .before .before in
+    let a = Start k .args in
+    offer-accepted (a .self) (a .camera) (a .band) (a .«source-len») (k .and .result) (decided k .equation) (e .enum-told2 .given .1) (c .with-band .ensures)
 
 pub offer-spec : {M : Type 1} → statement M
 offer-spec =
     tie.close
     (tie.spec
+    (λ c κs. search needs)
+    (λ c κs. search needs)
+    (λ c κs. search needs)
+    (λ c. search needs)
     returns
     (λ c. search needs)
     (λ c. search needs)
-    (λ c. search needs)
-    (λ c. search needs)
-    (λ c. search needs)
+    array-copy-out-place
     (λ c κs. search needs)
-    returns-2
     (λ c. search needs)
-    (λ c. search needs)
-    returns-3
-    returns-4
-    returns-5)
+    element-set-from-next
+    returns-2)

@@ -26,9 +26,9 @@ decided : (c : tie.After-and2) → Answers (c .and2 .result) (rules (Start c))
 decided c =
     let a = Start c .args in
     let k = c .before in
-    let p = k .before in
+    let o = k .before in
+    let p = o .before in
     let n = p .before in
-    let o = n .before in
     both (both (answers (n .check-number .result) (numberRules (a .self .places) (a .camera)) refl (n .check-number .ensures))
     (answers (p .check-parts .result) (partRules (a .self .places) (a .parts) (a .lens)) refl (p .check-parts .ensures)) (k .and .ensures))
     (answers (o .«open» .result .answer) (openingRules (a .frame)) refl (o .«open» .ensures .answered)) (c .and2 .ensures)
@@ -54,7 +54,7 @@ returns-2 : tie.Need-returns-2
 returns-2 c =
     let k = c .before .before .before in
     let a = Start k .args in
-    let o = k .before .before .before .before in
+    let o = k .before .before in
     open-accepted (a .self) (a .camera) (a .frame) (a .parts) (a .lens) (k .and2 .result) (decided k .equation) (c .before .enum-told2 .given .1)
     (o .«open» .ensures .state)
 
