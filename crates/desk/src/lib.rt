@@ -42,8 +42,8 @@ pub struct StepAnswer {
     pub served: Served,
 }
 
-// Refusals 21 and 23 of an opening.
-fn check_number(places: [Place; 32], camera: u32) -> YuvAnswer
+// Refusals 21 and 23 of an opening. This and the next are public for callers that have a refusal of their own before 2.
+pub fn check_number(places: [Place; 32], camera: u32) -> YuvAnswer
     ensures { λ a. ⌜ numbersOf a ≡ firstOf (numberRules places camera) ⌝ }
 {
     if 31 < camera {
@@ -59,7 +59,7 @@ fn check_number(places: [Place; 32], camera: u32) -> YuvAnswer
 }
 
 // Refusal 18 of an opening.
-fn check_parts(places: [Place; 32], parts: FrameParts, lens: BufferLengths) -> YuvAnswer
+pub fn check_parts(places: [Place; 32], parts: FrameParts, lens: BufferLengths) -> YuvAnswer
     ensures { λ a. ⌜ numbersOf a ≡ firstOf (partRules places parts lens) ⌝ }
 {
     if !parts.are_inside(lens) {
