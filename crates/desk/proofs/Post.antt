@@ -1,6 +1,6 @@
 -- What the calls promise, from what their code found.
 -- Assumes nothing.
-use Prim.Native.Nat.{ℕ}
+use Prim.Native.Nat.{ℕ, _+_, _%_}
 use mathlib.Core.Path.{_≡_, refl, sym, ap, subst, _∙_}
 use mathlib.Core.Bool.{Bool, true, false, cond, not}
 use mathlib.Core.List.{List}
@@ -27,7 +27,7 @@ use Rattle.desk.specs.declared.Desk.{Desk}
 use Rattle.desk.specs.declared.Served.the-variants.{Nobody, Camera}
 use Rattle.desk_bands.specs.Buffers.{Buffers, ServePost}
 use Rattle.desk.specs.DeskCall.{slotAt, putSlot, partRules, openCall, openRules, OpenPost, sourceRules, offerCall, offerRules, OfferPost}
-use Rattle.desk.specs.DeskCall.{stepCall, servedDesk, StepPost}
+use Rattle.desk.specs.DeskCall.{stepCall, StepPost}
 
 -- 18 of an opening, by its two tests
 pub parts-first : (ps : List Place) (w : FrameParts) (n : BufferLengths) {a b : Bool} → not (areInside w n) ≡ a → overlapsOpen ps w 32 ≡ b
@@ -60,10 +60,7 @@ pub step-none : (d : Desk) (p : Buffers) → NoneWaiting ≡ nextWaiting (d .pla
     → StepPost (stepCall d p (record { desk = d; served = Nobody }) p)
 step-none d p e = rw (← e) (record { served = refl; desk = refl; buffers = refl })
 
-pub step-served : (d : Desk) (c : ℕ) (f : OpenFrame) (b : WaitingBand) (r : FrameAnswer) (s : Slot) (p q : Buffers)
-    → Turn c f b ≡ nextWaiting (d .places) (d .from) → ServePost f b p r q → s ≡ afterBand f (r .state)
-    → StepPost (stepCall d p (record {
-      desk = record { places = withSlot (d .places) c s; from = servedDesk d c f (r .state) .from };
-      served = Camera c (r .answer);
-    }) q)
-step-served d c f b r s p q e post is = rw (← e, is) (record { call = r; met = post; served = refl; desk = refl })
+pub step-served : (d : Desk) (c : ℕ) (f : OpenFrame) (b : WaitingBand) (r : FrameAnswer) (s : Slot) (n : ℕ) (p q : Buffers)
+    → Turn c f b ≡ nextWaiting (d .places) (d .from) → ServePost f b p r q → s ≡ afterBand f (r .state) → n ≡ (c + 1) % 32
+    → StepPost (stepCall d p (record { desk = record { places = withSlot (d .places) c s; from = n }; served = Camera c (r .answer) }) q)
+step-served d c f b r s n p q e post is next = rw (← e, is, next) (record { call = r; met = post; served = refl; desk = refl })

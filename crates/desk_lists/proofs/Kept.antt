@@ -3,7 +3,7 @@
 -- Assumes nothing.
 use Prim.Native.Nat.{ℕ, zero, suc, _+_, _≤_, _<_}
 use mathlib.Core.Path.{_≡_, refl, sym, ap, subst, subst⁻¹, _∙_}
-use mathlib.Core.Bool.{Bool, true, false, cond, _&&_, _||_, true≢false}
+use mathlib.Core.Bool.{Bool, true, false, cond, true≢false}
 use mathlib.Core.List.{List, [], _∷_, _++_, append-nil}
 use native.Mathlib.Nat.{add-zero}
 use native.Mathlib.Omega.{arith}
@@ -37,7 +37,7 @@ use Rattle.desk.specs.declared.Desk.{Desk}
 use Rattle.desk.specs.DeskCall.{slotAt, openedFrame, StepCall}
 use Rattle.desk_lists.specs.DeskLists.{tells}
 use Rattle.desk_lists.specs.Isolation.{LastStep, noStep, lastStep, SamePlanes, PlanesBack, SameBand, OwnBand, ownBand, callIn, waitingIn}
-use Rattle.desk_lists.specs.Isolation.{HasRows, planesAfter, PlanesLeft, lastTells, inView}
+use Rattle.desk_lists.specs.Isolation.{HasRows, planesAfter, PlanesLeft, inView}
 use Rattle.desk_lists.proofs.Bands.{met-more, chained-more, last-more, tally-more}
 use Rattle.desk_lists.proofs.Apart.{HasParts}
 
@@ -100,13 +100,16 @@ waiting-same Free p q e = refl
 waiting-same (Idle f) p q e = refl
 waiting-same (Waiting f b) p q e = ap (λ (x : List ℕ). record { rows = b .rows; stride = b .stride; bytes = x } ∷ []) (sym e)
 
-open-in-view : (s : Slot) (t : Bool) → isOpen s ≡ true → isOpen s || t ≡ true
-open-in-view s t e = rw e
+open-in-view : (c : ℕ) (s : Slot) (l : LastStep) → isOpen s ≡ true → inView c s l ≡ true
+open-in-view c Free l e = absurd (true≢false (sym e))
+open-in-view c (Idle f) l e = refl
+open-in-view c (Waiting f b) l e = refl
 
-view-open : (s : Slot) (t : Bool) → t ≡ false → isOpen s || t ≡ true → isOpen s ≡ true
-view-open Free t e v = absurd (true≢false (sym v ∙ e))
-view-open (Idle f) t e v = refl
-view-open (Waiting f b) t e v = refl
+-- after a step that served another, a frame in view is open
+view-open : (c : ℕ) (s : Slot) (k : StepCall) → tells c (k .result .served) ≡ false → inView c s (lastStep k) ≡ true → isOpen s ≡ true
+view-open c Free k e v = absurd (true≢false (sym v ∙ e))
+view-open c (Idle f) k e v = refl
+view-open c (Waiting f b) k e v = refl
 
 -- ---- calls of others
 
@@ -133,14 +136,14 @@ module _ {c : ℕ} {d : FrameDescription} {w : FrameParts} {ks : List BandCall} 
       let held : isOpen s ≡ true → Held (k .left) w last = λ o.
       let h = rows-parts d w (tallyOf d noRows ks .n) s o (a .rows) in
       held-same (k .lent) (k .left) w last (bytes h)
-      (comes-back l c w last (k .lent) back (a .planes (open-in-view s (lastTells c l) o)) (a .seated o)) in
+      (comes-back l c w last (k .lent) back (a .planes (open-in-view c s l o)) (a .seated o)) in
       record {
         opened = a .opened;
         met = a .met;
         chained = a .chained;
         own = a .own ∙ ap (λ (x : List OwnBand). bs ++ x) (waiting-same s (k .lent .source) before band);
         rows = a .rows;
-        planes = λ v. held-left k w last (held (view-open s (tells c (k .result .served)) told v));
+        planes = λ v. held-left k w last (held (view-open c s k told v));
         seated = λ o. seat k c w last (subst⁻¹ (λ (x : Slot). HasParts x w) slot (rows-parts d w (tallyOf d noRows ks .n) s o (a .rows)));
       }
 

@@ -46,8 +46,8 @@ returns-2 c =
     let t = Turn c in
     let g = t .next .given .0 in
     let s = Start (t .before .before) in
-    step-served (s .args .self) (g .0) (g .1 .0) (g .1 .1 .0) (k .serve-band .result) (c .after-band .result) (lent s) _
-    (sym (t .next .given .1) ∙ t .before .before .next-waiting .ensures) (k .serve-band .ensures) (c .after-band .ensures)
+    step-served (s .args .self) (g .0) (g .1 .0) (g .1 .1 .0) (k .serve-band .result) (c .after-band .result) _ (lent s) _
+    (sym (t .next .given .1) ∙ t .before .before .next-waiting .ensures) (k .serve-band .ensures) (c .after-band .ensures) (omega arith)
 
 pub step-spec : {M : Type 1} → statement M
 step-spec =
