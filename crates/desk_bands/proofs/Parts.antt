@@ -14,7 +14,7 @@ use Rattle.band_calls.specs.BandCall.{BandCall, bandCall, BandPost}
 use Rattle.buffer_parts.specs.declared.BufferPart.{BufferPart}
 use Rattle.buffer_parts.specs.Parts.{Inside, isInside, partOf, withPart}
 use Rattle.buffer_parts.proofs.Tests.{inside-yes}
-use Rattle.buffer_parts.proofs.Parts.{part-length, put-is, with-part, with-elsewhere}
+use Rattle.buffer_parts.proofs.Parts.{part-length, part-size, put-is, with-part, with-elsewhere}
 use Rattle.desk_places.specs.declared.FrameParts.{FrameParts}
 use Rattle.desk_places.specs.declared.BufferLengths.{BufferLengths}
 use Rattle.desk_places.specs.declared.OpenFrame.{OpenFrame}
@@ -85,7 +85,7 @@ abbrev pub backOf : BufferPart → (buffer bytes : List ℕ) → List ℕ
 backOf p buffer bytes = putMid (p .offset) (p .offset + p .length - p .offset) buffer bytes
 
 lent-is : (p : BufferPart) (buffer : List ℕ) → lentOf p buffer ≡ partOf p buffer
-lent-is p buffer = let n : p .offset + p .length - p .offset ≡ p .length = omega arith in ap (λ (n : ℕ). take n (drop (p .offset) buffer)) n
+lent-is p buffer = ap (λ (n : ℕ). take n (drop (p .offset) buffer)) (part-size p)
 
 size-of : (p : BufferPart) (buffer bytes : List ℕ) → Inside p (length buffer) → length bytes ≡ length (lentOf p buffer) → length bytes ≡ p .length
 size-of p buffer bytes inside e = e ∙ ap length (lent-is p buffer) ∙ part-length p buffer inside
@@ -106,8 +106,8 @@ module _ (f : OpenFrame) (b : WaitingBand) (p : Buffers) (r : FrameAnswer) (y u 
       (lent-is (x .u) (p .u) i) (lent-is (x .v) (p .v) i) (lent-is (x .carried) (p .carried) i) r y u v carried) post in
       let made = converted f b p r y u v carried inside (size-of (x .y) (p .y) y (all .y) ys) (size-of (x .u) (p .u) u (all .u) us)
       (size-of (x .v) (p .v) v (all .v) vs) (size-of (x .carried) (p .carried) carried (all .carried) cs) on-parts in
-      subst (ServePost f b p r) (λ i. buffersOf (p .source) (sym (put-is (x .y) (p .y) y) i) (sym (put-is (x .u) (p .u) u) i)
-      (sym (put-is (x .v) (p .v) v) i) (sym (put-is (x .carried) (p .carried) carried) i)) (rw inside made)
+      subst (ServePost f b p r) (λ i. buffersOf (p .source) (sym (put-is (x .y) (p .y) y (part-size (x .y))) i) (sym (put-is (x .u) (p .u) u (part-size (x .u))) i)
+      (sym (put-is (x .v) (p .v) v (part-size (x .v))) i) (sym (put-is (x .carried) (p .carried) carried (part-size (x .carried))) i)) (rw inside made)
 
 -- 18
 pub serve-outside : (f : OpenFrame) (b : WaitingBand) (p : Buffers) → areLent f b p ≡ false
