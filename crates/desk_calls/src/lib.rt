@@ -155,12 +155,7 @@ pub fn call_desk_offer(
 }
 
 // Writes what a step made of the place of the camera that it served, and who is asked first.
-fn put_served(
-    stepped: StepAnswer,
-    numbers: &mut [u32],
-    customs: &mut [f32],
-    parts: &mut [u64],
-)
+fn put_served(stepped: StepAnswer, numbers: &mut [u32], customs: &mut [f32], parts: &mut [u64])
     requires { ⌜ ServedBelow (stepped .served) (stepped .desk) ⌝ }
     requires { ⌜ (length (now numbers) ≡ 609) × ((length (now customs) ≡ 64) × (length (now parts) ≡ 320)) ⌝ }
     ensures { λ _. ⌜ deskNumbers (now (numbers .exit)) (now (customs .exit)) (now (parts .exit))

@@ -290,7 +290,13 @@ pub fn put_place(c: usize, slot: Slot, numbers: &mut [u32], customs: &mut [f32],
     let slot_numbers = slot_numbers(slot);
     let slot_customs = slot_customs(slot);
     let slot_parts = slot_parts(slot);
-    put_numbers(&slot_numbers, &mut numbers[in_numbers..in_numbers + PLACE_NUMBERS]);
-    put_customs(&slot_customs, &mut customs[in_customs..in_customs + PLACE_CUSTOMS]);
+    put_numbers(
+        &slot_numbers,
+        &mut numbers[in_numbers..in_numbers + PLACE_NUMBERS],
+    );
+    put_customs(
+        &slot_customs,
+        &mut customs[in_customs..in_customs + PLACE_CUSTOMS],
+    );
     put_parts(&slot_parts, &mut parts[in_parts..in_parts + PLACE_PARTS]);
 }

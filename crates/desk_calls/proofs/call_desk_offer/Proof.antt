@@ -9,9 +9,10 @@ use Rattle.desk_calls.proofs.call_desk_offer.Tie as tie
 
 put-answer-requires : tie.Need-put-answer-requires
 put-answer-requires c κs =
-    let o = c .before .before .before in
-    (offered-below _ (o .offer .ensures),
-    (c .before .before .put-answer-arg .given .0 .1, (c .before .put-answer-arg2 .given .0 .1, c .put-answer-arg3 .given .0 .1)))
+    let o = c .before .before .before in (
+      offered-below _ (o .offer .ensures),
+      (c .before .before .put-answer-arg .given .0 .1, (c .before .put-answer-arg2 .given .0 .1, c .put-answer-arg3 .given .0 .1)),
+    )
 
 returns : tie.Need-returns
 returns c =

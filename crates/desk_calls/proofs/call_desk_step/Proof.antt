@@ -7,9 +7,10 @@ use Rattle.desk_calls.proofs.call_desk_step.Statement.{statement}
 use Rattle.desk_calls.proofs.call_desk_step.Tie as tie
 
 put-served-requires : tie.Need-put-served-requires
-put-served-requires c κs =
-    (served-below _ (c .before .before .before .before .before .before .before .before .before .before .before .step .ensures),
-    (c .before .before .put-served-arg .given .0 .1, (c .before .put-served-arg2 .given .0 .1, c .put-served-arg3 .given .0 .1)))
+put-served-requires c κs = (
+  served-below _ (c .before .before .before .before .before .before .before .before .before .before .before .step .ensures),
+  (c .before .before .put-served-arg .given .0 .1, (c .before .put-served-arg2 .given .0 .1, c .put-served-arg3 .given .0 .1)),
+)
 
 returns : tie.Need-returns
 returns c =

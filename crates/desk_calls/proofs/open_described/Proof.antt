@@ -40,7 +40,7 @@ returns c =
     record {
       answered = decided c .equation;
       desk = refused-leaves (c .before .and .result) MalformedRequest (putSlot (a .desk) (a .camera) (Idle (openedFrame (descriptionOf (a .described .now) (a .custom .now)) (a .parts)))) (a .desk)
-      (c .and2 .ensures);
+          (c .and2 .ensures);
     }
 
 well-formed : (c : tie.Else1) → isMalformed 0 (Start (c .before) .args .described .now) ≡ false

@@ -15,8 +15,18 @@ returns c =
     let b = d .before in
     let a = b .before in
     let z = a .before in
-    rw (z .as-number .ensures, a .as-number2 .ensures, b .as-number3 .ensures, d .as-number4 .ensures, e .as-number5 .ensures, f .as-number6 .ensures,
-    g .as-number7 .ensures, h .as-number8 .ensures, i .as-number9 .ensures, c .as-number10 .ensures)
+    rw (
+      z .as-number .ensures,
+      a .as-number2 .ensures,
+      b .as-number3 .ensures,
+      d .as-number4 .ensures,
+      e .as-number5 .ensures,
+      f .as-number6 .ensures,
+      g .as-number7 .ensures,
+      h .as-number8 .ensures,
+      i .as-number9 .ensures,
+      c .as-number10 .ensures,
+    )
 
 pub part-numbers-spec : {M : Type 1} → statement M
 part-numbers-spec = tie.close (tie.spec (λ c κs. search needs) (λ c κs. search needs) (λ c κs. search needs) (λ c κs. search needs) (λ c κs. search needs) (λ c κs. search needs) (λ c κs. search needs) (λ c κs. search needs) (λ c κs. search needs) (λ c κs. search needs) returns)

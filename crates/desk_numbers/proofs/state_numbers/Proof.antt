@@ -11,8 +11,14 @@ returns c =
     let r = m .before in
     let s = r .before in
     let k = s .before in
-    rw (k .channels-code .ensures, s .sampling-code .ensures, r .range-code .ensures, m .matrix-code .ensures, t .transfer-code .ensures,
-    c .rounding-code .ensures)
+    rw (
+      k .channels-code .ensures,
+      s .sampling-code .ensures,
+      r .range-code .ensures,
+      m .matrix-code .ensures,
+      t .transfer-code .ensures,
+      c .rounding-code .ensures,
+    )
 
 pub state-numbers-spec : {M : Type 1} → statement M
 state-numbers-spec = tie.close (tie.spec (λ c κs. search needs) (λ c κs. search needs) (λ c κs. search needs) (λ c κs. search needs) (λ c κs. search needs) (λ c κs. search needs) returns)
