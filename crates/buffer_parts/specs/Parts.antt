@@ -36,12 +36,12 @@ pub record TestsAreExact : Type 0 where
   pub inside : (p : BufferPart) (n : ℕ) → (isInside p n ≡ true) ↔ Inside p n
   pub overlap : (a b : BufferPart) → (areOverlapping a b ≡ true) ↔ Overlap a b
 
--- RULES 15.1: the bytes of a part
-abbrev pub partOf : BufferPart → (buffer : List ℕ) → List ℕ
+-- RULES 15.1: the bytes of a part, of a buffer of bytes or of whatever else
+abbrev pub partOf : {A : Type 0} → BufferPart → (buffer : List A) → List A
 partOf p buffer = take (p .length) (drop (p .offset) buffer)
 
 -- RULES 15.1: the buffer with other bytes in their place
-unfoldable pub withPart : BufferPart → (buffer bytes : List ℕ) → List ℕ
+unfoldable pub withPart : {A : Type 0} → BufferPart → (buffer bytes : List A) → List A
 withPart p buffer bytes = take (p .offset) buffer ++ (bytes ++ drop (p .offset + p .length) buffer)
 
 -- RULES 15.1: as many bytes as before, and each that is not of the part as it was

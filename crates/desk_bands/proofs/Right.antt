@@ -32,7 +32,7 @@ in-part p x y i least less e =
     let is : p .offset + (i - p .offset) ≡ i = omega arith in
     let few : i - p .offset < p .length = omega arith in
     subst (λ (n : ℕ). getD y n 0 ≡ getD x n 0) is
-    (sym (part-byte p y (i - p .offset) few) ∙ ap (λ (z : List ℕ). getD z (i - p .offset) 0) e ∙ part-byte p x (i - p .offset) few)
+    (sym (part-byte p y (i - p .offset) 0 few) ∙ ap (λ (z : List ℕ). getD z (i - p .offset) 0) e ∙ part-byte p x (i - p .offset) 0 few)
 
 same-buffer : (p : BufferPart) (x y : List ℕ) → Elsewhere p x y → partOf p y ≡ partOf p x → y ≡ x
 same-buffer p x y others e = ext-getD 0 y x (others .size) (λ i l. by-start i (ltb i (p .offset)) refl)

@@ -3,6 +3,8 @@ use Prim.Native.Nat.{ℕ, zero, suc, _<_}
 use mathlib.Core.Path.{_≡_, refl}
 use native.Mathlib.Omega.{arith}
 use lib.ListN.{getD}
+use Rattle.yuv_support.specs.declared.YuvSourceChannels.{YuvSourceChannels}
+use Rattle.yuv_support.specs.declared.YuvSourceChannels.the-variants.{Rgb, Rgba, Bgra, Bgr}
 use Rattle.yuv_support.specs.declared.YuvChromaSubsampling.{YuvChromaSubsampling}
 use Rattle.yuv_support.specs.declared.YuvChromaSubsampling.the-variants.{Yuv420, Yuv422}
 use Rattle.yuv_support.specs.declared.YuvRange.{YuvRange}
@@ -11,8 +13,16 @@ use Rattle.yuv_support.specs.declared.YuvStandardMatrix.{YuvStandardMatrix}
 use Rattle.yuv_support.specs.declared.YuvStandardMatrix.the-variants.{Bt601, Bt709, Bt2020, Smpte240, «Bt470_6», Fcc, Custom}
 use Rattle.sharp_gamma.specs.declared.SharpYuvGammaTransfer.{SharpYuvGammaTransfer}
 use Rattle.sharp_gamma.specs.declared.SharpYuvGammaTransfer.the-variants.{Srgb, Rec709, Gamma2p2, Gamma2p8}
-use Rattle.setting_codes.specs.Codes.{samplingCodes, rangeCodes, matrixCodes, transferCodes}
-use Rattle.setting_codes.specs.Codes.{customCode, samplingCode, rangeCode, matrixCode, transferCode}
+use Rattle.sharp_gamma.specs.declared.TableRounding.{TableRounding}
+use Rattle.sharp_gamma.specs.declared.TableRounding.the-variants.{Truncated, Nearest}
+use Rattle.setting_codes.specs.Codes.{channelsCodes, samplingCodes, rangeCodes, matrixCodes, transferCodes, roundingCodes}
+use Rattle.setting_codes.specs.Codes.{customCode, channelsCode, samplingCode, rangeCode, matrixCode, transferCode, roundingCode}
+
+pub channels-there : (x : YuvSourceChannels) → getD channelsCodes (channelsCode x) Rgb ≡ x
+channels-there Rgb = refl
+channels-there Rgba = refl
+channels-there Bgra = refl
+channels-there Bgr = refl
 
 pub sampling-there : (x : YuvChromaSubsampling) → getD samplingCodes (samplingCode x) Yuv420 ≡ x
 sampling-there Yuv420 = refl
@@ -63,3 +73,7 @@ transfer-back (suc zero) l = refl
 transfer-back (suc (suc zero)) l = refl
 transfer-back (suc (suc (suc zero))) l = refl
 transfer-back (suc (suc (suc (suc n)))) l = absurd (omega arith)
+
+pub rounding-there : (x : TableRounding) → getD roundingCodes (roundingCode x) Truncated ≡ x
+rounding-there Truncated = refl
+rounding-there Nearest = refl
