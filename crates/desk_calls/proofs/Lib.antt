@@ -1,2 +1,3 @@
 -- Laws of the desk's calls from numbers.
 pub mod Below
+pub mod Handed
