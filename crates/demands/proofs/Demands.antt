@@ -54,7 +54,8 @@ use Rattle.segvartin.specs.Shift.{rulesOfReading, rulesOfReadingAny, rulesOfWri
 use Rattle.shift_pairs.specs.Pairing.{pairingRules}
 use Rattle.segvartin.specs.Pairs.{rulesOfPairing}
 use Rattle.segvartin.proofs.Pairs.{pairing-first, pairing-writes-nothing}
-use Rattle.segvartin.proofs.Shift.{alone, unwritten, reading-first, reading-writes-nothing, reading-any-first, reading-any-writes-nothing}
+use Rattle.yuv_error.proofs.Plain.{alone}
+use Rattle.segvartin.proofs.Shift.{unwritten, reading-first, reading-writes-nothing, reading-any-first, reading-any-writes-nothing}
 use Rattle.segvartin.proofs.Shift.{writing-first, writing-writes-nothing, record-first, record-writes-nothing, move-first, move-writes-nothing}
 use Rattle.shift_file.specs.declared.ShiftForm.{ShiftForm}
 use Rattle.shift_file.specs.declared.ShiftForm.the-variants.{WithoutSettings, WithSettings}
@@ -77,7 +78,12 @@ use Rattle.y4m_writer.specs.Writing.{writeRules as y4mWriteRules}
 use Rattle.y4m_picture.specs.Picture.{pictureRules}
 use Rattle.y4m_calls.specs.Calls.{rulesOfY4mReading, rulesOfY4mWriting, rulesOfY4mPicture}
 use Rattle.convoy.proofs.Answers.{convoy-lowest, unwritten as convoy-unwritten}
+use Rattle.desk.specs.DeskCall.{openRules as deskOpenRules, offerRules}
+use Rattle.desk_calls.specs.Calls.{rulesOfDeskOpen, servedNumbers, stepWith}
+use Rattle.desk_lists.specs.FromNumbers.{asOffering}
+use Rattle.segvartin.specs.Lists.{numbersTold}
 use Rattle.demands.proofs.ConvoyTold.{convoy-met, convoy-told}
+use Rattle.demands.proofs.DeskTold.{step-lowest, step-unwritten}
 use Rattle.demands.specs.Demands.{asConvoy, Replied, CountsReplied, Demand1, Demand2, Demand3, WholeFrame, FrameBytes}
 
 -- the promise's equation, read as the sentence of RULES 7.1
@@ -257,6 +263,32 @@ demand-1 = record {
     lowest = rw (convoy-told k p) at (convoy-lowest (asConvoy k) (convoy-met k p));
     writes-nothing = λ l. convoy-unwritten (asConvoy k) (convoy-met k p);
   };
+  desk-opening = λ k p. record {
+    lowest = lowest (deskOpenRules k) refl (p .answered);
+    writes-nothing = λ l. rw (refusal (k .result .answer) l .1) at (p .desk);
+  };
+  desk-offer = λ k p. record {
+    lowest = lowest (offerRules k) refl (p .answered);
+    writes-nothing = λ l. rw (refusal (k .result .answer) l .1) at (p .desk);
+  };
+  desk-step = λ k p. record { lowest = step-lowest k p; writes-nothing = step-unwritten k p };
+  linked-desk-opening = λ k p.
+      let told : numbersTold (k .number) (k .told) ≡ numbersOf (p .result .answer) = rw (p .number, p .told) in
+      record {
+        lowest = lowest (rulesOfDeskOpen k) refl (told ∙ p .opened .answered);
+        writes-nothing = λ l. rw (refusal (p .result .answer) (rw (p .number) at l) .1) at (p .after);
+      };
+  linked-desk-offer = λ k p. record {
+    lowest = lowest (offerRules (asOffering k)) refl
+    (alone (offerRules (asOffering k)) (p .result .answer) (refl, (refl, (refl, (refl, tt)))) (p .number) (p .offered .answered));
+    writes-nothing = λ l. rw (refusal (p .result .answer) (rw (p .number) at l) .1) at (p .after);
+  };
+  linked-desk-step = λ k p.
+      let told : numbersTold (k .number) (k .told) ≡ servedNumbers (p .result .served) = rw (p .number, p .told) in
+      record {
+        lowest = rw (← told) at (step-lowest (stepWith k (p .result)) (p .stepped));
+        writes-nothing = λ l. step-unwritten (stepWith k (p .result)) (p .stepped) (rw (p .number) at l);
+      };
 }
 
 is-true : (b : Bool) → T b → b ≡ true

@@ -1,5 +1,6 @@
 -- The proofs of the demands.
 pub mod ConvoyTold
+pub mod DeskTold
 pub mod Demands
 pub mod Grey
 pub mod Counts
@@ -10,3 +11,4 @@ pub mod ShiftMoves
 pub mod Y4mParts
 pub mod Y4mFiles
 pub mod Convoys
+pub mod Desks

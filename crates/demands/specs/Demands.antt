@@ -1,10 +1,10 @@
 -- The three demands, one after the other, and what else is claimed of all calls. Each cites definitions alone: the promises of the calls
 -- (`FramePost`, `OpenPost`, `BandPost`, `CountsPost`, `ReadPost`, `WritePost`, `RecordPost`, `MovePost`, `BuildPost`, `CheckPost`, `FindPost`,
--- `UpdatePost`, `PairingPost`, `PicturePost`, `ConvoyPost`, `RequestPost`, `Begins`, and `..Kept` of the calls that C and Rust link, the very
--- predicates of their `ensures`), which hold of every call whatever it is given, and the rules, rows, planes, curves, files, summaries, reports and
--- convoys that they speak of. Their proofs are `demand-1`, `demand-2` and `demand-3` of proofs/Demands.antt, `grey` of Grey.antt, `counts` of
+-- `UpdatePost`, `PairingPost`, `PicturePost`, `ConvoyPost`, `OfferPost`, `StepPost`, `RequestPost`, `Begins`, and `..Kept` of the calls that C and Rust
+-- link, the very predicates of their `ensures`), which hold of every call whatever it is given, and the rules, rows, planes, curves, files, summaries,
+-- reports, convoys and desks that they speak of. Their proofs are `demand-1`, `demand-2` and `demand-3` of proofs/Demands.antt, `grey` of Grey.antt, `counts` of
 -- Counts.antt, `shift-files` of ShiftFiles.antt, `shift-moves` of ShiftMoves.antt, `shift-summaries` of ShiftSummaries.antt, `shift-pairs` of
--- ShiftPairs.antt, `y4m-files` of Y4mFiles.antt and `convoys` of Convoys.antt.
+-- ShiftPairs.antt, `y4m-files` of Y4mFiles.antt, `convoys` of Convoys.antt and `desks` of Desks.antt.
 -- Assumes nothing.
 use Prim.Native.Nat.{ℕ, _+_, _*_, _-_, _/_, _^_, _≤_, _<_, min}
 use mathlib.Core.Path.{_≡_}
@@ -115,6 +115,18 @@ use Rattle.convoy.specs.Turn.{turnRules, convoyRules}
 use Rattle.convoy.specs.Alone.{Unwritten as ConvoyUnwritten, AsAlone, OneOutcome}
 use Rattle.convoy_calls.specs.Numbers.{numbersAt, customAt, frameOf as convoyFrame}
 use Rattle.convoy_calls.specs.Calls.{ExportedConvoy, convoyWith, ConvoyKept}
+use Rattle.desk_places.specs.declared.Next.{Next}
+use Rattle.desk_places.specs.declared.Next.the-variants.{NoneWaiting, Turn}
+use Rattle.desk_places.specs.Places.{nextWaiting}
+use Rattle.desk_places.specs.Means.{TestsAreExact as DeskTestsAreExact, TurnIsExact}
+use Rattle.desk_bands.specs.Buffers.{Buffers, serveRules}
+use Rattle.desk.specs.DeskCall.{OpenCall, openRules as deskOpenRules, OpenPost as DeskOpenPost, OfferCall, offerRules, OfferPost, StepCall, StepPost}
+use Rattle.desk.specs.Told.{StepsAreRight}
+use Rattle.desk_calls.specs.Calls.{ExportedDeskOpen, rulesOfDeskOpen, DeskOpenKept, ExportedDeskOffer, DeskOfferKept}
+use Rattle.desk_calls.specs.Calls.{ExportedDeskStep, servedNumbers, DeskStepKept}
+use Rattle.desk_lists.specs.DeskLists.{Fairness}
+use Rattle.desk_lists.specs.Isolation.{Isolation, PlanesOfOwnBands}
+use Rattle.desk_lists.specs.FromNumbers.{asOffering, asStep, NumbersAreCalls, NumberedFairness, NumberedPlanes}
 
 -- ---- 1. Every call answers finished work or one numbered refusal, for all sizes, strides, buffers and settings; a refusal writes no byte.
 
@@ -140,9 +152,19 @@ CountsReplied input bytes =
 abbrev pub asConvoy : ExportedConvoy → ConvoyCall
 asConvoy k = convoyWith k (record { answer = answerTold (k .number) (k .told); done = doneTold (k .told) })
 
+-- RULES 16.4: the rules of a step are those of the band whose turn it is, and none where no band waits
+abbrev pub turnRulesOf : Next → (lent : Buffers) → List Rule
+turnRulesOf NoneWaiting lent = []
+turnRulesOf (Turn c f b) lent = serveRules f b lent
+
+-- RULES 16.4
+abbrev pub stepRules : StepCall → List Rule
+stepRules k = turnRulesOf (nextWaiting (k .desk .places) (k .desk .from)) (k .lent)
+
 -- RULES 7.1, 7.2: of the calls of Rattle, which are frame, opening, band, a count of colours, reading and writing a shift file, one record of it,
 -- moving a file to its other form, building, checking, asking and updating its summary, pairing two files, reading and writing a Y4M file, one
--- picture of it, a convoy of frames, and a request of the program; then of those that C and Rust link, whose numbers come first to be refused
+-- picture of it, a convoy of frames, an opening, an offer and a step at the desk, and a request of the program; then of those that C and Rust link,
+-- whose numbers come first to be refused
 pub record Demand1 : Type 0 where
   pub frame : (k : FrameCall) → FramePost k → Answered (frameRules k) (numbersOf (k .answer)) (Unwritten k)
   pub opening : (d : FrameDescription) (r : FrameAnswer) → OpenPost d r → Lowest (openingRules d) (numbersOf (r .answer))
@@ -177,6 +199,10 @@ pub record Demand1 : Type 0 where
   -- a convoy that is refused keeps the bytes of the refused frame and of later ones, and every other byte but those of finished frames; its rules are
   -- those of the frame at the place that is told, which `Convoys` says is the first that is refused
   pub convoy : (k : ConvoyCall) → ConvoyPost k → Answered (convoyRules k) (numbersOf (k .result .answer)) (ConvoyUnwritten k)
+  -- a refused opening or offer hands the desk back as it was; a step writes no byte where its band is refused, and uses the band up
+  pub desk-opening : (k : OpenCall) → DeskOpenPost k → Answered (deskOpenRules k) (numbersOf (k .result .answer)) (k .result .desk ≡ k .desk)
+  pub desk-offer : (k : OfferCall) → OfferPost k → Answered (offerRules k) (numbersOf (k .result .answer)) (k .result .desk ≡ k .desk)
+  pub desk-step : (k : StepCall) → StepPost k → Answered (stepRules k) (servedNumbers (k .result .served)) (k .left ≡ k .lent)
   pub request : (input output : List ℕ) (response : Response) (output′ : List ℕ) → RequestPost input output response output′
       → Answered (requestRules input) (responseNumbers response) (output′ ≡ output)
   -- and what the program writes for it: the planes where no condition holds, or the line of the first number whose condition holds
@@ -213,6 +239,11 @@ pub record Demand1 : Type 0 where
       → Answered (rulesOfY4mPicture k) (numbers (k .number) 0 0) (k .output′ ≡ k .output)
   pub linked-convoy : (k : ExportedConvoy) → ConvoyKept k
       → Answered (convoyRules (asConvoy k)) (numbersTold (k .number) (k .told)) (ConvoyUnwritten (asConvoy k))
+  pub linked-desk-opening : (k : ExportedDeskOpen) → DeskOpenKept k
+      → Answered (rulesOfDeskOpen k) (numbersTold (k .number) (k .told)) (k .after ≡ k .before)
+  -- 21, 22 and 18 come without expected and received
+  pub linked-desk-offer : (k : ExportedDeskOffer) → DeskOfferKept k → Answered (offerRules (asOffering k)) (numbers (k .number) 0 0) (k .after ≡ k .before)
+  pub linked-desk-step : (k : ExportedDeskStep) → DeskStepKept k → Answered (stepRules (asStep k)) (numbersTold (k .number) (k .told)) (k .left ≡ k .lent)
 
 -- ---- 2. Frames of 1 to 16,384 pixels a side, anywhere in a source of at most 16,384 a side in whole rows, with any channel order, sampling, range,
 -- transfer, rounding and accepted matrix: every byte of the planes is the one that the rules name, which is that of the Rust over our stated curve
@@ -801,3 +832,25 @@ pub record Convoys : Type 0 where
   pub linked-refused : (k : ExportedConvoy) → ConvoyKept k → (IsBroken (asConvoy k) → ⊥) → 1 ≤ k .number
       → (e : ExportedFrame) → FrameKept e → SingleOf k (doneTold (k .told)) e
       → numbersTold (e .number) (e .told) ≡ numbersTold (k .number) (k .told)
+
+-- ---- The front desk: 32 cameras share one converter. A waiting camera is served within 32 steps, whatever the others offer; and up to its last row's
+-- step a camera's planes are those of its own accepted bands converted alone. Both are about every list of openings, offers and steps, refused ones
+-- included, on a desk begun with no frame open and handed on from call to call; the second where planes, carried rows and waiting bands come back as
+-- left too. The claims stand, part by part, in desk_lists' specs/DeskLists.antt, Isolation.antt and FromNumbers.antt.
+
+-- RULES 16.2, 16.4, 16.5, 16.6
+pub record Desks : Type 0 where
+  -- of the definitions: which parts lie inside and which are taken, and whose turn it is
+  pub tests-are-exact : DeskTestsAreExact
+  pub turn-is-exact : TurnIsExact
+  -- a step tells the camera whose turn it is, with its answer, or none; and where it converts no band it writes nothing
+  pub steps-are-right : StepsAreRight
+  pub fairness : Fairness
+  -- the calls of the converter that a camera's steps made are calls of demand 3 on its own bands; so its planes are those of every frame call with
+  -- these rows, and every other byte of its parts is as the first of these calls found it
+  pub isolation : Isolation
+  pub planes : PlanesOfOwnBands
+  -- for who links the library: from all zeros on, the calls that it makes are calls of such a desk, which its arrays are
+  pub linked : NumbersAreCalls
+  pub linked-fairness : NumberedFairness
+  pub linked-planes : NumberedPlanes

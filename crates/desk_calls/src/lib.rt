@@ -87,9 +87,8 @@ fn open_described(
         let places = desk.places;
         let number = desk::check_number(places, camera);
         let taken = desk::check_parts(places, parts, lens);
-        let answer = number
-            .and(taken)
-            .and(YuvAnswer::Refused(YuvError::MalformedRequest));
+        let malformed = YuvAnswer::Refused(YuvError::MalformedRequest);
+        let answer = number.and(taken).and(malformed);
         return DeskAnswer { desk, answer };
     }
     let frame = call_numbers::describe_after(0, described, custom);

@@ -41,7 +41,7 @@ use Rattle.desk_lists.specs.Isolation.{noStep, lastOf, AsLeft, noFrame, 
 use Rattle.desk_lists.specs.FromNumbers.{NumberedCall, openNumbers, offerNumbers, stepNumbers, AllKept, before, after, NumbersHandedOn, numbersAfter}
 use Rattle.desk_lists.specs.FromNumbers.{answerTold, handed, asOpening, asOffering, servedIn, asStep, asCalls, AreCalls, NumbersAreCalls}
 use Rattle.desk_lists.specs.FromNumbers.{stepsOf, toldIn, NumberedFairness, NumberedPlanes}
-use Rattle.desk_lists.proofs.Plain.{alone}
+use Rattle.yuv_error.proofs.Plain.{alone}
 use Rattle.desk_lists.proofs.Fairness.{fairness}
 use Rattle.desk_lists.proofs.OwnBands.{planes-of-own-bands}
 

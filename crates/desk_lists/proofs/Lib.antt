@@ -10,5 +10,4 @@ pub mod CanServe
 pub mod NotEmpty
 pub mod ThirtyOne
 pub mod WholeFrame
-pub mod Plain
 pub mod FromNumbers

@@ -2,8 +2,10 @@
 -- hand the desk on and bring the buffers back as left.
 -- Assumes nothing.
 use Prim.Native.Nat.{ℕ}
-use mathlib.Core.Path.{_≡_, refl, subst}
+use mathlib.Core.Path.{_≡_, refl, ap, subst, subst⁻¹, _∙_}
+use mathlib.Core.Bool.{Bool, true, false, cond, _&&_, true≢false}
 use mathlib.Core.List.{List, [], _∷_}
+use lib.Dec.{eqb}
 use lib.ListN.{length}
 use Rattle.yuv_error.specs.declared.YuvAnswer.{YuvAnswer}
 use Rattle.yuv_error.specs.Numbers.{answerOf}
@@ -12,20 +14,22 @@ use Rattle.definitions.specs.declared.FrameDescription.{FrameDescription}
 use Rattle.desk_places.specs.declared.FrameParts.{FrameParts}
 use Rattle.desk_places.specs.declared.BufferLengths.{BufferLengths}
 use Rattle.desk_places.specs.declared.WaitingBand.{WaitingBand}
+use Rattle.desk_places.specs.declared.OpenFrame.{OpenFrame}
 use Rattle.desk_places.specs.declared.Slot.{Slot}
 use Rattle.desk_places.specs.declared.Slot.the-variants.{Free, Idle, Waiting}
 use Rattle.desk_places.specs.declared.Next.{Next}
 use Rattle.desk_places.specs.declared.Next.the-variants.{NoneWaiting, Turn}
-use Rattle.desk_places.specs.Places.{offered, nextWaiting}
+use Rattle.desk_places.specs.Places.{isWaiting, offered, nextWaiting}
 use Rattle.desk_bands.specs.Buffers.{Buffers}
 use Rattle.desk.specs.declared.Desk.{Desk}
 use Rattle.desk.specs.declared.DeskAnswer.{DeskAnswer}
 use Rattle.desk.specs.declared.Served.the-variants.{Nobody, Camera}
 use Rattle.desk.specs.declared.StepAnswer.{StepAnswer}
-use Rattle.desk.specs.DeskCall.{slotAt, putSlot, leftBy, OpenCall, openCall, openRules, openedFrame, OfferCall, offerCall, offerRules}
+use Rattle.desk.specs.DeskCall.{fresh, slotAt, putSlot, leftBy, OpenCall, openCall, openRules, openedFrame, OfferCall, offerCall, offerRules}
 use Rattle.desk.specs.DeskCall.{stepCall, servedDesk, Stepped}
 use Rattle.desk_lists.specs.DeskLists.{DeskCall, opening, offering, step, AllMet, handedBack, HandedOn}
-use Rattle.desk_lists.specs.Isolation.{LastStep, lastStep, SamePlanes, PlanesBack, SameBand, AsLeft}
+use Rattle.desk_lists.specs.Isolation.{LastStep, noStep, lastStep, SamePlanes, PlanesBack, SameBand, AsLeft, isFinished}
+use Rattle.desk_lists.proofs.Slots.{Whole, fresh-free, open-changed}
 use Rattle.desk_lists.proofs.CanServe.{Sayable, said, serveAnswer, serveLeft, served}
 
 -- what is asked of a desk
@@ -126,3 +130,34 @@ run-as-left l d p (toStep ∷ asks) back =
             (run-as-left (lastStep k) (k .result .desk) (stepLeft n p) asks (λ e. same-planes (slotAt (k .result .desk) e) (stepLeft n p))),
       ),
     )
+
+-- ---- from a desk with no frame open
+
+-- where no band waits, it is no matter what the source was before
+no-band : (s : Slot) (x y : List ℕ) → isWaiting s ≡ false → SameBand s x y
+no-band Free x y e = tt
+no-band (Idle f) x y e = tt
+no-band (Waiting f b) x y e = absurd (true≢false e)
+
+still-none : (t : Bool) (f : OpenFrame) (s : Slot) → isWaiting s ≡ false → isWaiting (cond t (Idle f) s) ≡ false
+still-none true f s e = refl
+still-none false f s e = e
+
+any-source : (ks : List DeskCall) (l : LastStep) (d : Desk) (x y : List ℕ) → Whole d → ((c : ℕ) → isWaiting (slotAt d c) ≡ false)
+    → AllMet ks → HandedOn d ks → AsLeft l x ks → AsLeft l y ks
+any-source [] l d x y w none met hand left = tt
+any-source (opening k ∷ ks) l d x y w none met hand left =
+    let own = subst⁻¹ Whole (hand .0) w in
+    let e = open-changed k own (met .0) in
+    any-source ks l (k .result .desk) x y (e .whole) (λ c. ap isWaiting (e .slot c)
+    ∙ still-none (isFinished (k .result .answer) && eqb (k .camera) c) (openedFrame (k .frame) (k .parts)) (slotAt (k .desk) c) (rw (hand .0) (none c))) (met .1) (hand .1) left
+any-source (offering k source ∷ ks) l d x y w none met hand left =
+    (λ c. no-band (slotAt (k .desk) c) source y (rw (hand .0) (none c)), left .1)
+any-source (step k ∷ ks) l d x y w none met hand left =
+    (left .0, (λ c. no-band (slotAt (k .desk) c) (k .lent .source) y (rw (hand .0) (none c)), left .1 .1))
+
+-- so for whatever is asked of a desk begun with no frame open there are calls of which isolation speaks
+pub fresh-as-left : (p : Buffers) (asks : List Ask) → AsLeft noStep [] (run fresh p asks)
+fresh-as-left p asks =
+    any-source (run fresh p asks) noStep fresh (p .source) [] refl (λ c. ap isWaiting (fresh-free c)) (run-met fresh p asks) (run-handed fresh p asks)
+    (run-as-left noStep fresh p asks tt)

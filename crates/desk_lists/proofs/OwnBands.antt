@@ -1,19 +1,19 @@
 -- The planes of a camera, by isolation and demand 3: its calls are those of one frame, so its finished rows are those of a frame call with its rows.
 -- Assumes nothing.
 use Prim.Native.Nat.{ℕ, _+_, _*_, _<_}
-use mathlib.Core.Path.{_≡_, ap, _∙_}
+use mathlib.Core.Path.{_≡_, sym, ap, subst, _∙_}
 use mathlib.Core.Bool.{true}
 use mathlib.Core.List.{List, []}
 use native.Mathlib.Omega.{arith}
 use lib.ListN.{getD}
 use Rattle.definitions.specs.declared.FrameDescription.{FrameDescription}
-use Rattle.definitions.specs.Image.{finishedOf}
+use Rattle.definitions.specs.Image.{chromaSize, finishedOf}
 use Rattle.definitions.proofs.Finished.{finished-none}
 use Rattle.yuv_error.specs.Known.{Sized}
 use Rattle.sharp_rgba_to_yuv.specs.FrameCall.{FrameCall}
 use Rattle.band_calls.specs.declared.FrameState.{FrameState}
 use Rattle.band_calls.specs.BandCall.{stateOf, BandCall}
-use Rattle.band_lists.specs.BandLists.{Tally, noRows, tallyOf, Accepted, none, call, firstCall, lastCall, SameRows, After}
+use Rattle.band_lists.specs.BandLists.{Tally, noRows, tallyOf, Accepted, none, call, firstCall, lastCall, SameRows, OthersEqual, After}
 use Rattle.band_lists.proofs.Demand3.{opening-sized, demand-3}
 use Rattle.desk_places.specs.declared.FrameParts.{FrameParts}
 use Rattle.desk_places.specs.declared.Slot.{Slot}
@@ -21,7 +21,7 @@ use Rattle.desk_bands.specs.Buffers.{Buffers, FramePlanes}
 use Rattle.desk.specs.DeskCall.{fresh, slotAt}
 use Rattle.desk_lists.specs.DeskLists.{deskAfter}
 use Rattle.desk_lists.specs.Isolation.{LastStep, noStep, lastStep, lastOf, sourceAfter, callsOf, History, noFrame, since, historyOf, PlanesLeft}
-use Rattle.desk_lists.specs.Isolation.{Isolated, PartsAgree, AgreesWith, OwnRows, PlanesOfOwnBands}
+use Rattle.desk_lists.specs.Isolation.{Isolated, PartsAgree, AgreesWith, OthersAsFound, OthersKept, OwnPlanes, OwnRows, PlanesOfOwnBands}
 use Rattle.desk_lists.proofs.Kept.{openingOf}
 use Rattle.desk_lists.proofs.Isolation.{isolation}
 
@@ -54,12 +54,29 @@ agrees d w o t (lastStep k) (call i) (call j) sized a left = λ f same.
       v-rows = λ r x l m. byte-of (r * d .«v_stride» + x) (ap (λ (z : FramePlanes). z .v) left) ∙ p .v-rows r x l m;
     }
 
+others : (d : FrameDescription) (w : FrameParts) (o : FrameState) (t : Tally) (l : LastStep) (first last : Accepted)
+    → After d o t first last → PlanesLeft l w last → OthersKept d w (t .n) first l
+others d w o t l none last a left = tt
+others d w o t l (call i) none a left = absurd a
+others d w o t noStep (call i) (call j) a left = absurd left
+others d w o t (lastStep k) (call i) (call j) a left =
+    let back = sym left in
+    record {
+      y-others = subst (λ (z : FramePlanes). OthersEqual (t .n) (d .width) (d .«y_stride») (z .y) (i .y)) back (a .y-others);
+      u-others = subst (λ (z : FramePlanes). OthersEqual (finishedOf d (t .n)) (chromaSize d) (d .«u_stride») (z .u) (i .u)) back (a .u-others);
+      v-others = subst (λ (z : FramePlanes). OthersEqual (finishedOf d (t .n)) (chromaSize d) (d .«v_stride») (z .v) (i .v)) back (a .v-others);
+    }
+
 own-rows : (c : ℕ) (h : History) (s : Slot) (source : List ℕ) (l : LastStep) → Isolated c h s source l → OwnRows c h s l
 own-rows c noFrame s source l a = tt
 own-rows c (since d w ts os) s source l a = λ view.
     let ks = callsOf ts in
-    agrees d w (stateOf d 0) (tallyOf d noRows ks) l (firstCall ks) (lastCall none ks) (opening-sized d (openingOf d) (a .opened))
-    (demand-3 d (openingOf d) ks (a .opened) (a .met) (a .chained) .0) (a .planes view)
+    let t = tallyOf d noRows ks in
+    let after = demand-3 d (openingOf d) ks (a .opened) (a .met) (a .chained) .0 in
+    record {
+      rows = agrees d w (stateOf d 0) t l (firstCall ks) (lastCall none ks) (opening-sized d (openingOf d) (a .opened)) after (a .planes view);
+      others = others d w (stateOf d 0) t l (firstCall ks) (lastCall none ks) after (a .planes view);
+    }
 
 pub planes-of-own-bands : PlanesOfOwnBands
 planes-of-own-bands c calls met hand back =

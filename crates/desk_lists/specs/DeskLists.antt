@@ -11,7 +11,7 @@ use Rattle.desk.specs.declared.Served.{Served}
 use Rattle.desk.specs.declared.Served.the-variants.{Nobody, Camera}
 use Rattle.desk.specs.DeskCall.{fresh, slotAt, OpenCall, OpenPost, OfferCall, OfferPost, StepCall, StepPost}
 
--- RULES 16.5: a call of the desk; beside an offer stands the source buffer as it then was, of which the call is told the length
+-- RULES 16.5: a call of the desk; beside an offer, which is told a length, stands the source buffer as it then was
 pub data DeskCall : Type 0 where
   opening : OpenCall → DeskCall
   offering : OfferCall → (source : List ℕ) → DeskCall

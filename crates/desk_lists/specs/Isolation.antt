@@ -12,9 +12,8 @@ use Rattle.definitions.specs.declared.FrameDescription.{FrameDescription}
 use Rattle.definitions.specs.Image.{chromaSize, finishedOf}
 use Rattle.definitions.specs.Plane.{RowsEqual}
 use Rattle.sharp_rgba_to_yuv.specs.FrameCall.{FrameCall}
-use Rattle.band_calls.specs.declared.FrameAnswer.{FrameAnswer}
 use Rattle.band_calls.specs.BandCall.{stateOf, BandCall}
-use Rattle.band_lists.specs.BandLists.{Fresh, Tally, noRows, tallyOf, Accepted, none, call, firstCall, lastCall, Chained, SameRows, After}
+use Rattle.band_lists.specs.BandLists.{Fresh, Tally, noRows, tallyOf, Accepted, none, call, firstCall, lastCall, Chained, SameRows, OthersEqual}
 use Rattle.band_lists.specs.BandLists as bands
 use Rattle.buffer_parts.specs.Parts.{partOf}
 use Rattle.desk_places.specs.declared.FrameParts.{FrameParts}
@@ -27,7 +26,7 @@ use Rattle.desk.specs.declared.Desk.{Desk}
 use Rattle.desk.specs.declared.Served.{Served}
 use Rattle.desk.specs.declared.Served.the-variants.{Nobody, Camera}
 use Rattle.desk_bands.specs.Buffers.{Buffers, areLent, FramePlanes, planesIn, bandCallIn}
-use Rattle.desk.specs.DeskCall.{fresh, slotAt, openedFrame, StepCall}
+use Rattle.desk.specs.DeskCall.{fresh, slotAt, StepCall}
 use Rattle.desk_lists.specs.DeskLists.{DeskCall, opening, offering, step, AllMet, HandedOn, deskAfter, tells}
 
 -- ---- planes, carried rows and waiting bands come back as left
@@ -227,13 +226,30 @@ abbrev pub AgreesWith : FrameDescription → FrameParts → Tally → LastStep �
 AgreesWith d w t noStep = t .n ≡ 0
 AgreesWith d w t (lastStep k) = (f : FrameCall) → SameRows d t f → PartsAgree d w (t .n) (k .left) f
 
+-- RULES 16.6: every other byte of the parts is as the frame's first accepted band call found it
+pub record OthersAsFound (d : FrameDescription) (w : FrameParts) (n : ℕ) (p : Buffers) (i : BandCall) : Type 0 where
+  pub y-others : OthersEqual n (d .width) (d .«y_stride») (partOf (w .y) (p .y)) (i .y)
+  pub u-others : OthersEqual (finishedOf d n) (chromaSize d) (d .«u_stride») (partOf (w .u) (p .u)) (i .u)
+  pub v-others : OthersEqual (finishedOf d n) (chromaSize d) (d .«v_stride») (partOf (w .v) (p .v)) (i .v)
+
+-- RULES 16.6
+abbrev pub OthersKept : FrameDescription → FrameParts → (n : ℕ) → (first : Accepted) → LastStep → Type 0
+OthersKept d w n none l = Unit {0}
+OthersKept d w n (call i) noStep = ⊥
+OthersKept d w n (call i) (lastStep k) = OthersAsFound d w n (k .left) i
+
+-- RULES 16.6
+pub record OwnPlanes (d : FrameDescription) (w : FrameParts) (ks : List BandCall) (l : LastStep) : Type 0 where
+  pub rows : AgreesWith d w (tallyOf d noRows ks) l
+  pub others : OthersKept d w (tallyOf d noRows ks .n) (firstCall ks) l
+
 -- RULES 16.6
 abbrev pub OwnRows : ℕ → History → Slot → LastStep → Type 0
 OwnRows c noFrame s l = Unit {0}
-OwnRows c (since d w ts os) s l = inView c s l ≡ true → AgreesWith d w (tallyOf d noRows (callsOf ts)) l
+OwnRows c (since d w ts os) s l = inView c s l ≡ true → OwnPlanes d w (callsOf ts) l
 
--- RULES 16.6: up to its last row's step a camera's planes are those of its own accepted bands converted alone: byte for byte those of every frame
--- call with these rows
+-- RULES 16.6: up to its last row's step a camera's planes are those of its own accepted bands converted alone: the finished rows byte for byte those of
+-- every frame call with these rows, and every other byte as the first of these bands found it
 abbrev pub PlanesOfOwnBands : Type 0
 PlanesOfOwnBands =
     (c : ℕ) (calls : List DeskCall) → AllMet calls → HandedOn fresh calls → AsLeft noStep [] calls

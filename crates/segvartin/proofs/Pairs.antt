@@ -9,7 +9,7 @@ use Rattle.yuv_error.specs.Rules.{firstOf}
 use Rattle.report_numbers.specs.Numbers.{numbersAfter}
 use Rattle.segvartin.specs.Pairs.{ExportedPairing, rulesOfPairing, PairingKept}
 use Rattle.segvartin.proofs.Lists.{is-refused}
-use Rattle.segvartin.proofs.Shift.{alone}
+use Rattle.yuv_error.proofs.Plain.{alone}
 
 module _ {k : ExportedPairing} (p : PairingKept k) where
   pub pairing-first : numbers (k .number) 0 0 ≡ firstOf (rulesOfPairing k)

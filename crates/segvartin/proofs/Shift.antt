@@ -2,12 +2,12 @@
 -- Assumes nothing.
 use Prim.Native.Nat.{ℕ, _≤_}
 use mathlib.Core.Path.{_≡_, refl, sym, ap, subst, _∙_}
-use mathlib.Core.Bool.{Bool, true, false, cond}
-use mathlib.Core.List.{List, [], _∷_}
+use mathlib.Core.List.{List}
 use Rattle.yuv_error.specs.declared.YuvAnswer.{YuvAnswer}
 use Rattle.yuv_error.specs.declared.YuvAnswer.the-variants.{Refused}
 use Rattle.yuv_error.specs.Numbers.{Numbers, numbers, numbersOf}
-use Rattle.yuv_error.specs.Rules.{Rule, firstOf}
+use Rattle.yuv_error.specs.Rules.{firstOf}
+use Rattle.yuv_error.proofs.Plain.{alone}
 use Rattle.shift_file.specs.declared.ShiftForm.{ShiftForm}
 use Rattle.shift_file.specs.declared.ShiftForm.the-variants.{WithoutSettings, WithSettings}
 use Rattle.shift_reader.proofs.Post.{refused-writes-nothing}
@@ -18,23 +18,6 @@ use Rattle.segvartin.specs.Shift.{ExportedWriting, rulesOfWriting, Writi
 use Rattle.segvartin.specs.Shift.{ExportedRecord, rulesOfRecord, RecordKept}
 use Rattle.segvartin.specs.Shift.{ExportedMove, rulesOfMove, MoveKept}
 use Rattle.segvartin.proofs.Lists.{is-refused}
-
--- rules that say no size
-abbrev pub Plain : List Rule → Type 0
-Plain [] = Unit {0}
-Plain (r ∷ rs) = (r .says ≡ numbers (r .says .number) 0 0) × Plain rs
-
-plain-step : (b : Bool) (x y : Numbers) → x ≡ numbers (x .number) 0 0 → y ≡ numbers (y .number) 0 0 → cond b x y ≡ numbers (cond b x y .number) 0 0
-plain-step true x y p q = p
-plain-step false x y p q = q
-
-plain-first : (rs : List Rule) → Plain rs → firstOf rs ≡ numbers (firstOf rs .number) 0 0
-plain-first [] p = refl
-plain-first (r ∷ rs) p = plain-step (r .holds) (r .says) (firstOf rs) (p .0) (plain-first rs (p .1))
-
--- a number alone tells such an answer
-pub alone : (rs : List Rule) {n : ℕ} (a : YuvAnswer) → Plain rs → n ≡ numbersOf a .number → numbersOf a ≡ firstOf rs → numbers n 0 0 ≡ firstOf rs
-alone rs a plain is e = ap (λ (n : ℕ). numbers n 0 0) (is ∙ ap (λ (x : Numbers). x .number) e) ∙ sym (plain-first rs plain)
 
 -- an output that a refused call left
 pub unwritten : (a : YuvAnswer) (bytes : List ℕ) {before after : List ℕ} → 1 ≤ numbersOf a .number → after ≡ overwritten a bytes before → after ≡ before

@@ -6,7 +6,8 @@ use Rattle.yuv_error.specs.Numbers.{numbers}
 use Rattle.yuv_error.specs.Rules.{firstOf}
 use Rattle.segvartin.specs.Summary.{ExportedBuild, rulesOfBuild, BuildKept, ExportedCheck, rulesOfCheck, CheckKept}
 use Rattle.segvartin.specs.Summary.{ExportedFind, rulesOfFind, FindKept, ExportedUpdate, rulesOfUpdate, UpdateKept}
-use Rattle.segvartin.proofs.Shift.{alone, unwritten}
+use Rattle.yuv_error.proofs.Plain.{alone}
+use Rattle.segvartin.proofs.Shift.{unwritten}
 
 module _ {k : ExportedBuild} (p : BuildKept k) where
   pub build-first : numbers (k .number) 0 0 ≡ firstOf (rulesOfBuild k)

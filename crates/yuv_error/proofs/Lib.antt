@@ -4,4 +4,5 @@ pub mod First
 pub mod Lowest
 pub mod Accepted
 pub mod Accepts
+pub mod Plain
 pub mod Products
