@@ -7,7 +7,7 @@ use Rattle.yuv_error.specs.declared.YuvAnswer.{YuvAnswer}
 use Rattle.yuv_error.specs.declared.YuvAnswer.the-variants.{Refused}
 use Rattle.yuv_error.specs.Numbers.{Numbers, numbers, numbersOf}
 use Rattle.yuv_error.specs.Rules.{firstOf}
-use Rattle.yuv_error.proofs.Plain.{alone}
+use Rattle.yuv_error.proofs.Plain.{Plain, alone}
 use Rattle.shift_file.specs.declared.ShiftForm.{ShiftForm}
 use Rattle.shift_file.specs.declared.ShiftForm.the-variants.{WithoutSettings, WithSettings}
 use Rattle.shift_reader.proofs.Post.{refused-writes-nothing}
