@@ -6,7 +6,7 @@ use mathlib.Core.List.{List}
 use Rattle.yuv_error.specs.declared.YuvAnswer.{YuvAnswer}
 use Rattle.yuv_error.specs.Numbers.{Numbers, numbersOf, answerOf}
 use Rattle.yuv_error.proofs.Numbers.{found}
-use Rattle.segvartin.specs.Lists.{numbersTold, answerTold, doneTold}
+use Rattle.frame_calls.specs.Lists.{numbersTold, answerTold, doneTold}
 use Rattle.convoy.specs.declared.ConvoyAnswer.{ConvoyAnswer}
 use Rattle.convoy.specs.Run.{ConvoyPost}
 use Rattle.convoy_calls.specs.Calls.{ExportedConvoy, convoyWith, ConvoyKept}

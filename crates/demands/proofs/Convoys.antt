@@ -15,9 +15,9 @@ use Rattle.yuv_error.specs.Numbers.{Numbers, numbersOf}
 use Rattle.sharp_rgba_to_yuv.specs.FrameCall.{FramePost, Unwritten}
 use Rattle.band_lists.specs.BandLists.{either}
 use Rattle.call_numbers.specs.Codes.{at, descriptionOf, isMalformed}
-use Rattle.segvartin.specs.Calls.{ExportedFrame, frameWith, FrameAnswered, FrameKept}
-use Rattle.segvartin.specs.Lists.{numbersTold, doneTold}
-use Rattle.segvartin.proofs.Lists.{is-refused}
+use Rattle.frame_calls.specs.Calls.{ExportedFrame, frameWith, FrameAnswered, FrameKept}
+use Rattle.frame_calls.specs.Lists.{numbersTold, doneTold}
+use Rattle.frame_calls.proofs.Lists.{is-refused}
 use Rattle.buffer_parts.specs.Parts.{partOf}
 use Rattle.buffer_parts.proofs.Tests.{tests-are-exact}
 use Rattle.convoy_parts.specs.declared.Described.{Described}

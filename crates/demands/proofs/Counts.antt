@@ -6,7 +6,7 @@ use Rattle.yuv_error.proofs.First.{finished-number}
 use Rattle.yuv_error.proofs.Accepted.{none-holds, is-accepted}
 use Rattle.definitions.proofs.Painted.{painted-at}
 use Rattle.colour_counts.proofs.Total as total
-use Rattle.segvartin.proofs.Counts.{counts-accepted}
+use Rattle.frame_calls.proofs.Counts.{counts-accepted}
 use Rattle.demands.specs.Demands.{Counts}
 
 pub counts : Counts

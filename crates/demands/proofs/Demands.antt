@@ -39,24 +39,24 @@ use Rattle.frame_request.specs.Request.{requestRules, responseNumbers, RequestP
 use Rattle.frame_request.specs.Reply.{refusalLine, reply}
 use Rattle.colour_counts.specs.Counts.{countOf}
 use Rattle.counts_request.specs.Reply.{rangeOf, matrixOf, malformed, lines, reply as countsReply}
-use Rattle.segvartin.specs.Calls.{rulesOfFrame, frameOfOpening, rulesOfOpening, handed, rulesOfBand}
-use Rattle.segvartin.specs.Lists.{doneTold, asBands}
-use Rattle.segvartin.proofs.Lists.{frame-first, frame-writes-nothing, frame-accepted, open-first, open-done, open-accepted}
-use Rattle.segvartin.proofs.Lists.{band-first, band-writes-nothing, all-met, refused-kept}
-use Rattle.segvartin.specs.Counts.{rulesOfCounts}
-use Rattle.segvartin.proofs.Counts.{counts-first, counts-write-nothing}
+use Rattle.frame_calls.specs.Calls.{rulesOfFrame, frameOfOpening, rulesOfOpening, handed, rulesOfBand}
+use Rattle.frame_calls.specs.Lists.{doneTold, asBands}
+use Rattle.frame_calls.proofs.Lists.{frame-first, frame-writes-nothing, frame-accepted, open-first, open-done, open-accepted}
+use Rattle.frame_calls.proofs.Lists.{band-first, band-writes-nothing, all-met, refused-kept}
+use Rattle.frame_calls.specs.Counts.{rulesOfCounts}
+use Rattle.frame_calls.proofs.Counts.{counts-first, counts-write-nothing}
 use Rattle.shift_reader.specs.Reading.{fileRules}
 use Rattle.shift_reader.proofs.Post as reading
 use Rattle.shift_writer.specs.Writing.{writeRules}
 use Rattle.shift_record.specs.Record.{recordRules}
 use Rattle.shift_move.specs.Moving.{moveRules}
-use Rattle.segvartin.specs.Shift.{rulesOfReading, rulesOfReadingAny, rulesOfWriting, rulesOfRecord, rulesOfMove}
+use Rattle.shift_calls.specs.Shift.{rulesOfReading, rulesOfReadingAny, rulesOfWriting, rulesOfRecord, rulesOfMove}
 use Rattle.shift_pairs.specs.Pairing.{pairingRules}
-use Rattle.segvartin.specs.Pairs.{rulesOfPairing}
-use Rattle.segvartin.proofs.Pairs.{pairing-first, pairing-writes-nothing}
+use Rattle.shift_calls.specs.Pairs.{rulesOfPairing}
+use Rattle.shift_calls.proofs.Pairs.{pairing-first, pairing-writes-nothing}
 use Rattle.yuv_error.proofs.Plain.{alone}
-use Rattle.segvartin.proofs.Shift.{unwritten, reading-first, reading-writes-nothing, reading-any-first, reading-any-writes-nothing}
-use Rattle.segvartin.proofs.Shift.{writing-first, writing-writes-nothing, record-first, record-writes-nothing, move-first, move-writes-nothing}
+use Rattle.shift_calls.proofs.Shift.{unwritten, reading-first, reading-writes-nothing, reading-any-first, reading-any-writes-nothing}
+use Rattle.shift_calls.proofs.Shift.{writing-first, writing-writes-nothing, record-first, record-writes-nothing, move-first, move-writes-nothing}
 use Rattle.shift_file.specs.declared.ShiftForm.{ShiftForm}
 use Rattle.shift_file.specs.declared.ShiftForm.the-variants.{WithoutSettings, WithSettings}
 use Rattle.shift_file.specs.Read.{recordsIn}
@@ -69,8 +69,8 @@ use Rattle.summary_calls.specs.declared.SummaryFinding.{SummaryFinding}
 use Rattle.summary_calls.specs.Found.{foundAmong}
 use Rattle.summary_calls.specs.Calls.{buildRules, CheckPost, findRules, foundTold, FindPost}
 use Rattle.summary_update.specs.Update.{updateRules}
-use Rattle.segvartin.specs.Summary.{asNumber, foundCount, foundPlace, rulesOfBuild, rulesOfCheck, rulesOfFind, rulesOfUpdate}
-use Rattle.segvartin.proofs.Summary.{build-first, build-writes-nothing, check-first, find-first, update-first, update-writes-nothing}
+use Rattle.shift_calls.specs.Summary.{asNumber, foundCount, foundPlace, rulesOfBuild, rulesOfCheck, rulesOfFind, rulesOfUpdate}
+use Rattle.shift_calls.proofs.Summary.{build-first, build-writes-nothing, check-first, find-first, update-first, update-writes-nothing}
 use Rattle.y4m_reader.specs.declared.Y4mReading.{Y4mReading}
 use Rattle.y4m_reader.specs.Entry.{entriesOf}
 use Rattle.y4m_reader.specs.Reading.{fileRules as y4mFileRules, ReadPost as Y4mReadPost}
@@ -81,7 +81,7 @@ use Rattle.convoy.proofs.Answers.{convoy-lowest, unwritten as convoy-unwritten}
 use Rattle.desk.specs.DeskCall.{openRules as deskOpenRules, offerRules}
 use Rattle.desk_calls.specs.Calls.{rulesOfDeskOpen, servedNumbers, stepWith}
 use Rattle.desk_lists.specs.FromNumbers.{asOffering}
-use Rattle.segvartin.specs.Lists.{numbersTold}
+use Rattle.frame_calls.specs.Lists.{numbersTold}
 use Rattle.demands.proofs.ConvoyTold.{convoy-met, convoy-told}
 use Rattle.demands.proofs.DeskTold.{step-lowest, step-unwritten}
 use Rattle.demands.specs.Demands.{asConvoy, Replied, CountsReplied, Demand1, Demand2, Demand3, WholeFrame, FrameBytes}
@@ -280,7 +280,7 @@ demand-1 = record {
       };
   linked-desk-offer = λ k p. record {
     lowest = lowest (offerRules (asOffering k)) refl
-    (alone (offerRules (asOffering k)) (p .result .answer) (refl, (refl, (refl, (refl, tt)))) (p .number) (p .offered .answered));
+        (alone (offerRules (asOffering k)) (p .result .answer) (refl, (refl, (refl, (refl, tt)))) (p .number) (p .offered .answered));
     writes-nothing = λ l. rw (refusal (p .result .answer) (rw (p .number) at l) .1) at (p .after);
   };
   linked-desk-step = λ k p.

@@ -35,9 +35,9 @@ use Rattle.frame_request.specs.Request.{frameOf, sourceStride, openingRules, bu
 use Rattle.frame_request.specs.Request.{outputAt, outputSize}
 use Rattle.frame_request.proofs.Checked.{frame-asks}
 use Rattle.frame_request.proofs.Output.{luma-byte, cb-byte, cr-byte}
-use Rattle.segvartin.specs.Calls.{frameOfOpening, handed}
-use Rattle.segvartin.specs.Lists.{doneTold, asFrame, asBands}
-use Rattle.segvartin.proofs.Lists.{frame-accepted, open-done, open-accepted, all-met}
+use Rattle.frame_calls.specs.Calls.{frameOfOpening, handed}
+use Rattle.frame_calls.specs.Lists.{doneTold, asFrame, asBands}
+use Rattle.frame_calls.proofs.Lists.{frame-accepted, open-done, open-accepted, all-met}
 use Rattle.exact_weights.proofs.Near.{matrix-near}
 use Rattle.grey.specs.Grey.{greyOf, GreyRows, LumaOfGrey, GreyPlanes}
 use Rattle.grey.proofs.Planes.{luma-at, cb-at, cr-at, planes-grey}

@@ -23,8 +23,8 @@ use Rattle.shift_pairs.specs.Pairing.{brokenFile, PairingPost}
 use Rattle.shift_pairs.proofs.Counts.{one-or-none, counts-add-up}
 use Rattle.shift_pairs.proofs.First.{first-or-none}
 use Rattle.report_numbers.specs.Numbers.{reportNumbers, numbersAfter}
-use Rattle.segvartin.specs.Pairs.{ExportedPairing, PairingKept}
-use Rattle.segvartin.proofs.Pairs.{pairing-writes-nothing}
+use Rattle.shift_calls.specs.Pairs.{ExportedPairing, PairingKept}
+use Rattle.shift_calls.proofs.Pairs.{pairing-writes-nothing}
 use Rattle.demands.specs.Demands.{NoFile, ShiftPairs}
 
 -- ---- which file is none, by the two tests

@@ -40,11 +40,11 @@ use Rattle.band_lists.specs.BandLists as calls
 use Rattle.frame_request.specs.declared.Response.{Response}
 use Rattle.frame_request.specs.Request.{frameOf, sourceStride, requestRules, lumaSize, outputSize, answerAt, responseNumbers, RequestPost}
 use Rattle.frame_request.specs.Reply.{firstBytes, refusalLine, reply as replyTo, Begins}
-use Rattle.segvartin.specs.Calls.{ExportedFrame, rulesOfFrame, FrameKept}
-use Rattle.segvartin.specs.Calls.{ExportedOpening, frameOfOpening, rulesOfOpening, OpenKept}
-use Rattle.segvartin.specs.Calls.{ExportedBand, rulesOfBand, Kept, BandKept}
-use Rattle.segvartin.specs.Lists.{numbersTold, doneTold, openedState, asFrame, asBands, AllKept, RefusedKept}
-use Rattle.segvartin.specs.Counts.{ExportedCounts, rangeOfCounts, matrixOfCounts, rulesOfCounts, CountsKept}
+use Rattle.frame_calls.specs.Calls.{ExportedFrame, rulesOfFrame, FrameKept}
+use Rattle.frame_calls.specs.Calls.{ExportedOpening, frameOfOpening, rulesOfOpening, OpenKept}
+use Rattle.frame_calls.specs.Calls.{ExportedBand, rulesOfBand, Kept, BandKept}
+use Rattle.frame_calls.specs.Lists.{numbersTold, doneTold, openedState, asFrame, asBands, AllKept, RefusedKept}
+use Rattle.frame_calls.specs.Counts.{ExportedCounts, rangeOfCounts, matrixOfCounts, rulesOfCounts, CountsKept}
 use Rattle.colour_counts.specs.Counts.{colours, countOf, sumBelow, CountsPost, Total, EveryColour, ByRangeAndMatrix}
 use Rattle.counts_request.specs.Reply.{rangeOf, matrixOf, malformed, lines, reply as countsReply}
 use Rattle.exact_weights.specs.Near.{MatrixNear}
@@ -69,10 +69,10 @@ use Rattle.shift_record.specs.Record.{settingsOf, frameSampling, recordMade, re
 use Rattle.shift_move.specs.Move.{otherForm, mayMove, moved, movedFile}
 use Rattle.shift_move.specs.Moving.{moveRules, MovePost}
 use Rattle.shift_move.specs.Means.{MovedIsFile, MayReturn, ThereAndBack}
-use Rattle.segvartin.specs.Shift.{ExportedReading, rulesOfReading, ReadingKept, rulesOfReadingAny, ReadingAnyKept}
-use Rattle.segvartin.specs.Shift.{ExportedWriting, rulesOfWriting, WritingKept}
-use Rattle.segvartin.specs.Shift.{ExportedRecord, rulesOfRecord, RecordKept}
-use Rattle.segvartin.specs.Shift.{ExportedMove, rulesOfMove, MoveKept}
+use Rattle.shift_calls.specs.Shift.{ExportedReading, rulesOfReading, ReadingKept, rulesOfReadingAny, ReadingAnyKept}
+use Rattle.shift_calls.specs.Shift.{ExportedWriting, rulesOfWriting, WritingKept}
+use Rattle.shift_calls.specs.Shift.{ExportedRecord, rulesOfRecord, RecordKept}
+use Rattle.shift_calls.specs.Shift.{ExportedMove, rulesOfMove, MoveKept}
 use Rattle.shift_summary.specs.Summary.{IsSummary, OneSummary}
 use Rattle.summary_calls.specs.declared.FoundRecord.the-variants.{At, Nowhere}
 use Rattle.summary_calls.specs.declared.SummaryVerdict.{SummaryVerdict}
@@ -81,15 +81,15 @@ use Rattle.summary_calls.specs.Found.{IsFirst}
 use Rattle.summary_calls.specs.Calls.{buildRules, BuildPost, CheckPost, findRules, FindPost}
 use Rattle.summary_update.specs.Update.{updateRules, UpdatePost}
 use Rattle.summary_update.specs.Summaries.{Left}
-use Rattle.segvartin.specs.Summary.{ExportedBuild, rulesOfBuild, BuildKept, ExportedCheck, rulesOfCheck, CheckKept}
-use Rattle.segvartin.specs.Summary.{ExportedFind, rulesOfFind, FindKept, ExportedUpdate, rulesOfUpdate, UpdateKept}
+use Rattle.shift_calls.specs.Summary.{ExportedBuild, rulesOfBuild, BuildKept, ExportedCheck, rulesOfCheck, CheckKept}
+use Rattle.shift_calls.specs.Summary.{ExportedFind, rulesOfFind, FindKept, ExportedUpdate, rulesOfUpdate, UpdateKept}
 use Rattle.record_difference.specs.Record.{SameIsEqual, PlaceIsFirst, SizesAreTold}
 use Rattle.shift_pairs.specs.declared.Pairing.{Pairing}
 use Rattle.shift_pairs.specs.Report.{reportOf}
 use Rattle.shift_pairs.specs.Means.{OneOrNone, CountsAddUp, FirstOrNone}
 use Rattle.shift_pairs.specs.Pairing.{pairingRules, PairingPost}
 use Rattle.report_numbers.specs.Numbers.{reportNumbers}
-use Rattle.segvartin.specs.Pairs.{ExportedPairing, rulesOfPairing, PairingKept}
+use Rattle.shift_calls.specs.Pairs.{ExportedPairing, rulesOfPairing, PairingKept}
 use Rattle.yuv_support.specs.Sampling.{chromaWidth}
 use Rattle.y4m_file.specs.File.{Y4mPicture, Y4mFile, EachAllowed, lumaBytes, chromaBytes, pictureBytes, IsFileOf as IsY4mOf}
 use Rattle.y4m_file.specs.Means.{SomeFile, OneFile, ReadBack as Y4mReadBack, Rewritten as Y4mRewritten}
@@ -105,7 +105,7 @@ use Rattle.y4m_picture.specs.Means.{planesMade}
 use Rattle.y4m_calls.specs.Calls.{ExportedY4mReading, rulesOfY4mReading, Y4mReadingKept}
 use Rattle.y4m_calls.specs.Calls.{ExportedY4mWriting, widthGiven, heightGiven, samplingGiven, rulesOfY4mWriting, Y4mWritingKept}
 use Rattle.y4m_calls.specs.Calls.{ExportedY4mPicture, frameOfPicture, rulesOfY4mPicture, Y4mPictureKept}
-use Rattle.segvartin.specs.Lists.{answerTold}
+use Rattle.frame_calls.specs.Lists.{answerTold}
 use Rattle.buffer_parts.specs.Parts.{partOf, TestsAreExact}
 use Rattle.convoy_parts.specs.declared.ConvoyFrame.{ConvoyFrame}
 use Rattle.convoy_parts.specs.Parts.{frameAt, framesOf, Broken, BrokenIsExact}

@@ -80,6 +80,6 @@ module _ (n : DeskNumbers) (lent : Buffers) (r : StepAnswer) (after : Buffers) (
           let written : stepLeft n (r .served) (r .desk) ≡ askFirst (putPlace n c s) ((c + 1) % 32) = rw (p .served, same, p .desk) in
           let put = put-sized n c s sized l in
           let asked = desk-ask (putPlace n c s) ((c + 1) % 32) put
-              ∙ ap (λ (d : Desk). let e : Desk = record { places = d .places; from = (c + 1) % 32 } in e) (desk-put n c s sized l) in
+          ∙ ap (λ (d : Desk). let e : Desk = record { places = d .places; from = (c + 1) % 32 } in e) (desk-put n c s sized l) in
           subst (λ (m : DeskNumbers). Are m (r .desk)) (sym written)
           (record { sized = ask-sized (putPlace n c s) ((c + 1) % 32) put; desk = asked ∙ sym (p .desk) })

@@ -85,7 +85,7 @@ module _ (k : ExportedDeskOpen) (p : DeskOpenKept k) (sized : Sized (k .before))
       subst (λ (r : DeskAnswer). OpenPost (openCall (deskOf (k .before)) (k .camera) d w n r)) (sym result-is)
       (record {
         answered = skip-1 (isMalformed 0 (k .described)) (numberRules ps (k .camera) ++ partRules ps w n) (openingRules d) (numbersOf (p .result .answer))
-        refl (p .opened .answered) (λ e. other (p .number ∙ e));
+            refl (p .opened .answered) (λ e. other (p .number ∙ e));
         desk = p .opened .desk;
       })
 
@@ -240,8 +240,8 @@ unfolding deskOf placeOf
 waits n c below is =
     let place = list-at (placeOf n) 0 32 c (record { slot = Free }) below ∙ ap (placeOf n) (let e : 0 + c ≡ c = omega arith in e) in
     let first : at (ofCamera 19 (n .numbers) c) 0 ≡ 2 =
-        getD-take 19 (drop (19 * c) (n .numbers)) 0 0 (omega arith) ∙ getD-drop (19 * c) (n .numbers) 0 0
-        ∙ ap (λ (i : ℕ). getD (n .numbers) i 0) (let e : 19 * c + 0 ≡ 19 * c = omega arith in e) ∙ is in
+    getD-take 19 (drop (19 * c) (n .numbers)) 0 0 (omega arith) ∙ getD-drop (19 * c) (n .numbers) 0 0
+    ∙ ap (λ (i : ℕ). getD (n .numbers) i 0) (let e : 19 * c + 0 ≡ 19 * c = omega arith in e) ∙ is in
     ap (λ (p : Place). isWaiting (p .slot)) place ∙ rw first
 
 pub numbered-fairness : NumberedFairness

@@ -76,11 +76,11 @@ module _ (n : DeskNumbers) (c : ℕ) (s : Slot) (sized : Sized n) (below : c < 3
   unfolding placeOf putPlace
   there k other =
       let numbers = kept 19 0 (n .numbers) c (slotNumbers s) numbers-inside (numbers-size s) k
-          (λ o. other (omega (arith, o .1 .0 .0, o .1 .0 .1, o .1 .1 .0, o .1 .1 .1))) in
+      (λ o. other (omega (arith, o .1 .0 .0, o .1 .0 .1, o .1 .1 .0, o .1 .1 .1))) in
       let customs = kept 2 nan (n .customs) c (slotCustoms s) customs-inside (customs-size s) k
-          (λ o. other (omega (arith, o .1 .0 .0, o .1 .0 .1, o .1 .1 .0, o .1 .1 .1))) in
+      (λ o. other (omega (arith, o .1 .0 .0, o .1 .0 .1, o .1 .1 .0, o .1 .1 .1))) in
       let parts = kept 10 0 (n .parts) c (slotParts s) parts-inside (parts-size s) k
-          (λ o. other (omega (arith, o .1 .0 .0, o .1 .0 .1, o .1 .1 .0, o .1 .1 .1))) in
+      (λ o. other (omega (arith, o .1 .0 .0, o .1 .0 .1, o .1 .1 .0, o .1 .1 .1))) in
       λ i. let p : Place = record { slot = slotOf (numbers i) (customs i) (parts i) } in p
 
   pub put-sized : Sized (putPlace n c s)
@@ -118,8 +118,8 @@ module _ (n : DeskNumbers) (c : ℕ) (s : Slot) (sized : Sized n) (below : c < 3
   desk-put =
       let size : length (listFrom (placeOf (putPlace n c s)) 0 32) ≡ 32 = list-length (placeOf (putPlace n c s)) 0 32 in
       let places = ext-getD none (listFrom (placeOf (putPlace n c s)) 0 32) (set (listFrom (placeOf n) 0 32) c (record { slot = s }))
-          (size ∙ sym (length-set (listFrom (placeOf n) 0 32) c (record { slot = s }) ∙ list-length (placeOf n) 0 32))
-          (λ k l. place-at k (omega (arith, size))) in
+      (size ∙ sym (length-set (listFrom (placeOf n) 0 32) c (record { slot = s }) ∙ list-length (placeOf n) 0 32))
+      (λ k l. place-at k (omega (arith, size))) in
       λ i. let r : Desk = record { places = places i; from = same-from i } in r
 
 -- ---- another camera to be asked first
@@ -132,9 +132,9 @@ module _ (n : DeskNumbers) (from : ℕ) (sized : Sized n) where
   unfolding placeOf
   same-place k l =
       let numbers = part-same (record { offset = 608; length = 1 }) (cameraPart 19 k) 0 (n .numbers) (set (n .numbers) 608 from)
-          (length-set (n .numbers) 608 from)
-          (λ i out. getD-set-other (n .numbers) 608 i from 0 (λ e. out (omega (arith, e), omega (arith, e))))
-          (λ o. absurd (omega (arith, o .1 .0 .0, o .1 .0 .1, o .1 .1 .0, o .1 .1 .1))) in
+      (length-set (n .numbers) 608 from)
+      (λ i out. getD-set-other (n .numbers) 608 i from 0 (λ e. out (omega (arith, e), omega (arith, e))))
+      (λ o. absurd (omega (arith, o .1 .0 .0, o .1 .0 .1, o .1 .1 .0, o .1 .1 .1))) in
       λ i. let p : Place = record { slot = slotOf (numbers i) (ofCamera 2 (n .customs) k) (ofCamera 10 (n .parts) k) } in p
 
   pub desk-ask : deskOf (askFirst n from) ≡ record { places = deskOf n .places; from = from }
@@ -143,13 +143,13 @@ module _ (n : DeskNumbers) (from : ℕ) (sized : Sized n) where
       let none : Place = record { slot = Free } in
       let size : length (listFrom (placeOf (askFirst n from)) 0 32) ≡ 32 = list-length (placeOf (askFirst n from)) 0 32 in
       let places = ext-getD none (listFrom (placeOf (askFirst n from)) 0 32) (listFrom (placeOf n) 0 32)
-          (size ∙ sym (list-length (placeOf n) 0 32))
-          (λ k l. let less : k < 32 = omega (arith, size) in
-          let is : 0 + k ≡ k = omega arith in
-          list-at (placeOf (askFirst n from)) 0 32 k none less
-          ∙ ap (placeOf (askFirst n from)) is
-          ∙ same-place k less
-          ∙ sym (list-at (placeOf n) 0 32 k none less ∙ ap (placeOf n) is)) in
+      (size ∙ sym (list-length (placeOf n) 0 32))
+      (λ k l. let less : k < 32 = omega (arith, size) in
+      let is : 0 + k ≡ k = omega arith in
+      list-at (placeOf (askFirst n from)) 0 32 k none less
+      ∙ ap (placeOf (askFirst n from)) is
+      ∙ same-place k less
+      ∙ sym (list-at (placeOf n) 0 32 k none less ∙ ap (placeOf n) is)) in
       let first = getD-set-same (n .numbers) 608 from 0 (omega (arith, sized .numbers)) in
       λ i. let r : Desk = record { places = places i; from = first i } in r
 

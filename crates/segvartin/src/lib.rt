@@ -1,66 +1,20 @@
 // The functions that C links: numbers and lent bytes, no enum and no struct. A caller's numbers come in a slice, so that a later setting is one
-// number more and no signature changes; how many there are says which call is meant. include/segvartin.h declares these functions, and has
-// calls with structs over them.
-use band_calls::FrameState;
-use call_numbers::Told;
-use shift_file::SettingCodes;
+// number more and no signature changes; how many there are says which call is meant. Each is one call of the crate that has its work.
+// include/segvartin.h declares these functions, and has calls with structs over them.
 use shift_file::ShiftForm;
-use shift_pairs::Pairing;
-use shift_reader::EntryKind;
-use shift_reader::ShiftReading;
-use shift_record::RecordFrame;
-use shift_writer::ShiftWritten;
-use summary_calls::FoundRecord;
-use summary_calls::SummaryFinding;
-use summary_calls::SummaryVerdict;
-use yuv_error::YuvAnswer;
-use yuv_error::YuvError;
-ghost use mathlib.Core.Path.{_≡_};
-ghost use mathlib.Core.List.{[], _∷_};
-ghost use Prim.Native.Nat.{_≤_};
-ghost use lib.ListN.{length, set};
-ghost use Rattle.yuv_error.specs.Numbers.{numbersOf};
-ghost use Rattle.segvartin.specs.Calls.{exportedFrame, FrameAnswered, FrameKept};
-ghost use Rattle.segvartin.specs.Calls.{exportedOpening, OpenAnswered, OpenKept};
-ghost use Rattle.segvartin.specs.Calls.{exportedBand, BandAnswered, BandKept};
+ghost use Rattle.frame_calls.specs.Calls.{exportedFrame, FrameKept, exportedOpening, OpenKept, exportedBand, BandKept};
+ghost use Rattle.frame_calls.specs.Counts.{exportedCounts, CountsKept};
 ghost use Rattle.convoy.specs.Run.{planesOf};
 ghost use Rattle.convoy_calls.specs.Calls.{exportedConvoy, ConvoyKept};
 ghost use Rattle.desk_bands.specs.Buffers.{buffersOf};
 ghost use Rattle.desk_numbers.specs.Numbers.{deskNumbers};
 ghost use Rattle.desk_calls.specs.Calls.{exportedDeskOpen, DeskOpenKept, exportedDeskOffer, DeskOfferKept, exportedDeskStep, DeskStepKept};
-ghost use Rattle.segvartin.specs.Counts.{exportedCounts, CountsAnswered, CountsKept};
-ghost use Rattle.segvartin.specs.Summary.{exportedBuild, BuildKept, exportedCheck, asNumber, CheckKept};
-ghost use Rattle.segvartin.specs.Summary.{exportedFind, foundCount, foundPlace, FindKept, exportedUpdate, UpdateKept};
-ghost use Rattle.segvartin.specs.Pairs.{exportedPairing, PairingKept};
-ghost use Rattle.yuv_error.specs.Lent.{taken};
-ghost use Rattle.segvartin.specs.Shift.{exportedReading, ReadingKept, formNumber, ReadingAnyKept, exportedWriting, WritingKept};
-ghost use Rattle.segvartin.specs.Shift.{exportedRecord, RecordKept, exportedMove, MoveKept};
+ghost use Rattle.shift_calls.specs.Shift.{exportedReading, ReadingKept, ReadingAnyKept, exportedWriting, WritingKept};
+ghost use Rattle.shift_calls.specs.Shift.{exportedRecord, RecordKept, exportedMove, MoveKept};
+ghost use Rattle.shift_calls.specs.Summary.{exportedBuild, BuildKept, exportedCheck, CheckKept, exportedFind, FindKept, exportedUpdate, UpdateKept};
+ghost use Rattle.shift_calls.specs.Pairs.{exportedPairing, PairingKept};
 ghost use Rattle.y4m_calls.specs.Calls.{exportedY4mReading, Y4mReadingKept, exportedY4mWriting, Y4mWritingKept};
 ghost use Rattle.y4m_calls.specs.Calls.{exportedY4mPicture, Y4mPictureKept};
-
-// What stands before the description: the source's stride of a frame; the rows done, the rows and the source's stride of a band.
-const OF_FRAME: usize = 1;
-
-const OF_BAND: usize = 3;
-
-// The frame call, once the numbers have a meaning.
-fn frame_answer(
-    numbers: &[u32],
-    custom: &[f32; 2],
-    source: &[u8],
-    y: &mut [u8],
-    u: &mut [u8],
-    v: &mut [u8],
-) -> YuvAnswer
-    ensures { λ a. ⌜ FrameAnswered (exportedFrame (now (numbers .entry)) (now (custom .entry)) (now (source .entry))
-        (now (y .entry)) (now (u .entry)) (now (v .entry)) 0 [] (now (y .exit)) (now (u .exit)) (now (v .exit))) a ⌝ }
-{
-    if call_numbers::is_malformed(OF_FRAME, numbers) {
-        return YuvAnswer::Refused(YuvError::MalformedRequest);
-    }
-    let frame = call_numbers::describe_after(OF_FRAME, numbers, custom);
-    sharp_rgba_to_yuv::rgbx_to_sharp_yuv(frame, source, numbers[0], y, u, v)
-}
 
 // Converts a whole frame (0), or answers the number of one refusal and writes no byte of a plane: 1 for numbers without a meaning, else 2, 3, 4,
 // 14 or 6 to 12. numbers: the source's stride, then the description. told: expected and received.
@@ -77,7 +31,7 @@ pub extern "C" fn segvartin_call_frame(
     ensures { λ n. ⌜ FrameKept (exportedFrame (now (numbers .entry)) (now (custom .entry)) (now (source .entry))
         (now (y .entry)) (now (u .entry)) (now (v .entry)) n (now (told .exit)) (now (y .exit)) (now (u .exit)) (now (v .exit))) ⌝ }
 {
-    call_numbers::tell_answer(frame_answer(numbers, custom, source, y, u, v), told)
+    frame_calls::call_frame(numbers, custom, source, y, u, v, told)
 }
 
 // Converts a convoy of up to 64 frames over one source and one buffer for each plane (0), as single calls in order would; or answers the number of
@@ -184,25 +138,6 @@ pub extern "C" fn segvartin_call_desk_step(
     desk_calls::call_desk_step(source, y, u, v, carried, numbers, customs, parts, told)
 }
 
-// The opening, once the numbers have a meaning.
-fn open_told(numbers: &[u32], custom: &[f32; 2]) -> Told
-    ensures { λ t. ⌜ OpenAnswered (exportedOpening (now (numbers .entry)) (now (custom .entry)) 0 []) (t .answer) (t .done) ⌝ }
-{
-    if call_numbers::is_malformed(0, numbers) {
-        return Told {
-            answer: YuvAnswer::Refused(YuvError::MalformedRequest),
-            done: 0,
-        };
-    }
-    let opened = FrameState::open(call_numbers::describe_after(0, numbers, custom));
-    let answer = opened.answer;
-    let state = opened.state;
-    Told {
-        answer,
-        done: state.done,
-    }
-}
-
 // Opens a frame that comes in bands (0), or answers the number of one refusal: 1 for numbers without a meaning, else 2, 3, 4 or 14.
 // numbers: the description. told: expected, received, and the rows done, 0.
 #[no_mangle]
@@ -213,41 +148,7 @@ pub extern "C" fn segvartin_call_open(
 ) -> u32
     ensures { λ n. ⌜ OpenKept (exportedOpening (now (numbers .entry)) (now (custom .entry)) n (now (told .exit))) ⌝ }
 {
-    call_numbers::tell(open_told(numbers, custom), told)
-}
-
-// The band call, once the numbers have a meaning.
-fn band_told(
-    numbers: &[u32],
-    custom: &[f32; 2],
-    source: &[u8],
-    y: &mut [u8],
-    u: &mut [u8],
-    v: &mut [u8],
-    carried: &mut [u8],
-) -> Told
-    ensures { λ t. ⌜ BandAnswered (exportedBand (now (numbers .entry)) (now (custom .entry)) (now (source .entry))
-        (now (y .entry)) (now (u .entry)) (now (v .entry)) (now (carried .entry))
-        0 [] (now (y .exit)) (now (u .exit)) (now (v .exit)) (now (carried .exit))) (t .answer) (t .done) ⌝ }
-{
-    if call_numbers::is_malformed(OF_BAND, numbers) {
-        return Told {
-            answer: YuvAnswer::Refused(YuvError::MalformedRequest),
-            done: call_numbers::number_at(numbers, 0),
-        };
-    }
-    let frame = call_numbers::describe_after(OF_BAND, numbers, custom);
-    let before = FrameState {
-        frame,
-        done: numbers[0],
-    };
-    let converted = before.band(numbers[1], source, numbers[2], y, u, v, carried);
-    let answer = converted.answer;
-    let after = converted.state;
-    Told {
-        answer,
-        done: after.done,
-    }
+    frame_calls::call_open(numbers, custom, told)
 }
 
 // Converts the next rows of a frame (0), or answers the number of one refusal, writes no byte of a plane or of the carried row and leaves the rows
@@ -268,20 +169,7 @@ pub extern "C" fn segvartin_call_band(
         (now (y .entry)) (now (u .entry)) (now (v .entry)) (now (carried .entry))
         n (now (told .exit)) (now (y .exit)) (now (u .exit)) (now (v .exit)) (now (carried .exit))) ⌝ }
 {
-    call_numbers::tell(band_told(numbers, custom, source, y, u, v, carried), told)
-}
-
-// The counts, once the numbers have a meaning.
-fn counts_answer(numbers: &[u32], custom: &[f32; 2], counts: &mut [u32; 256]) -> YuvAnswer
-    ensures { λ a. ⌜ CountsAnswered (exportedCounts (now (numbers .entry)) (now (custom .entry)) (now (counts .entry))
-        0 [] (now (counts .exit))) a ⌝ }
-{
-    if call_numbers::is_malformed_range_and_matrix(numbers) {
-        return YuvAnswer::Refused(YuvError::MalformedRequest);
-    }
-    let range = setting_codes::range_of(numbers[0]);
-    let matrix = call_numbers::matrix_of(numbers[1], custom);
-    colour_counts::colour_counts(range, matrix, counts)
+    frame_calls::call_band(numbers, custom, source, y, u, v, carried, told)
 }
 
 // Counts how many of the 16,777,216 colours have each luma (0), or answers the number of one refusal and writes no count: 1 for numbers without a
@@ -296,20 +184,7 @@ pub extern "C" fn segvartin_call_luma_counts(
     ensures { λ n. ⌜ CountsKept (exportedCounts (now (numbers .entry)) (now (custom .entry)) (now (counts .entry))
         n (now (told .exit)) (now (counts .exit))) ⌝ }
 {
-    call_numbers::tell_answer(counts_answer(numbers, custom, counts), told)
-}
-
-// ---- The shift file. Its refusals 15 and 16 come without expected and received, so those who answer no other have room for counts instead.
-
-fn tell_reading(reading: ShiftReading, told: &mut [usize]) -> u32
-    requires { ⌜ 2 ≤ length (now told) ⌝ }
-    ensures { λ n. ⌜ (n ≡ numbersOf (reading .answer) .number) × (now (told .exit) ≡ set (set (now (told .entry)) 0 (reading .count)) 1 (reading .told)) ⌝ }
-{
-    let answer = reading.answer;
-    let numbered = error_numbers::answer_numbers(answer);
-    told[0] = reading.count;
-    told[1] = reading.told;
-    numbered.number
+    frame_calls::call_luma_counts(numbers, custom, counts, told)
 }
 
 // How many records a shift file has (0), or 15 where these bytes are none, with nothing written. Eleven numbers go to `entries` for each record from
@@ -324,38 +199,7 @@ pub extern "C" fn segvartin_call_shift_records(
 ) -> u32
     ensures { λ n. ⌜ ReadingKept (exportedReading (now (file .entry)) first (now (entries .entry)) n (now (told .exit)) (now (entries .exit))) ⌝ }
 {
-    let reading = shift_reader::read_records(
-        EntryKind::Places,
-        ShiftForm::WithoutSettings,
-        file,
-        first,
-        entries,
-    );
-    tell_reading(reading, told)
-}
-
-fn form_told(answer: YuvAnswer, form: ShiftForm) -> usize
-    ensures { λ r. ⌜ r ≡ taken answer (formNumber form) ⌝ }
-{
-    match answer {
-        YuvAnswer::Finished => match form {
-            ShiftForm::WithoutSettings => 0,
-            ShiftForm::WithSettings => 1,
-        },
-        YuvAnswer::Refused(_) => 0,
-    }
-}
-
-fn tell_reading_any(reading: ShiftReading, form: ShiftForm, told: &mut [usize]) -> u32
-    requires { ⌜ 3 ≤ length (now told) ⌝ }
-    ensures { λ n. ⌜ (n ≡ numbersOf (reading .answer) .number)
-        × (now (told .exit) ≡ set (set (set (now (told .entry)) 0 (reading .count)) 1 (reading .told)) 2 (taken (reading .answer) (formNumber form))) ⌝ }
-{
-    let answer = reading.answer;
-    told[0] = reading.count;
-    told[1] = reading.told;
-    told[2] = form_told(answer, form);
-    number_of(answer)
+    shift_calls::call_shift_records(file, first, entries, told)
 }
 
 // As `segvartin_call_shift_records`, of a file of either form, with fifteen numbers an entry: the eleven, then the codes of sampling, range, matrix
@@ -370,25 +214,7 @@ pub extern "C" fn segvartin_call_shift_records_any(
 ) -> u32
     ensures { λ n. ⌜ ReadingAnyKept (exportedReading (now (file .entry)) first (now (entries .entry)) n (now (told .exit)) (now (entries .exit))) ⌝ }
 {
-    let form = shift_file::form_of(file);
-    let reading = shift_reader::read_records(
-        EntryKind::PlacesAndSettings,
-        form,
-        file,
-        first,
-        entries,
-    );
-    tell_reading_any(reading, form, told)
-}
-
-fn tell_size(written: ShiftWritten, told: &mut [usize]) -> u32
-    requires { ⌜ 1 ≤ length (now told) ⌝ }
-    ensures { λ n. ⌜ (n ≡ numbersOf (written .answer) .number) × (now (told .exit) ≡ set (now (told .entry)) 0 (written .size)) ⌝ }
-{
-    let answer = written.answer;
-    let numbered = error_numbers::answer_numbers(answer);
-    told[0] = written.size;
-    numbered.number
+    shift_calls::call_shift_records_any(file, first, entries, told)
 }
 
 // Writes the shift file of records back to back (0); or answers 15 where they are no list of records that has a file, 16 where `file` is shorter than
@@ -401,8 +227,7 @@ pub extern "C" fn segvartin_call_shift_write(
 ) -> u32
     ensures { λ n. ⌜ WritingKept ShiftForm.WithoutSettings (exportedWriting (now (records .entry)) (now (file .entry)) n (now (told .exit)) (now (file .exit))) ⌝ }
 {
-    let written = shift_writer::write_file(ShiftForm::WithoutSettings, records, file);
-    tell_size(written, told)
+    shift_calls::call_shift_write(records, file, told)
 }
 
 // As `segvartin_call_shift_write`, of records and a file with settings.
@@ -414,8 +239,7 @@ pub extern "C" fn segvartin_call_shift_write_settings(
 ) -> u32
     ensures { λ n. ⌜ WritingKept ShiftForm.WithSettings (exportedWriting (now (records .entry)) (now (file .entry)) n (now (told .exit)) (now (file .exit))) ⌝ }
 {
-    let written = shift_writer::write_file(ShiftForm::WithSettings, records, file);
-    tell_size(written, told)
+    shift_calls::call_shift_write_settings(records, file, told)
 }
 
 // Writes a shift file without settings as one with them, 4:2:0 and nothing recorded, at the front of `output` (0); or answers 15 where these bytes are
@@ -428,8 +252,7 @@ pub extern "C" fn segvartin_call_shift_forward(
 ) -> u32
     ensures { λ n. ⌜ MoveKept ShiftForm.WithoutSettings (exportedMove (now (file .entry)) (now (output .entry)) n (now (told .exit)) (now (output .exit))) ⌝ }
 {
-    let written = shift_move::move_forward(file, output);
-    tell_size(written, told)
+    shift_calls::call_shift_forward(file, output, told)
 }
 
 // Writes a shift file with settings as one without them at the front of `output` (0); or answers 15 where these bytes are no shift file with settings,
@@ -443,19 +266,7 @@ pub extern "C" fn segvartin_call_shift_back(
 ) -> u32
     ensures { λ n. ⌜ MoveKept ShiftForm.WithSettings (exportedMove (now (file .entry)) (now (output .entry)) n (now (told .exit)) (now (output .exit))) ⌝ }
 {
-    let written = shift_move::move_back(file, output);
-    tell_size(written, told)
-}
-
-fn tell_written(written: ShiftWritten, told: &mut [usize]) -> u32
-    requires { ⌜ 3 ≤ length (now told) ⌝ }
-    ensures { λ n. ⌜ (n ≡ numbersOf (written .answer) .number) × (now (told .exit)
-        ≡ set (set (set (now (told .entry)) 0 (numbersOf (written .answer) .expected)) 1 (numbersOf (written .answer) .received)) 2 (written .size)) ⌝ }
-{
-    let answer = written.answer;
-    let number = call_numbers::tell_answer(answer, told);
-    told[2] = written.size;
-    number
+    shift_calls::call_shift_back(file, output, told)
 }
 
 // Makes one record of planes of 4:2:0 as a frame call leaves them (0); or answers 15 where a side is not 1 to 16,384, 8 to 12 as a frame call does, 16
@@ -473,24 +284,7 @@ pub extern "C" fn segvartin_call_shift_record(
     ensures { λ n. ⌜ RecordKept ShiftForm.WithoutSettings (exportedRecord (now (numbers .entry)) (now (y .entry)) (now (u .entry)) (now (v .entry))
         (now («record» .entry)) n (now (told .exit)) (now («record» .exit))) ⌝ }
 {
-    let settings = SettingCodes {
-        sampling: 0,
-        range: 0,
-        matrix: 0,
-        transfer: 0,
-    };
-    let frame = RecordFrame {
-        form: ShiftForm::WithoutSettings,
-        crossing: numbers[0],
-        width: numbers[1],
-        height: numbers[2],
-        settings,
-        y_stride: numbers[3],
-        u_stride: numbers[4],
-        v_stride: numbers[5],
-    };
-    let written = shift_record::write_record(frame, y, u, v, record);
-    tell_written(written, told)
+    shift_calls::call_shift_record(numbers, y, u, v, record, told)
 }
 
 // As `segvartin_call_shift_record`, with settings, and of planes of the sampling among them; 15 also where a setting has no such code. numbers:
@@ -508,33 +302,7 @@ pub extern "C" fn segvartin_call_shift_record_settings(
     ensures { λ n. ⌜ RecordKept ShiftForm.WithSettings (exportedRecord (now (numbers .entry)) (now (y .entry)) (now (u .entry)) (now (v .entry))
         (now («record» .entry)) n (now (told .exit)) (now («record» .exit))) ⌝ }
 {
-    let settings = SettingCodes {
-        sampling: numbers[6],
-        range: numbers[7],
-        matrix: numbers[8],
-        transfer: numbers[9],
-    };
-    let frame = RecordFrame {
-        form: ShiftForm::WithSettings,
-        crossing: numbers[0],
-        width: numbers[1],
-        height: numbers[2],
-        settings,
-        y_stride: numbers[3],
-        u_stride: numbers[4],
-        v_stride: numbers[5],
-    };
-    let written = shift_record::write_record(frame, y, u, v, record);
-    tell_written(written, told)
-}
-
-// ---- The summary of a shift file of either form. Its refusals 15 and 17 come without expected and received.
-
-fn number_of(answer: YuvAnswer) -> u32
-    ensures { λ n. ⌜ n ≡ numbersOf answer .number ⌝ }
-{
-    let numbered = error_numbers::answer_numbers(answer);
-    numbered.number
+    shift_calls::call_shift_record_settings(numbers, y, u, v, record, told)
 }
 
 // Writes a shift file's summary, 13 bytes a record, at the start of `summary` (0); or answers 15 where these bytes are no file, 17 where `summary` is
@@ -543,23 +311,7 @@ fn number_of(answer: YuvAnswer) -> u32
 pub extern "C" fn segvartin_call_summary_build(file: &[u8], summary: &mut [u8]) -> u32
     ensures { λ n. ⌜ BuildKept (exportedBuild (now (file .entry)) (now (summary .entry)) n (now (summary .exit))) ⌝ }
 {
-    let answer = summary_calls::build_summary(shift_file::form_of(file), file, summary);
-    number_of(answer)
-}
-
-fn yes_or_no(yes: bool) -> usize
-    ensures { λ r. ⌜ r ≡ asNumber yes ⌝ }
-{
-    if yes { 1 } else { 0 }
-}
-
-fn tell_verdict(verdict: SummaryVerdict, told: &mut [usize]) -> u32
-    requires { ⌜ 1 ≤ length (now told) ⌝ }
-    ensures { λ n. ⌜ (n ≡ numbersOf (verdict .answer) .number) × (now (told .exit) ≡ set (now (told .entry)) 0 (asNumber (verdict .«is_summary»))) ⌝ }
-{
-    let answer = verdict.answer;
-    told[0] = yes_or_no(verdict.is_summary);
-    number_of(answer)
+    shift_calls::call_summary_build(file, summary)
 }
 
 // Whether `summary` starts with a summary of a shift file (0), or 15 where these bytes are no file. told: 1 for yes, 0 for no.
@@ -571,38 +323,7 @@ pub extern "C" fn segvartin_call_summary_check(
 ) -> u32
     ensures { λ n. ⌜ CheckKept (exportedCheck (now (file .entry)) (now (summary .entry)) n (now (told .exit))) ⌝ }
 {
-    let verdict = summary_calls::check_summary(shift_file::form_of(file), file, summary);
-    tell_verdict(verdict, told)
-}
-
-fn found_count(found: FoundRecord) -> usize
-    ensures { λ r. ⌜ r ≡ foundCount found ⌝ }
-{
-    match found {
-        FoundRecord::At(_) => 1,
-        FoundRecord::Nowhere => 0,
-    }
-}
-
-fn found_place(found: FoundRecord) -> usize
-    ensures { λ r. ⌜ r ≡ foundPlace found ⌝ }
-{
-    match found {
-        FoundRecord::At(k) => k,
-        FoundRecord::Nowhere => 0,
-    }
-}
-
-fn tell_finding(finding: SummaryFinding, told: &mut [usize]) -> u32
-    requires { ⌜ 2 ≤ length (now told) ⌝ }
-    ensures { λ n. ⌜ (n ≡ numbersOf (finding .answer) .number)
-        × (now (told .exit) ≡ set (set (now (told .entry)) 0 (foundCount (finding .found))) 1 (foundPlace (finding .found))) ⌝ }
-{
-    let answer = finding.answer;
-    let found = finding.found;
-    told[0] = found_count(found);
-    told[1] = found_place(found);
-    number_of(answer)
+    shift_calls::call_summary_check(file, summary, told)
 }
 
 // The record of a crossing, the first by offset if several (0); or answers 15 where these bytes are no file, 17 where `summary` does not start with
@@ -616,8 +337,7 @@ pub extern "C" fn segvartin_call_summary_find(
 ) -> u32
     ensures { λ n. ⌜ FindKept (exportedFind (now (file .entry)) (now (summary .entry)) crossing n (now (told .exit))) ⌝ }
 {
-    let finding = summary_calls::find_record(shift_file::form_of(file), file, summary, crossing);
-    tell_finding(finding, told)
+    shift_calls::call_summary_find(file, summary, crossing, told)
 }
 
 // Rewrites a shift file's summary as that of the file with the record `added` at its end (0), in 13 bytes more; or answers 15 where these bytes are no
@@ -630,18 +350,7 @@ pub extern "C" fn segvartin_call_summary_update(
 ) -> u32
     ensures { λ n. ⌜ UpdateKept (exportedUpdate (now (file .entry)) (now (added .entry)) (now (summary .entry)) n (now (summary .exit))) ⌝ }
 {
-    let answer = summary_update::update_summary(shift_file::form_of(file), file, added, summary);
-    number_of(answer)
-}
-
-fn tell_broken(pairing: Pairing, told: &mut [usize]) -> u32
-    requires { ⌜ 1 ≤ length (now told) ⌝ }
-    ensures { λ n. ⌜ (n ≡ numbersOf (pairing .answer) .number) × (now (told .exit) ≡ set (now (told .entry)) 0 (pairing .broken)) ⌝ }
-{
-    let answer = pairing.answer;
-    let numbered = error_numbers::answer_numbers(answer);
-    told[0] = pairing.broken as usize;
-    numbered.number
+    shift_calls::call_summary_update(file, added, summary)
 }
 
 // Pairs two shift files, each of either form, the k-th record of a crossing in ours with the k-th in theirs (0); or answers 15 where one is no shift
@@ -658,11 +367,7 @@ pub extern "C" fn segvartin_call_shift_pairs(
 ) -> u32
     ensures { λ n. ⌜ PairingKept (exportedPairing (now (ours .entry)) (now (theirs .entry)) (now (report .entry)) n (now (told .exit)) (now (report .exit))) ⌝ }
 {
-    let our_form = shift_file::form_of(ours);
-    let their_form = shift_file::form_of(theirs);
-    let pairing = shift_pairs::pair_files(our_form, ours, their_form, theirs);
-    report_numbers::tell_pairing(pairing, report);
-    tell_broken(pairing, told)
+    shift_calls::call_shift_pairs(ours, theirs, report, told)
 }
 
 // ---- Y4M files. Their refusals 19 and 16 come without expected and received.
