@@ -834,6 +834,12 @@ def cut(part, buffer):
     return buffer[part.offset:part.offset + part.length]
 
 
+def put_back(parts, lent, own):
+    """15.1: the bytes of the parts of buffers replaced."""
+    for part, buffer, data in zip(parts, lent, own):
+        buffer[part.offset:part.offset + part.length] = data
+
+
 def is_broken(frames, lengths):
     """15.2: 18, for the lengths of source, Y, U, V."""
     if len(frames) > MOST_FRAMES or not all(is_inside(part, n) for frame in frames for part, n in zip(frame.parts, lengths)):
@@ -849,8 +855,7 @@ def turn(frame, source, planes):
     s, w, h, strides, window = frame.by
     left = [bytearray(cut(part, plane)) for part, plane in zip(frame.parts[1:], planes)]
     answer = frame_call(s, w, h, cut(frame.parts[0], source), [frame.stride, *strides], left, window)
-    for part, plane, data in zip(frame.parts[1:], planes, left):
-        plane[part.offset:part.offset + part.length] = data
+    put_back(frame.parts[1:], planes, left)
     return answer
 
 
@@ -926,8 +931,7 @@ def desk_step(desk, source, lent):
     if is_inside(band.part, len(source)) and all(map(is_inside, frame.parts, map(len, lent))):
         own = [bytearray(cut(part, buffer)) for part, buffer in zip(frame.parts, lent)]
         answer, done = band_call(s, w, h, done, band.rows, cut(band.part, source), [band.stride, *strides], own[:3], own[3], window)
-        for part, buffer, data in zip(frame.parts, lent, own):
-            buffer[part.offset:part.offset + part.length] = data
+        put_back(frame.parts, lent, own)
     left = Place() if done >= h else Place(frame._replace(done=done))
     return answer, camera, put_place(desk, camera, left)._replace(first=(camera + 1) % CAMERAS)
 
@@ -963,6 +967,10 @@ def product_sum(rgb, triple, more):
 
 def plane_text(planes):
     return ', '.join(f'{name} {hexes(plane)}' for name, plane in zip('YUV', planes))
+
+
+def parts_text(parts):
+    return ', '.join(numbers(part) for part in parts)
 
 
 def window_text(window):
@@ -2011,6 +2019,11 @@ def settings_of(description, kr, kb):
     return Settings(order, sampling, range_, matrix, transfer, rounding, kr, kb)
 
 
+def described_by(description, kr, kb):
+    """10.1: settings, w, h, plane strides and window."""
+    return settings_of(description, kr, kb), *description[:2], tuple(description[7:10]), window_of(description)
+
+
 def convoy_of(count, given, customs, parts):
     """10.9: the frames of a convoy by numbers; those past 64 are never looked at."""
     frames = []
@@ -2020,8 +2033,7 @@ def convoy_of(count, given, customs, parts):
         eight = [parts[i] if i < len(parts) else 0 for i in range(8 * k, 8 * k + 8)]
         by = None
         if len(of_frame) == 16 and not is_malformed('frame', of_frame):
-            description = of_frame[1:]
-            by = settings_of(description, kr, kb), *description[:2], description[7:10], window_of(description)
+            by = described_by(of_frame[1:], kr, kb)
         frames.append(ConvoyFrame(by, of_frame[0] if of_frame else 0, [Part(*eight[i:i + 2]) for i in (0, 2, 4, 6)]))
     return frames
 
@@ -2069,8 +2081,7 @@ def desk_of(numbers_, customs, parts):
         for at, code, values in zip((2, 3, 4, 5, 6, 10), codes_of(description), CODES.values()):
             if code >= len(values) + (values is CODES['matrix']):
                 description[at] = 0
-        by = settings_of(description, *customs[2 * c:2 * c + 2]), *description[:2], tuple(description[7:10]), window_of(description)
-        frame = OpenFrame(by, done, of_frame) if stands in (1, 2) else None
+        frame = OpenFrame(described_by(description, *customs[2 * c:2 * c + 2]), done, of_frame) if stands in (1, 2) else None
         places.append(Place(frame, WaitingBand(rows, stride, band) if stands == 2 else None))
     return Desk(tuple(places), numbers_[608])
 
@@ -2111,9 +2122,7 @@ class Lists:
         self.parts[10 * camera:10 * camera + 10] = ten
 
     def open(self, camera, described, custom, frame_parts, lengths):
-        by = None
-        if not is_malformed('opening', described):
-            by = settings_of(described, *custom), *described[:2], tuple(described[7:10]), window_of(described)
+        by = None if is_malformed('opening', described) else described_by(described, *custom)
         answer, desk = desk_open(self.desk(), camera, by, [Part(*frame_parts[i:i + 2]) for i in (0, 2, 4, 6)], lengths)
         if not answer[0]:
             self.write(camera, desk)
@@ -2983,9 +2992,7 @@ def _():
     def line(said, *frames):
         return f'{said}: ' + ('18' if is_broken(frames, (9, 8, 8, 8)) else 'not 18')
 
-    def parts_text(frame):
-        return ', '.join(f'{part.offset} {part.length}' for part in frame.parts)
-    yield line(f'{parts_text(one)} and {parts_text(two)}', one, two)
+    yield line(f'{parts_text(one.parts)} and {parts_text(two.parts)}', one, two)
     yield line('the same, exchanged', two, one)
     names = ('source', 'Y', 'U', 'V')
     for name, *part in (('Y', 2, 1), ('U', 2, 1), ('V', 2, 1), ('Y', 0, 8), ('Y', 0, 2), ('Y', 0, 3), ('Y', 2, 0), ('Y', 7, 1), ('Y', 7, 2),
@@ -3070,7 +3077,6 @@ def _():
 
 # ---- chapter 16
 
-DESK_NAMES = ('Y', 'U', 'V', 'carried rows')
 DESK_LENGTHS = (12, 4, 4, 12)
 TALL = (FULL, 2, 3, (2, 1, 1), None)  # the frame of 8.7
 
@@ -3078,10 +3084,6 @@ TALL = (FULL, 2, 3, (2, 1, 1), None)  # the frame of 8.7
 def tall_parts(place):
     """Parts for the frame of 8.7; those of the next place begin where these end."""
     return [Part(6 * place, 6), Part(2 * place, 2), Part(2 * place, 2), Part(6 * place, 6)]
-
-
-def parts_text(parts):
-    return ', '.join(numbers(part) for part in parts)
 
 
 def desk_text(desk):
