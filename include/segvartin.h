@@ -3,8 +3,8 @@
  * planes of many frames: shift files, and Y4M files, which players and encoders take.
  *
  * Link libsegvartin.a (x86-64, System V ABI). It has no state, no heap, no threads, no input and no output, and of libc it calls memset and memcpy
- * alone; calls on separate buffers may run on separate threads. A call takes less than 96 KiB of stack, segvartin_convert_convoy and
- * segvartin_pair_shift_files less than 128.
+ * alone; calls on separate buffers may run on separate threads. A call takes less than 96 KiB of stack, segvartin_convert_convoy,
+ * segvartin_desk_step and segvartin_pair_shift_files less than 128.
  *
  * Call segvartin_frame, segvartin_open and segvartin_band, or the same calls with their numbers in structs: segvartin_convert_frame,
  * segvartin_open_frame and segvartin_convert_band. With choices that these do not have, which today are the rounding of the curve tables and a
