@@ -1,16 +1,21 @@
-//! A desk: a step on a band of 120 rows of 1,920 x 1,080 beside the band call itself on the same band, with one frame open and with 31; and what the
-//! desk's calls cost beside the band on frames of a few pixels.
+//! A desk: a step on a band of 120 rows of 1,920 x 1,080 beside the band call itself on the same band, with one frame open and with 31, both by the
+//! linked calls and both made from Rattle; and what the desk's calls cost beside the band on frames of a few pixels.
 use crate::Bars;
 use crate::convoy::{SAMPLINGS, cut, processor_time};
 use segvartin::*;
 use std::hint::black_box;
+use std::io::Write;
+use std::process::{Command, Stdio};
 
 const WIDTH: usize = 1920;
 const HEIGHT: usize = 1080;
 const ROWS: usize = 120;
 const BANDS: usize = HEIGHT / ROWS;
 
-const TURNS: usize = 60;
+const TURNS: usize = 100;
+
+/// How often the two programs' tables are gone through: a moment in which the processor is faster may fall on one of the two.
+const RUNS: usize = 3;
 const TURNS_OF_SMALL: usize = 2000;
 
 // Per cent of a step over the band call.
@@ -114,6 +119,22 @@ impl Shared {
         self.frame.height as usize / self.rows
     }
 
+    /// A frame by steps is the frame by band calls.
+    fn check(&mut self) {
+        let mut state = FrameStateWith::open(self.frame, FrameOptions::of(&self.frame)).unwrap();
+        for band in 0..self.bands() {
+            state = self.call(state, band);
+        }
+        let expected = self.buffers.clone();
+        self.buffers[1..].iter_mut().for_each(|buffer| buffer.fill(0));
+        for band in 0..self.bands() {
+            self.offer(band);
+            self.step();
+        }
+        assert!(self.buffers == expected, "steps leave other planes than band calls");
+        self.open(CAMERA); // its last row is done, so its number is free
+    }
+
     /// The least times of each band of a frame by the band call, by its step, and of its offer, in milliseconds of the processor, added up. Which of the
     /// two is first changes from turn to turn: the later one finds the band in the cache.
     fn least(&mut self, turns: usize) -> [f64; 3] {
@@ -136,38 +157,47 @@ impl Shared {
                     }
                 }
             }
-            self.open(CAMERA); // its last row is done, so its number is free
+            self.open(CAMERA);
         }
         [0, 1, 2].map(|form| least.iter().map(|times| times[form]).sum())
     }
 }
 
+/// The same two times by the program in Rattle (desk.rattle), which takes turns too.
+fn in_rattle(cameras: usize, sampling: usize) -> [f64; 2] {
+    let program = std::env::current_exe().unwrap().with_file_name("desk_rattle");
+    let mut running = Command::new(program).stdin(Stdio::piped()).stdout(Stdio::piped()).spawn().expect("bench/build makes desk_rattle");
+    running.stdin.take().unwrap().write_all(&[sampling as u8, cameras as u8, TURNS as u8]).unwrap();
+    let written = running.wait_with_output().unwrap().stdout;
+    let numbers: Vec<f64> = String::from_utf8(written).unwrap().lines().map(|line| line.parse().unwrap()).collect();
+    let [call, step, sum] = numbers[..] else { panic!("desk_rattle wrote {numbers:?}") };
+    assert!(sum > 0., "steps leave other planes than band calls");
+    [call / 1e6, step / 1e6]
+}
+
+/// The least of each over some runs.
+fn least_of_runs(mut run: impl FnMut() -> [f64; 2]) -> [f64; 2] {
+    (0..RUNS).map(|_| run()).reduce(|a, b| [a[0].min(b[0]), a[1].min(b[1])]).unwrap()
+}
+
 pub fn report(bars: &mut Bars) {
     println!(
         "\na step on bands of {ROWS} rows of {WIDTH} x {HEIGHT} beside the band call on them, Rgb, noise, processor ms a frame of {BANDS} bands; \
-         least of {TURNS} turns of each band; bar: {MOST_OVER_BAND} %"
+         least of {RUNS} x {TURNS} turns of each band; bar: {MOST_OVER_BAND} %"
     );
-    println!("{:<8}{:>13}{:>13}{:>9}{:>9}{:>12}", "chroma", "frames open", "band calls", "steps", "over", "us a band");
-    for (name, sampling) in SAMPLINGS {
+    println!("{:<8}{:<8}{:>13}{:>13}{:>9}{:>9}{:>12}", "calls", "chroma", "frames open", "band calls", "steps", "over", "us a band");
+    let mut line = |calls: &str, chroma: &str, cameras: usize, [call, step]: [f64; 2]| {
+        let said = bars.hold(step <= call * (1. + MOST_OVER_BAND / 100.));
+        let more = (step - call) * 1e3 / BANDS as f64;
+        println!("{calls:<8}{chroma:<8}{cameras:>13}{call:>13.3}{step:>9.3}{:>7.2} %{more:>12.2}{said}", (step / call - 1.) * 100.);
+    };
+    for (code, (chroma, sampling)) in SAMPLINGS.into_iter().enumerate() {
         for cameras in [1, 31] {
             let mut shared = Shared::new(cameras, WIDTH, HEIGHT, ROWS, sampling);
-            let mut state = FrameStateWith::open(shared.frame, FrameOptions::of(&shared.frame)).unwrap();
-            for band in 0..BANDS {
-                state = shared.call(state, band);
-            }
-            let expected = shared.buffers.clone();
-            shared.buffers[1..].iter_mut().for_each(|buffer| buffer.fill(0));
-            for band in 0..BANDS {
-                shared.offer(band);
-                shared.step();
-            }
-            assert!(shared.buffers == expected, "steps leave other planes than band calls");
-            drop(expected);
-            shared.open(CAMERA);
-            let [call, step, _] = shared.least(TURNS);
-            let said = bars.hold(step <= call * (1. + MOST_OVER_BAND / 100.));
-            let over = (step - call) * 1e3 / BANDS as f64;
-            println!("{name:<8}{cameras:>13}{call:>13.3}{step:>9.3}{:>7.2} %{over:>12.2}{said}", (step / call - 1.) * 100.);
+            shared.check();
+            let linked = least_of_runs(|| shared.least(TURNS).first_chunk().copied().unwrap());
+            line("linked", chroma, cameras, linked);
+            line("Rattle", chroma, cameras, least_of_runs(|| in_rattle(cameras, code)));
         }
     }
 
