@@ -551,6 +551,7 @@ static void refused_offers(void) {
         EXPECT(offers(&s, camera, 0, 0, outside) == 18);
         EXPECT(offers(&s, camera, 0, 0, inside) == 0); /* its rows and its stride are its step's to ask */
         EXPECT(offers(&s, camera, 0, 0, outside) == 22 && offers(&s, camera, 1, 1, inside) == 22);
+        EXPECT(offers(&s, camera + CAMERAS, 0, 0, outside) == 21 && offers(&s, camera + 2 * CAMERAS, 1, 1, inside) == 21);
         EXPECT(opens(&s, camera, &o) == 23);
         EXPECT(steps(&s, s.len).number == 5);
         EXPECT(offer_rows(&s, camera, 5) == 0 && steps(&s, s.len).number == 0);
