@@ -3,37 +3,38 @@
  * planes of many frames: shift files, and Y4M files, which players and encoders take.
  *
  * Link libsegvartin.a (x86-64, System V ABI). It has no state, no heap, no threads, no input and no output, and of libc it calls memset and memcpy
- * alone; calls on separate buffers may run on separate threads. A call takes less than 96 KiB of stack, segvartin_convert_convoy and
- * segvartin_pair_shift_files less than 128.
+ * alone; calls on separate buffers may run on separate threads. A call takes less than 96 KiB of stack, segvartin_convert_convoy,
+ * segvartin_desk_step and segvartin_pair_shift_files less than 128.
  *
  * Call segvartin_frame, segvartin_open and segvartin_band, or the same calls with their numbers in structs: segvartin_convert_frame,
- * segvartin_open_frame and segvartin_convert_band. With choices that these do not have, which today are the rounding of the curve tables and a window
- * (the frame is a rectangle inside a larger source): segvartin_convert_frame_with, segvartin_open_frame_with and segvartin_convert_band_with. Several
- * frames in one call, as parts of shared buffers: segvartin_convert_convoy. How many colours share a luma, in a matrix and range:
- * segvartin_luma_counts. A record of a shift file from planes: segvartin_write_shift_record; a file from records: segvartin_write_shift_file; its
- * records where they stand in it: segvartin_read_shift_file. The same with records that say how their planes were made:
- * segvartin_write_settings_record, segvartin_write_settings_file, and for files of either form segvartin_read_any_shift_file; from one form to the
- * other: segvartin_move_forward, segvartin_move_back. The summary of a file, by which the record of a crossing is found: segvartin_build_summary,
- * segvartin_check_summary, segvartin_find_record, segvartin_find_any_record, segvartin_update_summary. Two files of one day held against each other:
- * segvartin_pair_shift_files. A Y4M file from planes: segvartin_y4m_write, or picture by picture segvartin_y4m_write_picture; its pictures where they
- * stand in it: segvartin_y4m_read. All only pass numbers on to the library's segvartin_call_ functions below.
+ * segvartin_open_frame and segvartin_convert_band. With choices that these do not have, which today are the rounding of the curve tables and a
+ * window (the frame is a rectangle inside a larger source): segvartin_convert_frame_with, segvartin_open_frame_with and segvartin_convert_band_with.
+ * Several frames in one call, as parts of shared buffers: segvartin_convert_convoy. Bands of up to 32 cameras as they come, one served at a time:
+ * segvartin_desk_open, segvartin_desk_offer and segvartin_desk_step. How many colours share a luma, in a matrix and range: segvartin_luma_counts. A
+ * record of a shift file from planes: segvartin_write_shift_record; a file from records: segvartin_write_shift_file; its records where they stand in
+ * it: segvartin_read_shift_file. The same with records that say how their planes were made: segvartin_write_settings_record,
+ * segvartin_write_settings_file, and for files of either form segvartin_read_any_shift_file; from one form to the other: segvartin_move_forward,
+ * segvartin_move_back. The summary of a file, by which the record of a crossing is found: segvartin_build_summary, segvartin_check_summary,
+ * segvartin_find_record, segvartin_find_any_record, segvartin_update_summary. Two files of one day held against each other:
+ * segvartin_pair_shift_files. A Y4M file from planes: segvartin_y4m_write, or picture by picture segvartin_y4m_write_picture; its pictures where
+ * they stand in it: segvartin_y4m_read. All only pass numbers on to the library's segvartin_call_ functions below.
  *
- * docs/RULES.md has the rules that fix each byte and each answer; RULES 7.1 below names one of them. The library's twenty-one functions are the
+ * docs/RULES.md has the rules that fix each byte and each answer; RULES 7.1 below names one of them. The library's twenty-four functions are the
  * calls of its chapter 10.
  *
  * Every function answers finished work (0) or the number of one refusal, and a refusal writes no byte of a plane, of the carried row, of a record,
  * of a picture, of a file or of a summary, no entry, no count of colours and no report; of several frames in one call, the refused one and those
- * behind it write none. This holds for all values of all numbers: sizes, strides, lengths, offsets, codes, kr, kb, and all bytes of a file and of a
- * summary. What no function can check, and the caller must see to:
+ * behind it write none. This holds for all values of all numbers: sizes, strides, lengths, offsets, codes, kr, kb, those of a desk, and all bytes of
+ * a file and of a summary. What no function can check, and the caller must see to:
  *   - a pointer is not NULL, also where its length is 0, and points to as many bytes as the length beside it says; counts to 256 numbers; frames to
  *     count of them, or to 64 where count is more;
- *   - of what a call is lent (frames, source, y, u, v, carried, counts, done, expected, received; records, file, output, size, count, read, form;
- *     summary, record, yes, found; report, broken; pictures, told) nothing that it may write overlaps anything else. What is only read may overlap:
- *     one file may be ours and theirs.
+ *   - of what a call is lent (frames, source, y, u, v, carried, counts, done, expected, received; desk; records, file, output, size, count, read,
+ *     form; summary, record, yes, found; report, broken; pictures, told) nothing that it may write overlaps anything else. What is only read may
+ *     overlap: one file may be ours and theirs.
  *
  * The caller's floating-point mode (rounding, denormals, trapped exceptions) does not matter: each call is made in the default mode, and the
  * caller's mode and exception flags are put back as they were. Only SEGVARTIN_FCC and SEGVARTIN_CUSTOM use floats at all; the calls on files
- * and summaries take the mode as it is.
+ * and summaries, and segvartin_desk_offer, take the mode as it is.
  *
  * Write w, h for width and height; W, H for those of the source, which are w, h where no window says otherwise; c for the bytes of a pixel,
  * 3 (RGB, BGR) or 4; cw for w / 2 rounded up; ch for h in 4:2:2, and for h / 2 rounded up in 4:2:0. Strides are in bytes, from the start of a
@@ -84,8 +85,8 @@ enum { SEGVARTIN_SRGB = 0, SEGVARTIN_REC709 = 1, SEGVARTIN_GAMMA2P2 = 2, SEGVART
 enum { SEGVARTIN_TRUNCATED = 0, SEGVARTIN_NEAREST = 1 };
 
 /*
- * What a call answers (RULES 7.1). Where several conditions hold, the first in the order below is answered: 15, 17, 19, 18, 1, 2, 3, 4, 14, 5, 6 and
- * so on to 13, 20, 16. In parentheses: what *expected and *received get; where nothing stands there, and after finished work, both get 0.
+ * What a call answers (RULES 7.1). Where several conditions hold, the first in the order below is answered: 15, 17, 19, 21, 22, 23, 18, 1 to 4, 14,
+ * 5 to 13, 20, 16. In parentheses: what *expected and *received get; where nothing stands there, and after finished work, both get 0.
  */
 enum {
     SEGVARTIN_FINISHED = 0,
@@ -98,8 +99,15 @@ enum {
     /* Y4M files only: the text or the planes of a file break their rules; of what is to be written, w or h is not from 1 to 16384, the sampling is no
      * code, the bytes are not whole pictures, a stride is below its row, or a plane is not exactly its stride times its rows long */
     SEGVARTIN_MALFORMED_Y4M = 19,
-    /* several frames in one call only, before any is begun: there are more than 64, a part reaches outside its buffer, or parts of two frames in y,
-     * in u or in v share a byte */
+    /* a desk only: a camera number above 31; or a band is offered for a number without an open frame */
+    SEGVARTIN_CAMERA_MISMATCH = 21,
+    /* a desk only: a band is offered while that camera's last one waits */
+    SEGVARTIN_BAND_STILL_WAITING = 22,
+    /* a desk only: a frame is open at that camera number */
+    SEGVARTIN_CAMERA_IN_USE = 23,
+    /* several frames in one call, before any is begun: there are more than 64, a part reaches outside its buffer, or parts of two frames in y, in u
+     * or in v share a byte. A desk: a part of a frame to be opened reaches outside its buffer, or shares a byte with an open frame's; an offered
+     * band reaches outside the source; or, at its step, a part of the band or of its frame reaches outside the buffers that are lent then */
     SEGVARTIN_PARTS_MISMATCH = 18,
     /* a code of channels, sampling, range, matrix, transfer or rounding without a meaning; of segvartin_call_ also another count of numbers */
     SEGVARTIN_MALFORMED_REQUEST = 1,
@@ -140,6 +148,9 @@ enum {
 /* Frames of one call of segvartin_convert_convoy, at most (RULES 15.2). */
 #define SEGVARTIN_MAX_CONVOY 64
 
+/* Cameras of a desk, by numbers from 0 on (RULES 16.1). */
+#define SEGVARTIN_CAMERAS 32
+
 /* Records of a shift file, at most (RULES 11.1). */
 #define SEGVARTIN_MAX_RECORDS 4096
 
@@ -159,6 +170,7 @@ enum {
  *                    today
  *                    convoy: sixteen for each frame, its stride and a description of fifteen. Where fewer are left for a frame, that frame is
  *                    refused with 1. No answer turns on what stands behind those of the last frame, here and in customs and parts
+ *                    desk_open, desk_offer, desk_step: those of segvartin_desk, and so are customs and parts
  *                    shift_record: crossing, width, height, y_stride, u_stride, v_stride. shift_record_settings: these, and sampling, range, matrix,
  *                    transfer, the last three 255 where they are not recorded. y4m_write: width, height, sampling. y4m_picture: these, and y_stride,
  *                    u_stride, v_stride
@@ -166,11 +178,16 @@ enum {
  *   count            how many frames there are. It is not held against the lengths of numbers, customs and parts
  *   customs          kr, kb of each frame; one that is not there is no number, and refused with 4 where it is looked at
  *   parts            of each frame eight: offset and length in source, in y, in u and in v; one that is not there is 0
+ *   described        desk_open: a description of ten, eleven or fifteen numbers, as above
+ *   frame_parts      desk_open: offset and length in y, in u, in v and in the carried rows
+ *   lengths          desk_open: of the buffers of y, u, v and carried rows
+ *   band, place      desk_offer: rows and stride; offset and length in the source, and how long the source is
  *   first, entries   the record to begin with, and eleven numbers for each record from there on, as many as there are and as whole elevens fit:
  *                    the fields of segvartin_shift_record, in their order. shift_records_any: fifteen, those of segvartin_settings_record.
  *                    y4m_pictures: six for each picture, those of segvartin_y4m_picture
  *   told             gets expected, received, and in open and band the rows done: 0, and what they are after the band. convoy: expected,
- *                    received, and how many frames are finished, the place of the refused one. shift_records: how many records the file has,
+ *                    received, and how many frames are finished, the place of the refused one. desk_open: expected, received. desk_step: these, 1
+ *                    where a camera was served or refused and else 0, and its number, or 0. shift_records: how many records the file has,
  *                    and how many entries were written; shift_records_any: then its form too, 1 with settings, else 0. shift_write,
  *                    shift_write_settings, shift_forward, shift_back: the size of the file that is written. shift_record,
  *                    shift_record_settings: expected, received, the record's size. summary_check: 1 for yes, 0 for no. summary_find: 1 and the
@@ -178,8 +195,8 @@ enum {
  *                    width, height, sampling, how many pictures the file has, and how many entries were written. y4m_write, y4m_picture: the
  *                    size of the file or of the picture
  *   report           the fields of segvartin_pair_report, in their order
- *   the others       as below; numbers, custom, customs, parts, entries, report and told overlap nothing either. The nine shift_ calls, the four
- *                    summary_ calls and the three y4m_ calls need no mode
+ *   the others       as below; numbers, custom, customs, parts, described, frame_parts, lengths, band, place, entries, report and told overlap
+ *                    nothing either. The nine shift_ calls, the four summary_ calls, the three y4m_ calls and desk_offer need no mode
  */
 /* Made by tools/declarations.py from the library's source: change that, and run it. */
 uint32_t segvartin_call_frame(const uint32_t *numbers, size_t numbers_len, const float custom[2], const uint8_t *source, size_t source_len,
@@ -188,6 +205,17 @@ uint32_t segvartin_call_frame(const uint32_t *numbers, size_t numbers_len, const
 uint32_t segvartin_call_convoy(size_t count, const uint32_t *numbers, size_t numbers_len, const float *customs, size_t customs_len,
                                const uint64_t *parts, size_t parts_len, const uint8_t *source, size_t source_len, uint8_t *y, size_t y_len,
                                uint8_t *u, size_t u_len, uint8_t *v, size_t v_len, size_t told[3]);
+
+uint32_t segvartin_call_desk_open(uint32_t camera, const uint32_t *described, size_t described_len, const float custom[2],
+                                  const uint64_t frame_parts[8], const uint64_t lengths[4], uint32_t numbers[609], float customs[64],
+                                  uint64_t parts[320], size_t told[2]);
+
+uint32_t segvartin_call_desk_offer(uint32_t camera, const uint32_t band[2], const uint64_t place[3], uint32_t numbers[609],
+                                   float customs[64], uint64_t parts[320]);
+
+uint32_t segvartin_call_desk_step(const uint8_t *source, size_t source_len, uint8_t *y, size_t y_len, uint8_t *u, size_t u_len, uint8_t *v,
+                                  size_t v_len, uint8_t *carried, size_t carried_len, uint32_t numbers[609], float customs[64],
+                                  uint64_t parts[320], size_t told[4]);
 
 uint32_t segvartin_call_open(const uint32_t *numbers, size_t numbers_len, const float custom[2], size_t told[3]);
 
@@ -297,6 +325,28 @@ SEGVARTIN_APART uint32_t segvartin_convoy_in_default_mode(size_t count, const ui
     segvartin_set_mode(SEGVARTIN_DEFAULT_MODE);
     number = segvartin_call_convoy(count, numbers, numbers_len, customs, customs_len, parts, parts_len, source, source_len, y, y_len, u, u_len, v,
                                    v_len, told);
+    segvartin_set_mode(mode);
+    return number;
+}
+
+SEGVARTIN_APART uint32_t segvartin_desk_open_in_default_mode(uint32_t camera, const uint32_t *described, size_t described_len,
+                                                             const float custom[2], const uint64_t frame_parts[8], const uint64_t lengths[4],
+                                                             uint32_t numbers[609], float customs[64], uint64_t parts[320], size_t told[2]) {
+    const uint32_t mode = segvartin_get_mode();
+    uint32_t number;
+    segvartin_set_mode(SEGVARTIN_DEFAULT_MODE);
+    number = segvartin_call_desk_open(camera, described, described_len, custom, frame_parts, lengths, numbers, customs, parts, told);
+    segvartin_set_mode(mode);
+    return number;
+}
+
+SEGVARTIN_APART uint32_t segvartin_desk_step_in_default_mode(const uint8_t *source, size_t source_len, uint8_t *y, size_t y_len, uint8_t *u,
+                                                             size_t u_len, uint8_t *v, size_t v_len, uint8_t *carried, size_t carried_len,
+                                                             uint32_t numbers[609], float customs[64], uint64_t parts[320], size_t told[4]) {
+    const uint32_t mode = segvartin_get_mode();
+    uint32_t number;
+    segvartin_set_mode(SEGVARTIN_DEFAULT_MODE);
+    number = segvartin_call_desk_step(source, source_len, y, y_len, u, u_len, v, v_len, carried, carried_len, numbers, customs, parts, told);
     segvartin_set_mode(mode);
     return number;
 }
@@ -665,6 +715,139 @@ static inline segvartin_answer segvartin_convert_convoy(const segvartin_convoy_f
     a.expected = told[0];
     a.received = told[1];
     *done = told[2];
+    return a;
+}
+
+/*
+ * A desk for 32 cameras (RULES 16.1 to 16.6), which deliver bands when they can and share one converter. A camera opens a frame at its number,
+ * offers its bands one at a time, and a step serves one band: that of the next camera with a band waiting, by number, going round. All cameras share
+ * a source buffer, one buffer for each plane and one for carried rows; a frame's planes, its carried row and its bands are parts of them.
+ *
+ *   - A band that is refused at its step uses that step: it is dropped, no byte is written, the frame stays open with the rows that it had, and the
+ *     next camera is asked first. The band may be offered again.
+ *   - A number is free again with the step that does the last row of its frame, and so are the frame's parts: another frame can be opened there
+ *     before the next step. A band offered behind the last row is 21.
+ *   - There is no call that gives a frame up. One whose bands can only be refused, since a plane's part is too short for it, say, keeps its number
+ *     and its parts as long as the desk is used. Who wants them back begins a new desk, all zeros, and opens the frames of the others anew.
+ *
+ * The desk is the caller's, and is handed on: it began as all zeros, and each call gets it as the call before left it. Then a camera with a band
+ * waiting is served within 32 steps, whatever the others open and offer. And where the bytes of planes, carried rows and waiting bands come back as
+ * they were left, in the same places of the buffers lent to the next step, the planes of each camera are, up to the step of its last row, those of
+ * its own accepted bands converted alone: of segvartin_convert_frame_with on the same rows, byte for byte. Nothing else of a buffer need stay, and
+ * buffers may move and be of other lengths from call to call. A desk that no call wrote is answered too, and nothing outside the buffers is touched.
+ */
+
+/*
+ * A desk (RULES 10.10). All zeros is one with no frame open: segvartin_desk desk = {{0}, {0}, {0}}. It has no pointers, so it may be copied and kept.
+ *
+ *   numbers          of camera c nineteen from 19 * c on: 0 no frame, 1 an open frame, 2 one with a band that waits; the rows done; the band's rows
+ *                    and stride; the fifteen of its description, as for segvartin_call_open. The last is the camera that is asked first at the next
+ *                    step. At a number that is free, and of a band where none waits, all are 0
+ *   customs          kr and kb of camera c at 2 * c and 2 * c + 1
+ *   parts            of camera c ten from 10 * c on: offset and length of its band in the source, then of its parts of y, u, v and of the carried
+ *                    rows
+ */
+typedef struct segvartin_desk {
+    uint32_t numbers[19 * SEGVARTIN_CAMERAS + 1];
+    float customs[2 * SEGVARTIN_CAMERAS];
+    uint64_t parts[10 * SEGVARTIN_CAMERAS];
+} segvartin_desk;
+
+/*
+ * Where a frame at a desk stands in the buffers. The calls ask these lengths at each step: y exactly y_stride * h, u and v exactly u_stride * ch and
+ * v_stride * ch, carried at least 3 * w bytes.
+ */
+typedef struct segvartin_desk_parts {
+    segvartin_part y, u, v, carried;
+} segvartin_desk_parts;
+
+/* How long the buffers are. */
+typedef struct segvartin_desk_lengths {
+    size_t y, u, v, carried;
+} segvartin_desk_lengths;
+
+/* What a step answers. */
+typedef struct segvartin_desk_answer {
+    uint32_t number; /* 0, also where no band waited; or the refusal of the band that was served */
+    size_t expected, received;
+    int served;      /* 1 where a band was served, converted or refused; 0 where none waited */
+    uint32_t camera; /* whose; 0 where none waited */
+} segvartin_desk_answer;
+
+/*
+ * Opens a frame for a camera (RULES 16.2). Answers 0, or a refusal: 21, 23, 18, 1 to 4, 14; none carries expected and received. A refusal leaves the
+ * desk as it is. Of strides and of the lengths of parts it asks nothing; each step does.
+ *
+ *   desk             gets the frame at the camera's number, with no row done and no band
+ *   camera           0 to 31, else 21; 23 where a frame is open there
+ *   d, o             as in segvartin_convert_frame_with; they hold for all bands of the frame
+ *   parts            inside the buffers, offset + length not wrapped, and no byte of them in an open frame's part of the same buffer; else 18. A part
+ *                    of no bytes shares none, and is outside where its offset is above the buffer's length
+ *   lengths          of the buffers, as they will be lent to steps
+ */
+static inline segvartin_answer segvartin_desk_open(segvartin_desk *desk, uint32_t camera, const segvartin_description *d, const segvartin_options *o,
+                                                   const segvartin_desk_parts *parts, const segvartin_desk_lengths *lengths) {
+    const float custom[2] = {d->kr, d->kb};
+    uint32_t described[15];
+    uint64_t frame_parts[8], lens[4];
+    size_t told[2];
+    segvartin_answer a;
+    segvartin_put_numbers(described, d, o);
+    segvartin_put_part(frame_parts, parts->y);
+    segvartin_put_part(frame_parts + 2, parts->u);
+    segvartin_put_part(frame_parts + 4, parts->v);
+    segvartin_put_part(frame_parts + 6, parts->carried);
+    lens[0] = lengths->y;
+    lens[1] = lengths->u;
+    lens[2] = lengths->v;
+    lens[3] = lengths->carried;
+    a.number = segvartin_desk_open_in_default_mode(camera, described, 15, custom, frame_parts, lens, desk->numbers, desk->customs, desk->parts, told);
+    a.expected = told[0];
+    a.received = told[1];
+    return a;
+}
+
+/*
+ * Offers the next band of a camera's frame, which then waits for its step (RULES 16.3). Answers 0, or a refusal: 21, 22, 18; none carries expected
+ * and received. A refusal leaves the desk as it is. Neither the rows nor the stride are asked here, and no byte is looked at: the step does both.
+ *
+ *   camera           21 where it is above 31 or has no open frame; 22 where a band of it waits
+ *   rows, stride     as in segvartin_convert_band_with: 1 to the rows that remain; stride at least W * c
+ *   source           where the band stands in the source buffer, exactly stride * rows bytes; 18 where it reaches outside. Bands may share bytes
+ *   source_len       how long the source buffer is
+ */
+static inline segvartin_answer segvartin_desk_offer(segvartin_desk *desk, uint32_t camera, uint32_t rows, uint32_t stride, segvartin_part source,
+                                                    size_t source_len) {
+    const uint32_t band[2] = {rows, stride};
+    uint64_t place[3];
+    segvartin_answer a;
+    segvartin_put_part(place, source);
+    place[2] = source_len;
+    a.number = segvartin_call_desk_offer(camera, band, place, desk->numbers, desk->customs, desk->parts);
+    a.expected = a.received = 0;
+    return a;
+}
+
+/*
+ * Serves one band (RULES 16.4): that of the first camera with a band waiting, from the one behind the camera last served, going round; at first from
+ * camera 0. Where none waits it does nothing. The band is converted as by segvartin_convert_band_with on the frame's parts, or refused: 18 where a
+ * part of it or of its frame is outside the buffers as they are lent now, else 2, 3, 4, 14, 5 to 13. Either way it waits no more. No byte outside
+ * the parts of the camera's frame is written, and with a refusal none.
+ *
+ *   desk             gets the camera's place anew: the rows done, or a free number where the last is done; and who is asked first at the next step
+ *   source           has the waiting bands in their places; it is only read
+ *   y, u, v, carried    have the parts of open frames as the step before left them
+ */
+static inline segvartin_desk_answer segvartin_desk_step(segvartin_desk *desk, segvartin_bytes source, segvartin_bytes_mut y, segvartin_bytes_mut u,
+                                                        segvartin_bytes_mut v, segvartin_bytes_mut carried) {
+    size_t told[4];
+    segvartin_desk_answer a;
+    a.number = segvartin_desk_step_in_default_mode(source.at, source.len, y.at, y.len, u.at, u.len, v.at, v.len, carried.at, carried.len,
+                                                   desk->numbers, desk->customs, desk->parts, told);
+    a.expected = told[0];
+    a.received = told[1];
+    a.served = told[2] != 0;
+    a.camera = told[3] & 0xffffffffu; /* 0 to 31 */
     return a;
 }
 

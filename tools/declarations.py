@@ -8,8 +8,8 @@ They are read out of crates/segvartin/src, so that C and Rust call what is there
                                               archive also, that it defines these functions and no other
 
 --check also holds the codes of settings, the numbers of refusals, the most pixels a side, the most frames of a
-convoy, the most records of a shift file and the bytes of a summary's entry, as the header and the Rust crate name
-them, to the library's.
+convoy, the cameras of a desk, the most records of a shift file and the bytes of a summary's entry, as the header and
+the Rust crate name them, to the library's.
 """
 import difflib
 import re
@@ -26,11 +26,13 @@ SETTINGS = ROOT / 'rust' / 'src' / 'settings.rs'
 ERRORS = ROOT / 'rust' / 'src' / 'error.rs'
 SUMMARIES = ROOT / 'rust' / 'src' / 'summary.rs'
 CONVOYS = ROOT / 'rust' / 'src' / 'convoy.rs'
+DESKS = ROOT / 'rust' / 'src' / 'desk.rs'
 
 # The header's names of refusals, by the library's; those of settings are the library's in capitals.
 REFUSALS = {
     'MalformedShiftFile': 'MALFORMED_SHIFT_FILE', 'OutputTooShort': 'OUTPUT_TOO_SHORT', 'SummaryMismatch': 'SUMMARY_MISMATCH',
-    'MalformedY4m': 'MALFORMED_Y4M', 'PartsMismatch': 'PARTS_MISMATCH', 'SettingsRecorded': 'SETTINGS_RECORDED',
+    'MalformedY4m': 'MALFORMED_Y4M', 'CameraMismatch': 'CAMERA_MISMATCH', 'BandStillWaiting': 'BAND_STILL_WAITING',
+    'CameraInUse': 'CAMERA_IN_USE', 'PartsMismatch': 'PARTS_MISMATCH', 'SettingsRecorded': 'SETTINGS_RECORDED',
     'MalformedRequest': 'MALFORMED_REQUEST', 'ZeroBaseSize': 'ZERO_BASE_SIZE', 'SizeTooLarge': 'SIZE_TOO_LARGE',
     'MatrixNotAccepted': 'MATRIX_NOT_ACCEPTED', 'WindowOutsideSource': 'WINDOW_OUTSIDE_SOURCE',
     'BandRowsMismatch': 'BAND_ROWS_MISMATCH',
@@ -173,24 +175,27 @@ def names_differ():
     settings, refusals = named_numbers()
     side = re.search(r'const MAX_SIDE: u32 = (\d+);', (ROOT / 'crates' / 'yuv_error' / 'src' / 'lib.rt').read_text())[1]
     convoy = re.search(r'const MAX_FRAMES: usize = (\d+);', (ROOT / 'crates' / 'convoy_parts' / 'src' / 'lib.rt').read_text())[1]
+    cameras = re.search(r'const CAMERAS: usize = (\d+);', (ROOT / 'crates' / 'desk_numbers' / 'src' / 'lib.rt').read_text())[1]
     records = re.search(r'const MOST_RECORDS: u32 = (\d+);', (ROOT / 'crates' / 'shift_file' / 'src' / 'lib.rt').read_text())[1]
     entry = re.search(r'const ENTRY: usize = (\d+);', (ROOT / 'crates' / 'summary_calls' / 'src' / 'lib.rt').read_text())[1]
     header = HEADER.read_text()
     ours = {name.split('::')[1].upper(): code for name, code in settings.items()} | {REFUSALS[name]: number for name, number in refusals.items()}
     ours |= {'FINISHED': 0, 'MAX_SIDE': int(side), 'MAX_CONVOY': int(convoy), 'MAX_RECORDS': int(records), 'SUMMARY_ENTRY': int(entry)}
+    ours |= {'CAMERAS': int(cameras)}
     theirs = {name: int(number) for name, number in re.findall(r'\bSEGVARTIN_(\w+) = (\d+)', header)}
-    theirs |= {name: int(number) for name, number in re.findall(r'#define SEGVARTIN_(MAX_\w+|SUMMARY_ENTRY) (\d+)', header)}
+    theirs |= {name: int(number) for name, number in re.findall(r'#define SEGVARTIN_(MAX_\w+|SUMMARY_ENTRY|CAMERAS) (\d+)', header)}
     rust = {name: int(code) for name, code in re.findall(r'(\w+::\w+)(?:\(\.\.\))? => (\d+),', SETTINGS.read_text())}
     errors = ERRORS.read_text()
     numbers = {name: int(number) for name, number in re.findall(r'YuvError::(\w+)(?:\(_\))? => (\d+),', errors)}
     back = {name: int(number) for number, name in re.findall(r'(\d+) => YuvError::(\w+)', errors)}
     bytes_ = {'SUMMARY_ENTRY': int(re.search(r'const SUMMARY_ENTRY: usize = (\d+);', SUMMARIES.read_text())[1])}
     frames = {'MAX_CONVOY': int(re.search(r'const MAX_CONVOY: usize = (\d+);', CONVOYS.read_text())[1])}
+    desk = {'CAMERAS': int(re.search(r'const CAMERAS: u32 = (\d+);', DESKS.read_text())[1])}
     differ = False
     for where, said, right in (
         (HEADER, theirs, ours), (SETTINGS, rust, settings), (ERRORS, numbers, refusals),
         (ERRORS, back, {name: number for name, number in refusals.items() if number != 1}), (SUMMARIES, bytes_, {'SUMMARY_ENTRY': int(entry)}),
-        (CONVOYS, frames, {'MAX_CONVOY': int(convoy)}),
+        (CONVOYS, frames, {'MAX_CONVOY': int(convoy)}), (DESKS, desk, {'CAMERAS': int(cameras)}),
     ):
         for name in sorted(said.keys() | right.keys()):
             if said.get(name) != right.get(name):

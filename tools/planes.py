@@ -48,6 +48,19 @@ def write_png(path, width, height, rows):
         f.write(chunk(b"IEND", b""))
 
 
+def read_png(path):
+    """Size and bytes of a picture, as write_png puts them."""
+    with open(path, "rb") as f:
+        data = f.read()
+    at, body, size = 8, b"", b""
+    while at < len(data):
+        (length,) = struct.unpack(">I", data[at : at + 4])
+        kind, part = data[at + 4 : at + 8], data[at + 8 : at + 8 + length]
+        size, body = part[:8] if kind == b"IHDR" else size, body + part if kind == b"IDAT" else body
+        at += 12 + length
+    return struct.unpack(">II", size), zlib.decompress(body)
+
+
 def main():
     if not 4 <= len(sys.argv) <= 6:
         sys.exit(__doc__)

@@ -202,6 +202,7 @@ def weights(matrix, range_, kr=None, kb=None):
 class Settings:
     def __init__(self, order='Rgb', sampling='4:2:0', range_='Limited', matrix='Bt601', transfer='Srgb', rounding='Truncated', kr=None, kb=None):
         self.order, self.sampling, self.range_, self.matrix, self.kr, self.kb = order, sampling, range_, matrix, kr, kb
+        self.transfer, self.rounding = transfer, rounding
         self.c, self.places = ORDERS[order]
         self.by, self.ry, self.ruv = RANGES[range_]
         self.linear, self.gamma = LINEAR[transfer, rounding], GAMMA[transfer, rounding]
@@ -833,6 +834,12 @@ def cut(part, buffer):
     return buffer[part.offset:part.offset + part.length]
 
 
+def put_back(parts, lent, own):
+    """15.1: the bytes of the parts of buffers replaced."""
+    for part, buffer, data in zip(parts, lent, own):
+        buffer[part.offset:part.offset + part.length] = data
+
+
 def is_broken(frames, lengths):
     """15.2: 18, for the lengths of source, Y, U, V."""
     if len(frames) > MOST_FRAMES or not all(is_inside(part, n) for frame in frames for part, n in zip(frame.parts, lengths)):
@@ -848,8 +855,7 @@ def turn(frame, source, planes):
     s, w, h, strides, window = frame.by
     left = [bytearray(cut(part, plane)) for part, plane in zip(frame.parts[1:], planes)]
     answer = frame_call(s, w, h, cut(frame.parts[0], source), [frame.stride, *strides], left, window)
-    for part, plane, data in zip(frame.parts[1:], planes, left):
-        plane[part.offset:part.offset + part.length] = data
+    put_back(frame.parts[1:], planes, left)
     return answer
 
 
@@ -862,6 +868,72 @@ def convoy_call(frames, source, planes):
         if answer[0]:
             return answer, place
     return (0, 0, 0), len(frames)
+
+
+# ---- chapter 16
+
+CAMERAS = 32
+# by: settings, w, h, plane strides and window, as in a convoy; parts: of Y, U, V and carried rows
+OpenFrame = namedtuple('OpenFrame', 'by done parts')
+WaitingBand = namedtuple('WaitingBand', 'rows stride part')
+Place = namedtuple('Place', 'frame band', defaults=(None, None))
+Desk = namedtuple('Desk', 'places first')
+FRESH = Desk((Place(),) * CAMERAS, 0)
+
+
+def put_place(desk, camera, place):
+    return desk._replace(places=desk.places[:camera] + (place,) + desk.places[camera + 1:])
+
+
+def desk_open(desk, camera, by, parts, lengths):
+    """16.2: three numbers, and the desk. `by` is None for codes without a meaning."""
+    if camera > 31:
+        return (21, 0, 0), desk
+    if desk.places[camera].frame:
+        return (23, 0, 0), desk
+    opened = [place.frame for place in desk.places if place.frame]
+    if not all(map(is_inside, parts, lengths)) or any(bool(shared_bytes(*both)) for frame in opened for both in zip(parts, frame.parts)):
+        return (18, 0, 0), desk
+    if by is None:
+        return (1, 0, 0), desk
+    s, w, h, _, window = by
+    answer = description_answer(s, w, h, window)
+    if answer:
+        return answer, desk
+    return (0, 0, 0), put_place(desk, camera, Place(OpenFrame(by, 0, parts)))
+
+
+def desk_offer(desk, camera, band, length):
+    """16.3: three numbers, and the desk."""
+    if camera > 31 or not desk.places[camera].frame:
+        return (21, 0, 0), desk
+    if desk.places[camera].band:
+        return (22, 0, 0), desk
+    if not is_inside(band.part, length):
+        return (18, 0, 0), desk
+    return (0, 0, 0), put_place(desk, camera, desk.places[camera]._replace(band=band))
+
+
+def next_waiting(desk):
+    """16.4: the camera that the next step serves, or None."""
+    asked = [(desk.first + i) % CAMERAS for i in range(CAMERAS)]
+    return next((camera for camera in asked if desk.places[camera].band), None)
+
+
+def desk_step(desk, source, lent):
+    """16.4: three numbers, the camera that was served or None, and the desk. lent: the buffers of Y, U, V and carried rows, written in place."""
+    camera = next_waiting(desk)
+    if camera is None:
+        return (0, 0, 0), None, desk
+    frame, band = desk.places[camera]
+    s, w, h, strides, window = frame.by
+    answer, done = (18, 0, 0), frame.done
+    if is_inside(band.part, len(source)) and all(map(is_inside, frame.parts, map(len, lent))):
+        own = [bytearray(cut(part, buffer)) for part, buffer in zip(frame.parts, lent)]
+        answer, done = band_call(s, w, h, done, band.rows, cut(band.part, source), [band.stride, *strides], own[:3], own[3], window)
+        put_back(frame.parts, lent, own)
+    left = Place() if done >= h else Place(frame._replace(done=done))
+    return answer, camera, put_place(desk, camera, left)._replace(first=(camera + 1) % CAMERAS)
 
 
 # ---- the examples, by the number of their rule
@@ -895,6 +967,10 @@ def product_sum(rgb, triple, more):
 
 def plane_text(planes):
     return ', '.join(f'{name} {hexes(plane)}' for name, plane in zip('YUV', planes))
+
+
+def parts_text(parts):
+    return ', '.join(numbers(part) for part in parts)
 
 
 def window_text(window):
@@ -1943,6 +2019,11 @@ def settings_of(description, kr, kb):
     return Settings(order, sampling, range_, matrix, transfer, rounding, kr, kb)
 
 
+def described_by(description, kr, kb):
+    """10.1: settings, w, h, plane strides and window."""
+    return settings_of(description, kr, kb), *description[:2], tuple(description[7:10]), window_of(description)
+
+
 def convoy_of(count, given, customs, parts):
     """10.9: the frames of a convoy by numbers; those past 64 are never looked at."""
     frames = []
@@ -1952,8 +2033,7 @@ def convoy_of(count, given, customs, parts):
         eight = [parts[i] if i < len(parts) else 0 for i in range(8 * k, 8 * k + 8)]
         by = None
         if len(of_frame) == 16 and not is_malformed('frame', of_frame):
-            description = of_frame[1:]
-            by = settings_of(description, kr, kb), *description[:2], description[7:10], window_of(description)
+            by = described_by(of_frame[1:], kr, kb)
         frames.append(ConvoyFrame(by, of_frame[0] if of_frame else 0, [Part(*eight[i:i + 2]) for i in (0, 2, 4, 6)]))
     return frames
 
@@ -1990,6 +2070,141 @@ def _():
     yield line('count 64, numbers and parts of three frames', 64, given, (), parts)
     yield line('count 65, numbers and parts of three frames', 65, given, (), parts)
     yield line('count 18446744073709551615, nothing in the lists', 2 ** 64 - 1, (), (), ())
+
+
+def desk_of(numbers_, customs, parts):
+    """10.10: the desk that three lists are."""
+    places = []
+    for c in range(CAMERAS):
+        stands, done, rows, stride, *description = numbers_[19 * c:19 * c + 19]
+        band, *of_frame = (Part(*parts[i:i + 2]) for i in range(10 * c, 10 * c + 10, 2))
+        for at, code, values in zip((2, 3, 4, 5, 6, 10), codes_of(description), CODES.values()):
+            if code >= len(values) + (values is CODES['matrix']):
+                description[at] = 0
+        frame = OpenFrame(described_by(description, *customs[2 * c:2 * c + 2]), done, of_frame) if stands in (1, 2) else None
+        places.append(Place(frame, WaitingBand(rows, stride, band) if stands == 2 else None))
+    return Desk(tuple(places), numbers_[608])
+
+
+def place_numbers(place):
+    """10.10: the 19 numbers, 2 binary32 numbers and 10 parts of what stands at a place."""
+    frame, band = place
+    if frame is None:
+        return [0] * 19, [0.0] * 2, [0] * 10
+    s, w, h, strides, window = frame.by
+    matrices = CODES['matrix'] + ['Custom']
+    codes = [CODES['channel order'].index(s.order), CODES['sampling'].index(s.sampling), CODES['range'].index(s.range_), matrices.index(s.matrix),
+             CODES['transfer'].index(s.transfer)]
+    description = [w, h, *codes, *strides, CODES['rounding'].index(s.rounding), *(window or whole(w, h))]
+    rows, stride, part = band or (0, 0, Part(0, 0))
+    return ([2 if band else 1, frame.done, rows, stride, *description], [s.kr, s.kb] if s.matrix == 'Custom' else [0.0] * 2,
+            [number for each in (part, *frame.parts) for number in each])
+
+
+class Lists:
+    """10.10: the three lists of a desk, and the calls on them, which say what they return and tell."""
+
+    def __init__(self):
+        self.numbers, self.customs, self.parts = [0] * 609, [0.0] * 64, [0] * 320
+
+    def desk(self):
+        return desk_of(self.numbers, self.customs, self.parts)
+
+    def text(self, camera):
+        customs, parts = self.customs[2 * camera:2 * camera + 2], self.parts[10 * camera:10 * camera + 10]
+        nineteen = numbers(self.numbers[19 * camera:19 * camera + 19])
+        return f'  {nineteen}; {" ".join(f"{k:g}" for k in customs)}; {numbers(parts)}; {self.numbers[608]}'
+
+    def write(self, camera, desk):
+        nineteen, two, ten = place_numbers(desk.places[camera])
+        self.numbers[19 * camera:19 * camera + 19] = nineteen
+        self.customs[2 * camera:2 * camera + 2] = two
+        self.parts[10 * camera:10 * camera + 10] = ten
+
+    def open(self, camera, described, custom, frame_parts, lengths):
+        by = None if is_malformed('opening', described) else described_by(described, *custom)
+        answer, desk = desk_open(self.desk(), camera, by, [Part(*frame_parts[i:i + 2]) for i in (0, 2, 4, 6)], lengths)
+        if not answer[0]:
+            self.write(camera, desk)
+        return told(*answer)
+
+    def offer(self, camera, band, place):
+        answer, desk = desk_offer(self.desk(), camera, WaitingBand(*band, Part(*place[:2])), place[2])
+        if not answer[0]:
+            self.write(camera, desk)
+        return f'returns {answer[0]}'
+
+    def step(self, source, lent):
+        answer, camera, desk = desk_step(self.desk(), source, lent)
+        if camera is not None:
+            self.write(camera, desk)
+            self.numbers[608] = desk.first
+        return told(*answer, *((0, 0) if camera is None else (1, camera)))
+
+
+@example('10.10')
+def _():
+    yield 'lengths of Y, U, V and carried rows 4 4 4 8; a source of 6 bytes, red and green; planes EE before, in hexadecimal'
+    yield 'after some calls, on a line of its own, what stands of camera 1: numbers 19 to 37; binary32 numbers 2, 3; parts 10 to 19; then number 608'
+    lists, lengths, source = Lists(), (4, 4, 4, 8), bytes([255, 0, 0, 0, 255, 0])
+    lent = [filled(4), filled(4), filled(4), filled(8)]
+    one, parts = (1, 2, 0, 0, 1, 0, 0, 1, 1, 1), (2, 2, 1, 1, 0, 1, 4, 3)
+
+    def opened(said, camera=1, described=one, custom=(0.0, 0.0), frame_parts=parts):
+        before = [*lists.numbers], [*lists.customs], [*lists.parts]
+        answer = lists.open(camera, described, custom, frame_parts, lengths)
+        assert answer.startswith('returns 0') or before == (lists.numbers, lists.customs, lists.parts)
+        return f'desk_open, {said}: {answer}'
+
+    def offered(said, camera=1, band=(1, 3), place=(0, 3, 6)):
+        return f'desk_offer, {said}: {lists.offer(camera, band, place)}'
+
+    def stepped(said=''):
+        return f'desk_step{said}: {lists.step(source, lent)}; {plane_text(lent)}'
+    yield f'three lists of zeros, desk_step: {lists.step(source, lent)}'
+    yield opened(f'camera 32, numbers {numbers(one)}, parts {numbers(parts)}', camera=32)
+    yield opened('camera 1, parts 2 3 1 1 0 1 4 3', frame_parts=(2, 3, *parts[2:]))
+    yield opened('the same, 9 numbers', described=one[:9], frame_parts=(2, 3, *parts[2:]))
+    yield opened('camera 1, 9 numbers', described=one[:9])
+    yield opened('camera 1, 14 numbers', described=one + (0, 0, 0, 1))
+    yield opened('camera 1, w 0 and matrix 7', described=(0, 2, 0, 0, 1, 7, 0, 1, 1, 1))
+    yield opened('camera 1, w 0', described=(0, *one[1:]))
+    yield opened('camera 1, matrix 6, kr 1, kb 0', described=(1, 2, 0, 0, 1, 6, 0, 1, 1, 1), custom=(1.0, 0.0))
+    yield lists.text(1)
+    yield opened(f'camera 1, numbers {numbers(one)}, kr and kb 0.25', custom=(0.25, 0.25))
+    yield lists.text(1)
+    yield opened('camera 1 again')
+    strange = (1, 1, 3, 1, 0, 6, 2, 1, 1, 1, 1)
+    yield opened(f'camera 0, numbers {numbers(strange)}, kr 0.25, kb 0.125, parts 0 1 0 1 1 1 0 3', camera=0, described=strange, custom=(0.25, 0.125),
+                 frame_parts=(0, 1, 0, 1, 1, 1, 0, 3))
+    yield f'  of camera 0:{lists.text(0)[1:]}'
+    yield offered('camera 2, rows and stride 1 3, place 0 3 6', camera=2)
+    yield offered('camera 1, 1 3, 4 3 6', place=(4, 3, 6))
+    yield offered('camera 1, 1 3, 0 3 6')
+    yield lists.text(1)
+    yield offered('the same again')
+    yield stepped()
+    yield lists.text(1)
+    yield stepped()
+    yield offered('camera 1, 1 2, 3 3 6', band=(1, 2), place=(3, 3, 6))
+    yield stepped()
+    yield lists.text(1)
+    yield offered('camera 1, 1 3, 3 3 6', place=(3, 3, 6))
+    yield stepped()
+    yield lists.text(1)
+    yield 'then, by no call, 2 0 1 3 as numbers 0 to 3, a band for camera 0; 9 as number 6, its channel order; 65 as number 608; 0 3 as parts 0, 1'
+    lists.numbers[:4], lists.numbers[6], lists.numbers[608], lists.parts[:2] = [2, 0, 1, 3], 9, 65, [0, 3]
+    yield stepped()
+    yield f'  of camera 0:{lists.text(0)[1:]}'
+    yield 'three lists of zeros, but number 0 is 3, number 19 is 1, and all others of cameras 0 and 1 are 7'
+    lists = Lists()
+    lists.numbers[:38], lists.customs[:4], lists.parts[:20] = [3] + [7] * 18 + [1] + [7] * 18, [7.0] * 4, [7] * 20
+    yield offered('camera 0, 1 3, 0 3 6', camera=0)
+    yield offered('camera 1, 1 3, 0 3 6')
+    yield lists.text(1)
+    small, first_bytes = (1, 1, *one[2:]), (0, 1, 0, 1, 0, 1, 0, 3)
+    yield opened(f'camera 0, numbers {numbers(small)}, parts {numbers(first_bytes)}', camera=0, described=small, frame_parts=first_bytes)
+    yield f'  of camera 0:{lists.text(0)[1:]}'
 
 
 # ---- chapter 11
@@ -2777,9 +2992,7 @@ def _():
     def line(said, *frames):
         return f'{said}: ' + ('18' if is_broken(frames, (9, 8, 8, 8)) else 'not 18')
 
-    def parts_text(frame):
-        return ', '.join(f'{part.offset} {part.length}' for part in frame.parts)
-    yield line(f'{parts_text(one)} and {parts_text(two)}', one, two)
+    yield line(f'{parts_text(one.parts)} and {parts_text(two.parts)}', one, two)
     yield line('the same, exchanged', two, one)
     names = ('source', 'Y', 'U', 'V')
     for name, *part in (('Y', 2, 1), ('U', 2, 1), ('V', 2, 1), ('Y', 0, 8), ('Y', 0, 2), ('Y', 0, 3), ('Y', 2, 0), ('Y', 7, 1), ('Y', 7, 2),
@@ -2860,6 +3073,279 @@ def _():
         for plane in range(3):
             assert cut(frames[k].parts[plane + 1], after[plane]) == cut(frames[k].parts[plane + 1], alone[k][plane])
     yield line('frame 1, then frame 0', frames[1], frames[0])[1]
+
+
+# ---- chapter 16
+
+DESK_LENGTHS = (12, 4, 4, 12)
+TALL = (FULL, 2, 3, (2, 1, 1), None)  # the frame of 8.7
+
+
+def tall_parts(place):
+    """Parts for the frame of 8.7; those of the next place begin where these end."""
+    return [Part(6 * place, 6), Part(2 * place, 2), Part(2 * place, 2), Part(6 * place, 6)]
+
+
+def desk_text(desk):
+    stands = [f'{camera} has {frame.done} of {frame.by[2]} rows' + (f' and a band of {band.rows}' if band else '')
+              for camera, (frame, band) in enumerate(desk.places) if frame]
+    return ', '.join([*stands, 'no frame'][:len(stands) or 1]) + f'; first {desk.first}'
+
+
+def accepted_open(desk, camera, by, parts, lengths=DESK_LENGTHS):
+    answer, desk = desk_open(desk, camera, by, parts, lengths)
+    assert answer == (0, 0, 0)
+    return desk
+
+
+def accepted_offer(desk, camera, rows, stride, part, length=2 ** 64 - 1):
+    answer, desk = desk_offer(desk, camera, WaitingBand(rows, stride, Part(*part)), length)
+    assert answer == (0, 0, 0)
+    return desk
+
+
+@example('16.1')
+def _():
+    yield f'a fresh desk: {desk_text(FRESH)}'
+    desk = accepted_open(FRESH, 31, TALL, tall_parts(0))
+    yield f'the same after an opening of camera 31 (16.2): {desk_text(desk)}'
+    desk = accepted_open(desk, 5, TALL, tall_parts(1))
+    yield f'and one of camera 5: {desk_text(desk)}'
+    desk = accepted_offer(desk, 31, 2, 6, (0, 12), 18)
+    yield f'and an offer of camera 31 (16.3): {desk_text(desk)}'
+    yield f'and a step (16.4): {desk_text(desk_step(desk, bytes(18), [filled(n) for n in DESK_LENGTHS])[2])}'
+    parts, strides = tall_parts(1), TALL[3]
+    yield f'camera 5 has parts {parts_text(parts)} of Y, U, V and carried rows, and plane strides {numbers(strides)}'
+    for plane, r, x in ((0, 2, 1), (2, 1, 0)):
+        name, at, stride = 'YUV'[plane], parts[plane].offset, strides[plane]
+        yield f'  byte {x} of row {r} of its {name} is byte {at} + {r} × {stride} + {x} = {at + r * stride + x} of the buffer of {name}'
+    yield f'  its carried row is bytes {bytes_of(parts[3])[0]} to {bytes_of(parts[3])[-1]} of the buffer of carried rows'
+    yield ', '.join(f'{first} modulo 32 is {first % 32}' for first in (31, 32, 65, 4294967295))
+
+
+@example('16.2')
+def _():
+    yield '2 × 3, Rgb, 4:2:0, plane strides 2 1 1; lengths of the buffers of Y, U, V and carried rows 12 4 4 12; parts of these, as offset and length'
+    desk = accepted_open(FRESH, 3, TALL, tall_parts(0))
+    yield f'a fresh desk, camera 3, parts {parts_text(tall_parts(0))}: 0; {desk_text(desk)}'
+    yield 'the desk that this leaves, and other openings, each by itself'
+
+    def line(said, camera=7, by=TALL, parts=tall_parts(1), lengths=DESK_LENGTHS, **changed):
+        parts = [Part(*changed.get(name, part)) for name, part in zip(('y', 'u', 'v', 'carried'), parts)]
+        answer, after = desk_open(desk, camera, by, parts, lengths)
+        assert answer[1:] == (0, 0) and (after == desk) == (answer[0] > 0)
+        return f'{said}: {answer[0]}' + ('' if answer[0] else f'; {desk_text(after)}')
+    yield line(f'camera 7, parts {parts_text(tall_parts(1))}, which touch those of camera 3')
+    yield line('camera 31, the same', camera=31)
+    yield line('camera 32, the same', camera=32)
+    yield line('camera 4294967295, the same', camera=2 ** 32 - 1)
+    yield line('camera 3, the same', camera=3)
+    yield 'camera 7 with the same, but'
+    for name, key, *some in (('Y', 'y', (5, 6), (0, 1), (6, 7), (12, 0), (13, 0), (3, 0), (2 ** 64 - 1, 2)), ('U', 'u', (1, 2), (0, 4), (3, 1)),
+                             ('V', 'v', (1, 1), (3, 2)), ('carried rows', 'carried', (5, 1), (0, 12), (8, 4), (8, 5), (2 ** 64 - 8, 16))):
+        for part in some:
+            yield line(f'{name} {numbers(part)}', **{key: part})
+    yield line('a length of Y of 11', lengths=(11, 4, 4, 12))
+    yield line('a length of the carried rows of 11', lengths=(12, 4, 4, 11))
+    yield line('lengths of 18446744073709551615', lengths=(2 ** 64 - 1,) * 4)
+    custom = Settings(range_='Full', matrix='Custom', kr=1.0, kb=0.0)
+    for said, by in (('w 0', (FULL, 0, *TALL[2:])), ('h 16385', (FULL, 2, 16385, *TALL[3:])), ('Custom, kr 1, kb 0', (custom, *TALL[1:])),
+                     ('left 1, top 0, W 2, H 3', (*TALL[:4], Window(1, 0, 2, 3))), ('plane strides 0 0 0', (FULL, 2, 3, (0, 0, 0), None)),
+                     ('codes without a meaning', None)):
+        yield line(said, by=by)
+    yield line('codes without a meaning, and Y 5 6', by=None, y=(5, 6))
+    yield line('w 0, and Y 5 6', by=(FULL, 0, *TALL[2:]), y=(5, 6))
+    yield 'several at once, and other desks'
+    yield line('camera 3, w 0, Y 13 0', camera=3, by=(FULL, 0, *TALL[2:]), y=(13, 0))
+    yield line('camera 32, w 0, Y 13 0', camera=32, by=(FULL, 0, *TALL[2:]), y=(13, 0))
+    desk = accepted_offer(desk, 3, 3, 6, (0, 18), 18)
+    yield line('camera 3 with a band that waits: camera 3', camera=3)
+    yield line('camera 3 with a band that waits: camera 7, Y 5 6', y=(5, 6))
+    desk = desk_step(desk, small_source(0, 3), [filled(n) for n in DESK_LENGTHS])[2]
+    yield line('the same after a step that does all its rows: camera 7, Y 5 6', y=(5, 6))
+    desk = accepted_open(FRESH, 31, TALL, tall_parts(0))
+    yield line('camera 31 with that frame in place of camera 3: camera 3, carried rows 5 6', camera=3, carried=(5, 6))
+
+
+@example('16.3')
+def _():
+    yield 'camera 3 has a frame of 2 × 3, no other has one; the source buffer has 18 bytes; m and stride, and a part of it as offset and length'
+    desk = accepted_open(FRESH, 3, TALL, tall_parts(0))
+
+    def line(said, desk, camera, *given, length=18):
+        band = WaitingBand(*given[:2], Part(*given[2:]))
+        answer, after = desk_offer(desk, camera, band, length)
+        assert answer[1:] == (0, 0) and (after == desk) == (answer[0] > 0)
+        return f'{said}: {answer[0]}' + ('' if answer[0] else f'; {desk_text(after)}')
+    for given in ((1, 6, 0, 6), (3, 6, 0, 18), (4, 6, 0, 18), (0, 0, 17, 1), (1, 6, 18, 0), (1, 6, 19, 0), (1, 6, 12, 7), (1, 6, 2 ** 64 - 1, 2)):
+        yield line(f'camera 3, {numbers(given[:2])}, {numbers(given[2:])}', desk, 3, *given)
+    yield line('camera 3, 1 6, 0 6, a source buffer of 5 bytes', desk, 3, 1, 6, 0, 6, length=5)
+    for camera in (2, 31, 32, 2 ** 32 - 1):
+        yield line(f'camera {camera}, 1 6, 0 6', desk, camera, 1, 6, 0, 6)
+    yield line('camera 32, 1 6, 19 0', desk, 32, 1, 6, 19, 0)
+    waiting = accepted_offer(desk, 3, 3, 6, (0, 18), 18)
+    yield f'the desk after an offer of camera 3, 3 6, 0 18: {desk_text(waiting)}'
+    yield line('camera 3, 1 6, 0 6', waiting, 3, 1, 6, 0, 6)
+    yield line('camera 3, 1 6, 19 0', waiting, 3, 1, 6, 19, 0)
+    yield line('camera 2, 1 6, 19 0', waiting, 2, 1, 6, 19, 0)
+    answer, camera, after = desk_step(waiting, small_source(0, 3), [filled(n) for n in DESK_LENGTHS])
+    assert answer == (0, 0, 0) and camera == 3
+    yield f'the desk after a step that does all its rows: {desk_text(after)}'
+    yield line('camera 3, 1 6, 0 6', after, 3, 1, 6, 0, 6)
+
+
+class Shift:
+    """A desk with its buffers, and lines that say what calls on it answer and leave."""
+
+    def __init__(self, source, lengths, desk=FRESH):
+        self.source, self.desk, self.lent = source, desk, [filled(n) for n in lengths]
+        self.lent[3][:] = b'\xcc' * lengths[3]
+
+    def open(self, camera, by, parts):
+        answer, self.desk = desk_open(self.desk, camera, by, parts, [len(buffer) for buffer in self.lent])
+        return answer[0]
+
+    def offer(self, camera, rows, stride, *part):
+        answer, self.desk = desk_offer(self.desk, camera, WaitingBand(rows, stride, Part(*part)), len(self.source))
+        return answer[0]
+
+    def buffers(self):
+        return f'{plane_text(self.lent[:3])}, carried rows {hexes(self.lent[3])}'
+
+    def step(self, source=None, lent=None):
+        answer, camera, self.desk = desk_step(self.desk, self.source if source is None else source, lent or self.lent)
+        return answer_line('step', answer) + (', no camera' if camera is None else f', camera {camera}')
+
+
+def one_wide(h):
+    return FULL, 1, h, (1, 1, 1), None
+
+
+@example('16.4')
+def _():
+    yield f'source {numbers(THREE_PIXELS)}: red, green, white; Y of 4 bytes, U and V of 3, EE before; carried rows of 9, CC before; in hexadecimal'
+    yield 'frames of w 1, Rgb, 4:2:0, Full, Bt601, Srgb, plane strides 1; parts of Y, U, V and carried rows'
+    shift = Shift(THREE_PIXELS, (4, 3, 3, 9))
+    own = {0: (1, [Part(0, 1), Part(0, 1), Part(0, 1), Part(0, 3)]), 2: (2, [Part(1, 2), Part(1, 1), Part(1, 1), Part(3, 3)]),
+           31: (1, [Part(3, 1), Part(2, 1), Part(2, 1), Part(6, 3)])}
+
+    def opened(camera):
+        h, parts = own[camera]
+        assert shift.open(camera, one_wide(h), parts) == 0
+        return f'opening, camera {camera}, h {h}, parts {parts_text(parts)}: 0'
+
+    def offered(camera, rows, stride, *part):
+        assert shift.offer(camera, rows, stride, *part) == 0
+        return f'offer, camera {camera}, {rows} {stride}, {numbers(part)}: 0'
+
+    def stepped(said='', **lent):
+        line = shift.step(**lent)
+        return line.replace('step', f'step{said}', 1) + f'; {desk_text(shift.desk)}'
+    for camera in (31, 2, 0):
+        yield opened(camera)
+    yield stepped()
+    yield offered(31, 1, 3, 6, 3)
+    yield offered(2, 1, 3, 3, 3)
+    yield offered(0, 1, 3, 0, 3)
+    yield stepped()
+    yield f'  {shift.buffers()}'
+    yield opened(0)
+    yield offered(0, 1, 3, 3, 3)
+    yield stepped()
+    yield f'  {shift.buffers()}'
+    yield offered(2, 2, 3, 0, 6)
+    yield stepped()
+    yield stepped()
+    yield f'  {shift.buffers()}'
+    yield stepped()
+    yield stepped()
+    yield offered(2, 1, 2, 0, 3)
+    yield stepped()
+    yield offered(2, 1, 3, 0, 3)
+    yield stepped(', source of 2 bytes', source=THREE_PIXELS[:2])
+    yield offered(2, 1, 3, 0, 3)
+    yield stepped(', carried rows of 5 bytes', lent=[*shift.lent[:3], shift.lent[3][:5]])
+    yield f'  {shift.buffers()}'
+    yield offered(2, 1, 3, 0, 3)
+    yield stepped()
+    yield f'  {shift.buffers()}'
+    yield 'desks that no call left: cameras 0 and 1 have frames of h 1 on the same parts, and a band each'
+    both = OpenFrame(one_wide(1), 0, own[0][1])
+    for first in (33, 4294967295):
+        places = [Place(both, WaitingBand(1, 3, Part(3 * k, 3))) for k in range(2)]
+        shift = Shift(THREE_PIXELS, (4, 3, 3, 9), Desk((*places, *FRESH.places[2:]), first))
+        yield f'first {first}: ' + stepped()
+        yield stepped()
+    shift = Shift(THREE_PIXELS, (4, 3, 3, 9), Desk((Place(both._replace(done=7), WaitingBand(1, 3, Part(0, 3))), *FRESH.places[1:]), 0))
+    yield f'camera 0 alone, a frame of h 1 with 7 rows done and a band: {stepped()}'
+
+
+@example('16.5')
+def _():
+    yield 'each camera has a frame of 1 × 2, and a band of 1 row wherever one is offered'
+
+    def begun(cameras):
+        desk = FRESH
+        for camera in cameras:
+            parts = [Part(camera * n, n) for n in (2, 1, 1, 3)]
+            desk = accepted_open(desk, camera, one_wide(2), parts, (64, 32, 32, 96))
+        return desk
+
+    def run(desk, offers, steps):
+        """Offers before each step, each where it is accepted; the cameras served, with the answers that are refusals."""
+        served, lent = [], [filled(n) for n in (64, 32, 32, 96)]
+        for step in range(steps):
+            for camera, rows in offers(step):
+                desk = desk_offer(desk, camera, WaitingBand(rows, 3, Part(0, 3)), 3)[1]
+            answer, camera, desk = desk_step(desk, bytes(3), lent)
+            served.append('none' if camera is None else f'{camera}' + (f' (refusal {answer[0]})' if answer[0] else ''))
+        return ' '.join(served), [camera for camera in range(CAMERAS) if desk.places[camera].band]
+    every = [(camera, 1) for camera in range(CAMERAS)]
+    for steps in (32, 31):
+        served, waiting = run(begun(range(CAMERAS)), lambda step: every if step == 0 else (), steps)
+        yield f'all 32 offer, then {steps} steps serve {served}; waiting behind them: {numbers(waiting) or "none"}'
+    yield 'all 32 offer, then 28 steps, then cameras 0 to 27 offer again, and camera 28 is one of 32 that wait: the next 4 steps and 28 more serve'
+    served, _ = run(begun(range(CAMERAS)), lambda step: every if step in (0, 28) else (), 60)
+    yield f'  {" ".join(served.split()[28:])}'
+    yield 'cameras 0, 5 and 9 alone; 5 and 9 offer once, 0 a band of 0 rows before each step; 5 steps serve ' + run(
+        begun((0, 5, 9)), lambda step: [(0, 0)] + ([(5, 1), (9, 1)] if step == 0 else []), 5)[0]
+    yield 'the same three, of which nobody offers; 3 steps serve ' + run(begun((0, 5, 9)), lambda step: (), 3)[0]
+
+
+@example('16.6')
+def _():
+    yield 'cameras 4 and 9, each 2 × 3, Rgb, Bt601, Srgb, 4:2:0, plane strides 2 1 1; 4 is Full, 9 is Limited; planes EE and carried rows CC before'
+    yield f'rows of camera 4: {rows_text(SMALL)}'
+    other = SMALL[::-1]
+    yield f'rows of camera 9: {rows_text(other)}'
+    rows = {camera: [bytes(sum(row, ())) for row in frame] for camera, frame in ((4, SMALL), (9, other))}
+    by = {4: TALL, 9: (Settings(), *TALL[1:])}
+    source = b''.join(rows[4] + rows[9])
+    yield f'they stand behind each other in a source of {len(source)} bytes, 6 bytes a row; after each step Y, U, V and carried rows, in hexadecimal'
+    shift = Shift(source, DESK_LENGTHS)
+    for place, camera in enumerate((4, 9)):
+        assert shift.open(camera, by[camera], tall_parts(place)) == 0
+        yield f'opening, camera {camera}, parts {parts_text(tall_parts(place))}: 0'
+
+    def alone(camera):
+        strides, planes = tight_planes(by[camera][0], 2, 3)
+        assert frame_call(*by[camera][:3], b''.join(rows[camera]), [6, *strides], planes) == (0, 0, 0)
+        return planes
+    for camera, count, *part in ((4, 1, 0, 6), (9, 1, 18, 6), (4, 3, 6, 12), (9, 2, 24, 12), (4, 2, 6, 12)):
+        assert shift.offer(camera, count, 6, *part) == 0
+        line = shift.step()
+        assert line.endswith(f'camera {camera}')
+        yield f'offer, camera {camera}, {count} 6, {numbers(part)}: 0; {line}'
+        yield f'  {shift.buffers()}'
+        if (camera, count) == (9, 2):
+            for part, buffer, plane in zip(tall_parts(1), shift.lent, alone(9)):
+                assert cut(part, buffer) == plane
+            assert shift.open(20, by[4], tall_parts(1)) == 0
+            yield '  camera 9 is finished; opening, camera 20, on the parts of camera 9: 0'
+    for part, buffer, plane in zip(tall_parts(0), shift.lent, alone(4)):
+        assert cut(part, buffer) == plane
+    for camera in (4, 9):
+        yield f'one frame call of the rows of camera {camera} alone: {plane_text(alone(camera))}'
 
 
 # ---- appendix A

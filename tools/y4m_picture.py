@@ -8,12 +8,10 @@ As a player does, it takes the planes for BT.601 in limited range, and each U an
 """
 
 import os
-import struct
 import sys
-import zlib
 
 sys.dont_write_bytecode = True
-from planes import GAP, read_ppm, write_png
+from planes import GAP, read_png, read_ppm, write_png
 
 PICTURE = os.path.join(os.path.dirname(os.path.abspath(__file__)), "..", "docs", "y4m.png")
 SCALE = 4
@@ -44,19 +42,6 @@ def shown(path):
             row.append(bytes(min(255, max(0, (s + 32768) >> 16)) for s in sums))
         rows.append(row)
     return rows
-
-
-def read_png(path):
-    """Size and bytes of a picture, as write_png puts them."""
-    with open(path, "rb") as f:
-        data = f.read()
-    at, body, size = 8, b"", b""
-    while at < len(data):
-        (length,) = struct.unpack(">I", data[at : at + 4])
-        kind, part = data[at + 4 : at + 8], data[at + 8 : at + 8 + length]
-        size, body = part[:8] if kind == b"IHDR" else size, body + part if kind == b"IDAT" else body
-        at += 12 + length
-    return struct.unpack(">II", size), zlib.decompress(body)
 
 
 def main():

@@ -16,7 +16,7 @@ struct Several {
     buffers: [Vec<u8>; 4],
 }
 
-fn cut(buffer: &mut [u8], part: BufferPart) -> &mut [u8] {
+pub fn cut(buffer: &mut [u8], part: BufferPart) -> &mut [u8] {
     &mut buffer[part.offset..part.offset + part.length]
 }
 
@@ -94,7 +94,7 @@ const THREAD_TIME: i32 = 3;
 
 /// Milliseconds that this thread has had a processor. A call on six frames takes longer than a busy machine lets a thread run at once, so that the
 /// least time on the wall has other programs in it.
-fn processor_time() -> f64 {
+pub fn processor_time() -> f64 {
     let mut at = Timespec { seconds: 0, nanoseconds: 0 };
     // SAFETY: it writes the struct, which has its layout.
     assert_eq!(unsafe { clock_gettime(THREAD_TIME, &mut at) }, 0);
@@ -114,7 +114,7 @@ fn least_processor_time<const N: usize>(on: &mut Several, turns: usize, forms: [
     least
 }
 
-const SAMPLINGS: [(&str, YuvChromaSubsampling); 2] = [("4:2:0", YuvChromaSubsampling::Yuv420), ("4:2:2", YuvChromaSubsampling::Yuv422)];
+pub const SAMPLINGS: [(&str, YuvChromaSubsampling); 2] = [("4:2:0", YuvChromaSubsampling::Yuv420), ("4:2:2", YuvChromaSubsampling::Yuv422)];
 
 pub fn report(bars: &mut Bars) {
     println!("\nsix frames of 1,920 x 1,080 in one call beside six, Rgb, noise, processor ms; least of {TURNS} turns; bar: {MOST_OVER_CALLS} %");

@@ -1,9 +1,10 @@
-//! Times this converter and the unaltered Rust on the same frames, in one run, on one thread; several frames in one call beside single calls; a count
-//! of colours beside a loop in C; shift files beside memcpy; their summaries beside a sum in C; two of them paired beside memcmp; and Y4M files beside memcpy.
+//! Times this converter and the unaltered Rust on the same frames, in one run, on one thread; several frames in one call beside single calls; a desk's
+//! steps beside band calls; a count of colours beside a loop in C; shift files beside memcpy; their summaries beside a sum in C; two of them paired beside memcmp; and Y4M files beside memcpy.
 //!
 //! Each figure is the least of many turns. The two, or a frame's forms, take turns, so that a busy
 //! moment of the machine falls on both alike.
 mod convoy;
+mod desk;
 mod pairs;
 mod shift;
 mod summary;
@@ -292,6 +293,9 @@ fn main() {
     if asked("convoy") {
         convoy::report(&mut bars);
     }
+    if asked("desk") {
+        desk::report(&mut bars);
+    }
     if asked("shift") {
         shift::report(&mut bars);
     }
@@ -309,7 +313,7 @@ fn main() {
     }
 }
 
-/// All but convoys, shift files, summaries, pairs and Y4M files.
+/// All but convoys, desks, shift files, summaries, pairs and Y4M files.
 fn frames(bars: &mut Bars) {
     println!("\n1,920 x 1,080, ms; bar: {LEAST_RATIO} times the Rust");
     println!("{:<8}{:<6}{:<7}{:>8}{:>8}{:>8}{:>24}", "content", "order", "chroma", "Rust", "ours", "times", "U, V bytes that differ");

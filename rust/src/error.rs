@@ -23,8 +23,15 @@ pub enum YuvError {
     /// 19: the text or the planes of a Y4M file break its rules; or, of what is to be written, width or height is not from 1 to 16,384, the bytes are not
     /// whole pictures, a stride is below its row, or a plane is not exactly its stride times its rows long.
     MalformedY4m,
+    /// 21: a camera number above 31; or a band is offered for a number without an open frame.
+    CameraMismatch,
+    /// 22: a band is offered while that camera's last one waits.
+    BandStillWaiting,
+    /// 23: a frame is open at that camera number.
+    CameraInUse,
     /// 18: of several frames in one call, there are more than 64, a part reaches outside its buffer, or parts of two frames in Y, in U or in V share a
-    /// byte.
+    /// byte. At a desk: a part of a frame to be opened reaches outside its buffer or shares a byte with an open frame's; an offered band reaches
+    /// outside the source; or, at its step, a part of the band or of its frame reaches outside the buffers that are lent then.
     PartsMismatch,
     /// 1: a setting without a meaning. The enums of this crate have none, so no call here answers it.
     MalformedRequest,
@@ -68,6 +75,9 @@ impl YuvError {
             YuvError::MalformedShiftFile => 15,
             YuvError::SummaryMismatch => 17,
             YuvError::MalformedY4m => 19,
+            YuvError::CameraMismatch => 21,
+            YuvError::BandStillWaiting => 22,
+            YuvError::CameraInUse => 23,
             YuvError::PartsMismatch => 18,
             YuvError::MalformedRequest => 1,
             YuvError::ZeroBaseSize => 2,
@@ -95,6 +105,9 @@ impl YuvError {
             YuvError::MalformedShiftFile
             | YuvError::SummaryMismatch
             | YuvError::MalformedY4m
+            | YuvError::CameraMismatch
+            | YuvError::BandStillWaiting
+            | YuvError::CameraInUse
             | YuvError::PartsMismatch
             | YuvError::MalformedRequest
             | YuvError::ZeroBaseSize
@@ -123,6 +136,9 @@ impl YuvError {
             15 => YuvError::MalformedShiftFile,
             17 => YuvError::SummaryMismatch,
             19 => YuvError::MalformedY4m,
+            21 => YuvError::CameraMismatch,
+            22 => YuvError::BandStillWaiting,
+            23 => YuvError::CameraInUse,
             18 => YuvError::PartsMismatch,
             2 => YuvError::ZeroBaseSize,
             3 => YuvError::SizeTooLarge,
@@ -150,6 +166,9 @@ impl Display for YuvError {
             YuvError::MalformedShiftFile => "the layout of a shift file is broken",
             YuvError::SummaryMismatch => "the summary is too short, or not the shift file's",
             YuvError::MalformedY4m => "the text or the planes of a Y4M file break its rules",
+            YuvError::CameraMismatch => "a camera number above 31, or one without an open frame",
+            YuvError::BandStillWaiting => "the camera's last band still waits",
+            YuvError::CameraInUse => "a frame is open at that camera number",
             YuvError::PartsMismatch => {
                 "too many frames, a part outside its buffer, or shared bytes"
             }

@@ -36,6 +36,45 @@ unsafe extern "C" {
         told: &mut [usize; 3],
     ) -> u32;
 
+    pub(crate) fn segvartin_call_desk_open(
+        camera: u32,
+        described: *const u32,
+        described_len: usize,
+        custom: &[f32; 2],
+        frame_parts: &[u64; 8],
+        lengths: &[u64; 4],
+        numbers: &mut [u32; 609],
+        customs: &mut [f32; 64],
+        parts: &mut [u64; 320],
+        told: &mut [usize; 2],
+    ) -> u32;
+
+    pub(crate) fn segvartin_call_desk_offer(
+        camera: u32,
+        band: &[u32; 2],
+        place: &[u64; 3],
+        numbers: &mut [u32; 609],
+        customs: &mut [f32; 64],
+        parts: &mut [u64; 320],
+    ) -> u32;
+
+    pub(crate) fn segvartin_call_desk_step(
+        source: *const u8,
+        source_len: usize,
+        y: *mut u8,
+        y_len: usize,
+        u: *mut u8,
+        u_len: usize,
+        v: *mut u8,
+        v_len: usize,
+        carried: *mut u8,
+        carried_len: usize,
+        numbers: &mut [u32; 609],
+        customs: &mut [f32; 64],
+        parts: &mut [u64; 320],
+        told: &mut [usize; 4],
+    ) -> u32;
+
     pub(crate) fn segvartin_call_open(
         numbers: *const u32,
         numbers_len: usize,

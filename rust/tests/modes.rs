@@ -176,6 +176,100 @@ fn by_convoy(frame: &FrameDescription, source: &[u8]) -> (Result<(), YuvError>, 
     (answer.map_err(YuvError::from), planes)
 }
 
+/// A desk with this frame, with nearest tables, for camera 9, on the whole of buffers for one.
+fn open_desk(
+    desk: &mut Desk,
+    frame: &FrameDescription,
+    planes: &[Vec<u8>; 3],
+) -> Result<(), YuvError> {
+    let lengths = DeskLengths {
+        y: planes[0].len(),
+        u: planes[1].len(),
+        v: planes[2].len(),
+        carried: 3 * frame.width as usize,
+    };
+    let parts = DeskParts {
+        y: BufferPart::new(0, lengths.y),
+        u: BufferPart::new(0, lengths.u),
+        v: BufferPart::new(0, lengths.v),
+        carried: BufferPart::new(0, lengths.carried),
+    };
+    desk.open(9, frame, &nearest(frame), &parts, &lengths)
+}
+
+/// A desk as above that was opened with another matrix, a Custom one being put into it by hand: a step judges the matrix itself.
+fn unasked_desk(frame: &FrameDescription, planes: &[Vec<u8>; 3]) -> Desk {
+    let mut desk = Desk::default();
+    if let YuvStandardMatrix::Custom(kr, kb) = frame.matrix {
+        let matrix = YuvStandardMatrix::Bt601;
+        let named = FrameDescription { matrix, ..*frame };
+        open_desk(&mut desk, &named, planes).unwrap();
+        desk.numbers[19 * 9 + 9] = 6;
+        desk.customs[2 * 9..][..2].copy_from_slice(&[kr, kb]);
+    } else {
+        open_desk(&mut desk, frame, planes).unwrap();
+    }
+    desk
+}
+
+/// What a frame with nearest tables leaves at a desk, in bands of one row, until one is refused.
+fn by_desk(frame: &FrameDescription, source: &[u8]) -> (Result<(), YuvError>, [Vec<u8>; 3]) {
+    let mut planes = planes(frame);
+    let mut carried = vec![0; 3 * frame.width as usize];
+    let mut desk = unasked_desk(frame, &planes);
+    let [y, u, v] = &mut planes;
+    let stride = 3 * frame.width as usize;
+    for row in 0..frame.height as usize {
+        let part = BufferPart::new(row * stride, stride);
+        let offered = desk.offer(9, 1, stride as u32, part, source.len());
+        assert_eq!(offered, Ok(()));
+        match desk.step(source, y, u, v, &mut carried) {
+            Ok(served) => assert_eq!(served, Some(9)),
+            Err(refused) => return (Err(refused.error), planes),
+        }
+    }
+    (Ok(()), planes)
+}
+
+/// The number that the exported step answers, and the planes that it leaves, for Limited, 4:2:2 and a Custom matrix, in a band of the whole frame.
+fn step_by_export(
+    width: u32,
+    height: u32,
+    [kr, kb]: [f32; 2],
+    source: &[u8],
+) -> (u32, [Vec<u8>; 3]) {
+    let (sampling, range) = (YuvChromaSubsampling::Yuv422, YuvRange::Limited);
+    let matrix = YuvStandardMatrix::Custom(kr, kb);
+    let frame = description(width, height, sampling, range, matrix);
+    let mut planes = planes(&frame);
+    let mut carried = vec![0; 3 * width as usize];
+    let mut desk = unasked_desk(&frame, &planes);
+    let part = BufferPart::new(0, source.len());
+    let offered = desk.offer(9, height, 3 * width, part, source.len());
+    assert_eq!(offered, Ok(()));
+    let [y, u, v] = &mut planes;
+    // SAFETY: each pointer is that of a slice beside its own length, or of a local; no two overlap, as the borrows say.
+    let number = unsafe {
+        ffi::segvartin_call_desk_step(
+            source.as_ptr(),
+            source.len(),
+            y.as_mut_ptr(),
+            y.len(),
+            u.as_mut_ptr(),
+            u.len(),
+            v.as_mut_ptr(),
+            v.len(),
+            carried.as_mut_ptr(),
+            carried.len(),
+            &mut desk.numbers,
+            &mut desk.customs,
+            &mut desk.parts,
+            &mut [0; 4],
+        )
+    };
+    (number, planes)
+}
+
 /// The number that the exported frame call answers, and the planes that it leaves, for Limited, 4:2:2 and a Custom matrix.
 fn by_export(width: u32, height: u32, custom: [f32; 2], source: &[u8]) -> (u32, [Vec<u8>; 3]) {
     let (sampling, range) = (YuvChromaSubsampling::Yuv422, YuvRange::Limited);
@@ -275,6 +369,11 @@ fn the_same_in_every_mode() {
                 assert_eq!((before, after, &got), (mode, mode, &usual_with));
                 let (before, after, got) = in_mode(mode, || by_convoy(&frame, &source));
                 assert_eq!((before, after, &got), (mode, mode, &usual_with));
+                let (before, after, got) = in_mode(mode, || by_desk(&frame, &source));
+                assert_eq!((before, after, &got), (mode, mode, &usual_with));
+                let lent = planes(&frame);
+                let open = || open_desk(&mut Desk::default(), &frame, &lent);
+                assert_eq!(in_mode(mode, open), (mode, mode, answer));
                 let (before, after, opened) = in_mode(mode, || FrameState::open(frame));
                 assert_eq!(
                     (before, after, opened.map(|state| state.done)),
@@ -302,6 +401,11 @@ fn the_export_rounds_as_its_caller() {
         let (_, _, (answer, [_, _, v])) = in_mode(mode, || by_frame(&frame, &[0, 255, 0]));
         assert_eq!((answer, v[0]), (Ok(()), 46));
         let export = || by_export(1, 1, [0.056, 0.257], &[0, 255, 0]);
+        let (_, _, (number, [_, _, v])) = in_mode(mode, export);
+        assert_eq!((number, v[0]), (0, if rounding == 0 { 46 } else { 47 }));
+        let (_, _, (answer, [_, _, v])) = in_mode(mode, || by_desk(&frame, &[0, 255, 0]));
+        assert_eq!((answer, v[0]), (Ok(()), 46));
+        let export = || step_by_export(1, 1, [0.056, 0.257], &[0, 255, 0]);
         let (_, _, (number, [_, _, v])) = in_mode(mode, export);
         assert_eq!((number, v[0]), (0, if rounding == 0 { 46 } else { 47 }));
     }
@@ -347,6 +451,8 @@ fn the_export_takes_denormals_as_its_caller() {
         let export = || by_export(5, 3, [0.0f32.next_down(), 0.1], &source);
         assert_eq!(in_mode(mode, export).2.0, number);
         let export = || counts_by_export([0.0f32.next_down(), 0.1]);
+        assert_eq!(in_mode(mode, export).2.0, number);
+        let export = || step_by_export(5, 3, [0.0f32.next_down(), 0.1], &source);
         assert_eq!(in_mode(mode, export).2.0, number);
     }
 }

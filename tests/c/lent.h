@@ -49,7 +49,7 @@ static lent lend(size_t len) {
 static void give_back(lent *b) { munmap(b->map, b->mapped); }
 
 /* Whether the buffer still has the pattern. */
-static int untouched(const lent *b) {
+static inline int untouched(const lent *b) {
     for (size_t i = 0; i < b->len; i++)
         if (b->at[i] != (uint8_t)(0xa5 ^ i)) return 0;
     return 1;

@@ -74,6 +74,9 @@ typedef struct outcome {
     segvartin_y4m_file y4m_told;
     uint8_t convoy_y[2 * W * H], convoy_u[2 * CW * H], convoy_v[2 * CW * H];
     size_t frames;
+    segvartin_desk desk;
+    uint8_t desk_carried[2 * 3 * W];
+    uint32_t cameras;
 } outcome;
 
 typedef void call(const segvartin_description *d, outcome *o);
@@ -217,6 +220,71 @@ static void convoy(const segvartin_description *d, outcome *o) {
     told(o, segvartin_convert_convoy(frames, 2, rows(d, 0, d->height), y, u, v, &o->frames));
 }
 
+/*
+ * The same two frames at a desk, of cameras 30 and 2: the planes are those of the convoy, above. Bytes that stay 0 there are so here.
+ */
+enum { FIRST = 30, SECOND = 2, HELD = 7 };
+
+static uint32_t open_at(const segvartin_description *d, outcome *o, uint32_t k) {
+    const size_t luma = (size_t)d->y_stride * d->height, chroma = plane(NULL, d).len;
+    const segvartin_desk_lengths lengths = {sizeof o->convoy_y, sizeof o->convoy_u, sizeof o->convoy_v, sizeof o->desk_carried};
+    const segvartin_options options = k == 1 ? nearest(d) : segvartin_options_of(d);
+    segvartin_desk_parts parts;
+    parts.y.length = luma, parts.u.length = parts.v.length = chroma, parts.carried.length = 3 * W;
+    parts.y.offset = (1 - k) * luma, parts.u.offset = parts.v.offset = (1 - k) * chroma, parts.carried.offset = k * 3 * W;
+    told(o, segvartin_desk_open(&o->desk, k == 1 ? SECOND : FIRST, d, &options, &parts, &lengths));
+    return o->number;
+}
+
+static void desk_opening(const segvartin_description *d, outcome *o) { open_at(d, o, 1); }
+
+/* Opens a frame of the matrix Bt601, and puts the description's own into the desk by hand: a step judges the matrix itself. */
+static void open_unasked(const segvartin_description *d, outcome *o, uint32_t k) {
+    segvartin_description named = *d;
+    const uint32_t camera = k == 1 ? SECOND : FIRST;
+    named.matrix = SEGVARTIN_BT601;
+    open_at(&named, o, k);
+    o->desk.numbers[19 * camera + 9] = d->matrix;
+    memcpy(o->desk.customs + 2 * camera, &d->kr, 4);
+    memcpy(o->desk.customs + 2 * camera + 1, &d->kb, 4);
+}
+
+static segvartin_desk_answer step(const segvartin_description *d, outcome *o) {
+    segvartin_bytes_mut y = {o->convoy_y, sizeof o->convoy_y}, u = {o->convoy_u, sizeof o->convoy_u}, v = {o->convoy_v, sizeof o->convoy_v};
+    segvartin_bytes_mut lent_rows = {o->desk_carried, sizeof o->desk_carried};
+    return segvartin_desk_step(&o->desk, rows(d, 0, d->height), y, u, v, lent_rows);
+}
+
+/* Both frames in bands of one row, until one is refused. A third camera has a band that waits at each offer, with a kr that signals. */
+static void desk_bands(const segvartin_description *d, outcome *o) {
+    static const uint32_t signals = 0x7f800001, denormal = 0x00000001;
+    const size_t len = rows(d, 0, d->height).len;
+    segvartin_part none = {0, 0};
+    segvartin_desk_answer a;
+    uint32_t row = 0;
+    open_unasked(d, o, 0);
+    open_unasked(d, o, 1);
+    o->desk.numbers[19 * HELD] = 1;
+    o->desk.numbers[19 * HELD + 5] = 1;
+    o->desk.numbers[19 * HELD + 9] = SEGVARTIN_CUSTOM;
+    memcpy(o->desk.customs + 2 * HELD, &signals, 4);
+    memcpy(o->desk.customs + 2 * HELD + 1, &denormal, 4);
+    told(o, segvartin_desk_offer(&o->desk, HELD, 1, 1, none, len));
+    o->cameras = segvartin_desk_offer(&o->desk, HELD, 1, 1, none, len).number;
+    step(d, o); /* refused: it has no width */
+    for (; row < d->height && o->number == SEGVARTIN_FINISHED; row++)
+        for (int k = 0; k < 2 && o->number == SEGVARTIN_FINISHED; k++) {
+            segvartin_part band;
+            band.offset = (size_t)row * 3 * d->width, band.length = 3 * d->width;
+            told(o, segvartin_desk_offer(&o->desk, k == 0 ? FIRST : SECOND, 1, 3 * d->width, band, len));
+            if (o->number != SEGVARTIN_FINISHED) continue;
+            a = step(d, o);
+            o->number = a.number, o->expected = a.expected, o->received = a.received;
+            o->cameras = (100 * o->cameras + a.camera) % 10000; /* the last two */
+        }
+    o->done = row;
+}
+
 /* How many colours share a luma, by the range and the matrix of the description alone. */
 static void colours(const segvartin_description *d, outcome *o) {
     o->number = segvartin_luma_counts(d->range, d->matrix, d->kr, d->kb, o->counts);
@@ -333,6 +401,35 @@ static void bare_convoy(const segvartin_description *d, outcome *o) {
     o->frames = sizes[2];
 }
 
+/* As desk_opening, by the exported function alone: the frame has no bytes. */
+static void bare_desk_opening(const segvartin_description *d, outcome *o) {
+    static const uint64_t none[8], lengths[4];
+    const float custom[2] = {d->kr, d->kb};
+    const segvartin_options options = nearest(d);
+    uint32_t numbers[15];
+    size_t sizes[2];
+    segvartin_put_numbers(numbers, d, &options);
+    o->number = segvartin_call_desk_open(SECOND, numbers, 15, custom, none, lengths, o->desk.numbers, o->desk.customs, o->desk.parts, sizes);
+    o->expected = sizes[0];
+    o->received = sizes[1];
+}
+
+/* A band of the whole frame served, its step by the exported function alone. */
+static void bare_desk_step(const segvartin_description *d, outcome *o) {
+    segvartin_bytes from = rows(d, 0, d->height);
+    segvartin_part all;
+    size_t sizes[4];
+    all.offset = 0, all.length = from.len;
+    open_unasked(d, o, 1);
+    segvartin_desk_offer(&o->desk, SECOND, d->height, 3 * d->width, all, from.len);
+    o->number = segvartin_call_desk_step(from.at, from.len, o->convoy_y, sizeof o->convoy_y, o->convoy_u, sizeof o->convoy_u, o->convoy_v,
+                                         sizeof o->convoy_v, o->desk_carried, sizeof o->desk_carried, o->desk.numbers, o->desk.customs,
+                                         o->desk.parts, sizes);
+    o->expected = sizes[0];
+    o->received = sizes[1];
+    o->cameras = (uint32_t)sizes[3];
+}
+
 /* Makes the call in the mode, and answers MXCSR before and after it. */
 static void in_mode(int mode, call *made, const segvartin_description *d, outcome *o, unsigned mxcsr[2]) {
     memset(o, 0, sizeof *o);
@@ -383,6 +480,23 @@ static void several_in_every_mode(const segvartin_description *d, uint32_t numbe
     as_usual(convoy, d, &both);
 }
 
+/* At a desk they are the same: an opening judges the matrix, and so does each step. */
+static void desk_in_every_mode(const segvartin_description *d, uint32_t number) {
+    outcome both, usual;
+    unsigned mxcsr[2];
+    in_mode(0, convoy, d, &both, mxcsr);
+    in_mode(0, desk_opening, d, &usual, mxcsr);
+    EXPECT(usual.number == number && usual.desk.numbers[19 * SECOND] == (number == SEGVARTIN_FINISHED));
+    as_usual(desk_opening, d, &usual);
+    in_mode(0, desk_bands, d, &usual, mxcsr);
+    EXPECT(usual.number == number && usual.expected == 0 && usual.received == 0 && usual.done == (number == SEGVARTIN_FINISHED ? d->height : 1));
+    EXPECT(usual.cameras == (number == SEGVARTIN_FINISHED ? 100 * FIRST + SECOND : 100 * SEGVARTIN_BAND_STILL_WAITING + FIRST));
+    EXPECT(usual.desk.numbers[19 * HELD] == 1 && usual.desk.numbers[608] == (number == SEGVARTIN_FINISHED ? SECOND : FIRST) + 1);
+    EXPECT(memcmp(usual.convoy_y, both.convoy_y, sizeof both.convoy_y) == 0 && memcmp(usual.convoy_u, both.convoy_u, sizeof both.convoy_u) == 0);
+    EXPECT(memcmp(usual.convoy_v, both.convoy_v, sizeof both.convoy_v) == 0);
+    as_usual(desk_bands, d, &usual);
+}
+
 /* The calls, in each mode: answered with this number, and the same bytes as in the default mode. */
 static void in_every_mode(const segvartin_description *d, uint32_t number) {
     static call *const calls[9] = {frame, opening, bands, frame_with, opening_with, bands_with, frame_in_window, opening_of_window, bands_in_window};
@@ -399,6 +513,7 @@ static void in_every_mode(const segvartin_description *d, uint32_t number) {
         as_usual(calls[i], d, &usual);
     }
     several_in_every_mode(d, number);
+    desk_in_every_mode(d, number);
 }
 
 /* Refusal 4 and its limits, by the bits of kr or of kb. */
@@ -455,10 +570,14 @@ static void another_rounding(void) {
         EXPECT(o.number == SEGVARTIN_FINISHED && o.v[0] == 46);
         in_mode(mode, convoy, &d, &o, mxcsr);
         EXPECT(o.number == SEGVARTIN_FINISHED && o.frames == 2 && o.convoy_v[0] == 46 && o.convoy_v[1] == 46);
+        in_mode(mode, desk_bands, &d, &o, mxcsr);
+        EXPECT(o.number == SEGVARTIN_FINISHED && o.done == 1 && o.convoy_v[0] == 46 && o.convoy_v[1] == 46);
         in_mode(mode, bare, &d, &o, mxcsr);
         EXPECT(o.number == SEGVARTIN_FINISHED && o.v[0] == (mode == 0 ? 46 : 47));
         in_mode(mode, bare_convoy, &d, &o, mxcsr);
         EXPECT(o.number == SEGVARTIN_FINISHED && o.frames == 1 && o.convoy_v[0] == (mode == 0 ? 46 : 47));
+        in_mode(mode, bare_desk_step, &d, &o, mxcsr);
+        EXPECT(o.number == SEGVARTIN_FINISHED && o.cameras == SECOND && o.convoy_v[0] == (mode == 0 ? 46 : 47));
     }
 }
 
@@ -539,7 +658,13 @@ static void another_answer(void) {
         EXPECT(o.number == SEGVARTIN_MATRIX_NOT_ACCEPTED && o.frames == 0);
         in_mode(mode, bare, &d, &o, mxcsr);
         EXPECT(o.number == (mode == 0 ? SEGVARTIN_MATRIX_NOT_ACCEPTED : SEGVARTIN_FINISHED));
+        in_mode(mode, desk_opening, &d, &o, mxcsr);
+        EXPECT(o.number == SEGVARTIN_MATRIX_NOT_ACCEPTED && o.desk.numbers[19 * SECOND] == 0);
         in_mode(mode, bare_convoy, &d, &o, mxcsr);
+        EXPECT(o.number == (mode == 0 ? SEGVARTIN_MATRIX_NOT_ACCEPTED : SEGVARTIN_FINISHED));
+        in_mode(mode, bare_desk_opening, &d, &o, mxcsr);
+        EXPECT(o.number == (mode == 0 ? SEGVARTIN_MATRIX_NOT_ACCEPTED : SEGVARTIN_FINISHED));
+        in_mode(mode, bare_desk_step, &d, &o, mxcsr);
         EXPECT(o.number == (mode == 0 ? SEGVARTIN_MATRIX_NOT_ACCEPTED : SEGVARTIN_FINISHED));
         in_mode(mode, bare_colours, &d, &o, mxcsr);
         EXPECT(o.number == (mode == 0 ? SEGVARTIN_MATRIX_NOT_ACCEPTED : SEGVARTIN_FINISHED));
@@ -568,6 +693,7 @@ static void another_end(void) {
     segvartin_description d = description(W, H, SEGVARTIN_YUV420, SEGVARTIN_FULL, SEGVARTIN_FCC);
     EXPECT(!ends(frame, &d) && !ends(bands, &d) && !ends(frame_with, &d) && !ends(bands_with, &d) && ends(bare, &d));
     EXPECT(!ends(frame_in_window, &d) && !ends(bands_in_window, &d) && !ends(convoy, &d) && ends(bare_convoy, &d));
+    EXPECT(!ends(desk_opening, &d) && !ends(desk_bands, &d) && ends(bare_desk_step, &d));
     EXPECT(!ends(colours, &d) && ends(bare_colours, &d) && !ends(summary, &d) && !ends(pairs, &d) && !ends(settings, &d) && !ends(y4m, &d));
     d.matrix = SEGVARTIN_BT709;
     EXPECT(!ends(bare, &d) && !ends(bare_colours, &d));

@@ -2,8 +2,9 @@
  * The lines of C that README.md shows, one block after another, on a frame of flat green 10 with the rear of a truck in it, flat white. tests/run
  * takes them out of it. The last call but one is that with nearest tables: V of green is 124, and 125 by truncated ones (RULES 5.2, Bt601 Limited: of
  * green 10 and of green 9). The last is the window onto the rear, which is white alone; behind its planes there is still what the call before left.
- * The six frames in one call show the truck's white from the third on. Behind the frames come the counts of colours, the shift file of the rear, its summary, which at the end is that of the file with its record twice,
- * the file held against itself, the same with settings, and the first moved forward; last the Y4M file of the rear.
+ * The six frames in one call show the truck's white from the third on. Behind the frames come the counts of colours, the rear twice at a desk, the shift
+ * file of the rear, its summary, which at the end is that of the file with its record twice, the file held against itself, the same with settings, and
+ * the first moved forward; last the Y4M file of the rear.
  */
 #include "expect.h"
 
@@ -33,6 +34,11 @@ int main(void) {
         EXPECT(all_are(plates_u, k * PLATE_UV, (k + 1) * PLATE_UV, k < 2 ? 125 : 128));
         EXPECT(all_are(plates_v, k * PLATE_UV, (k + 1) * PLATE_UV, k < 2 ? 125 : 128));
     }
+    for (uint32_t k = 0; k < LANES; k++) {
+        EXPECT(all_are(lanes_y, k * LANE_Y, (k + 1) * LANE_Y, 235) && desk.numbers[19 * k] == 0);
+        EXPECT(all_are(lanes_u, k * LANE_UV, (k + 1) * LANE_UV, 128) && all_are(lanes_v, k * LANE_UV, (k + 1) * LANE_UV, 128));
+    }
+    EXPECT(desk.numbers[608] == LANES); /* the last that was served is the second */
     EXPECT(counts[0] == 7 && counts[128] == 111638 && counts[255] == 7);
     EXPECT(count == 1 && read == 1 && r.crossing == 1400 && r.width == 640 && r.height == 480 && size == sizeof file_bytes);
     EXPECT(plane.at == file_bytes + 24 && plane.len == 640 * 480 && all_are(file_bytes, 24, 24 + 640 * 480, 235));

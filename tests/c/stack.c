@@ -1,9 +1,10 @@
 /*
  * The stack that a call takes, for every setting, without options and with: nearest tables, and a window onto a larger source; that of a count of
  * colours, for every range and matrix; that of the calls on shift files, with settings and moved too; that of the calls on summaries, of a file with
- * as many records as there may be; that of the calls on Y4M files; that of as many frames in one call as there may be; and that of pairing two
- * shift files. Each call runs on a thread whose stack is filled with one byte first; from where the call is made down to the lowest byte that changed
- * is what it took. Bytes that a call reserves and never writes are not seen.
+ * as many records as there may be; that of the calls on Y4M files; that of as many frames in one call as there may be; that of each call of a desk
+ * with a frame for every camera, for every setting; and that of pairing two shift files. Each call runs on a thread whose stack is filled with one
+ * byte first; from where the call is made down to the lowest byte that changed is what it took. Bytes that a call reserves and never writes are not
+ * seen.
  */
 #include <pthread.h>
 #include <stdint.h>
@@ -257,6 +258,58 @@ static void *convoy(void *unused) {
     return a.number == SEGVARTIN_FINISHED && done == MANY ? unused : &description;
 }
 
+/* A desk with a frame for every camera but the last, each with a band of one row that waits but for that of the last but one. */
+static segvartin_desk desk;
+
+enum { CAMERAS = SEGVARTIN_CAMERAS };
+
+static uint8_t desk_y[CAMERAS * W * H], desk_u[CAMERAS * CW * H], desk_v[CAMERAS * CW * H], desk_carried[CAMERAS * 3 * W];
+
+static segvartin_answer open_camera(uint32_t camera) {
+    static const segvartin_desk_lengths lengths = {sizeof desk_y, sizeof desk_u, sizeof desk_v, sizeof desk_carried};
+    segvartin_options o = with_options ? options() : segvartin_options_of(&description);
+    segvartin_desk_parts parts;
+    parts.y.offset = camera * sizeof y_bytes, parts.y.length = sizeof y_bytes;
+    parts.u.offset = parts.v.offset = camera * sizeof u_bytes, parts.u.length = parts.v.length = chroma(u_bytes).len;
+    parts.carried.offset = camera * sizeof carried_bytes, parts.carried.length = sizeof carried_bytes;
+    return segvartin_desk_open(&desk, camera, &description, &o, &parts, &lengths);
+}
+
+static segvartin_answer offer_row(uint32_t camera) {
+    segvartin_part row;
+    row.offset = 0, row.length = stride();
+    return segvartin_desk_offer(&desk, camera, 1, stride(), row, sizeof source_bytes);
+}
+
+static int fill_desk(void) {
+    static const segvartin_desk none;
+    uint32_t camera;
+    desk = none;
+    for (camera = 0; camera < CAMERAS - 1; camera++)
+        if (open_camera(camera).number != SEGVARTIN_FINISHED || (camera < CAMERAS - 2 && offer_row(camera).number != SEGVARTIN_FINISHED)) return 0;
+    return 1;
+}
+
+static void *desk_open(void *unused) {
+    called_from = __builtin_frame_address(0);
+    return open_camera(CAMERAS - 1).number == SEGVARTIN_FINISHED ? unused : &description;
+}
+
+static void *desk_offer(void *unused) {
+    called_from = __builtin_frame_address(0);
+    return offer_row(CAMERAS - 2).number == SEGVARTIN_FINISHED ? unused : &description;
+}
+
+static void *desk_step(void *unused) {
+    segvartin_bytes from = {source_bytes, sizeof source_bytes};
+    segvartin_bytes_mut ys = {desk_y, sizeof desk_y}, us = {desk_u, sizeof desk_u}, vs = {desk_v, sizeof desk_v};
+    segvartin_bytes_mut lent_rows = {desk_carried, sizeof desk_carried};
+    segvartin_desk_answer a;
+    called_from = __builtin_frame_address(0);
+    a = segvartin_desk_step(&desk, from, ys, us, vs, lent_rows);
+    return a.number == SEGVARTIN_FINISHED && a.served ? unused : &description;
+}
+
 static size_t taken(void *(*call)(void *)) {
     pthread_attr_t attributes;
     pthread_t thread;
@@ -278,12 +331,13 @@ static size_t taken(void *(*call)(void *)) {
 }
 
 int main(void) {
-    size_t most[9] = {0, 0, 0, 0, 0, 0, 0, 0, 0};
+    static void *(*const desk_calls[3])(void *) = {desk_open, desk_offer, desk_step};
+    size_t most[9] = {0, 0, 0, 0, 0, 0, 0, 0, 0}, of_desk[3] = {0, 0, 0};
     uint32_t code;
     description.width = W, description.height = H, description.kr = 0.25f, description.kb = 0.125f;
     description.y_stride = W, description.u_stride = description.v_stride = CW;
     for (code = 0; code < 4 * 2 * 2 * 7 * 4 * 2; code++) {
-        size_t f, b;
+        size_t f, b, i;
         description.channels = code % 4;
         description.sampling = code / 4 % 2;
         description.range = code / 8 % 2;
@@ -294,6 +348,11 @@ int main(void) {
         b = taken(bands);
         if (f > most[0]) most[0] = f;
         if (b > most[1]) most[1] = b;
+        if (!fill_desk()) return 1;
+        for (i = 0; i < 3; i++) {
+            size_t d = taken(desk_calls[i]);
+            if (d > of_desk[i]) of_desk[i] = d;
+        }
     }
     for (code = 0; code < 2 * 7; code++) {
         size_t c;
@@ -309,9 +368,10 @@ int main(void) {
     most[7] = taken(convoy);
     most[8] = taken(pairs);
     printf("stack, at most: a frame call %zu bytes, a band call %zu, a count of colours %zu, shift files %zu, with settings and moved %zu, "
-           "summaries %zu, Y4M files %zu, %d frames in one call %zu, two files paired %zu\n",
-           most[0], most[1], most[2], most[3], most[4], most[5], most[6], SEGVARTIN_MAX_CONVOY, most[7], most[8]);
+           "summaries %zu, Y4M files %zu, %d frames in one call %zu, two files paired %zu; of a desk an opening %zu, an offer %zu, a step %zu\n",
+           most[0], most[1], most[2], most[3], most[4], most[5], most[6], SEGVARTIN_MAX_CONVOY, most[7], most[8], of_desk[0], of_desk[1], of_desk[2]);
     for (code = 0; code < 7; code++)
         if (most[code] >= PROMISED) return 1;
+    if (of_desk[0] >= PROMISED || of_desk[1] >= PROMISED || of_desk[2] >= PROMISED_OF_LARGE) return 1;
     return most[7] < PROMISED_OF_LARGE && most[8] < PROMISED_OF_LARGE ? 0 : 1;
 }
