@@ -116,8 +116,8 @@ fn window_of(numbers: &[u32]) -> Window
     }
 }
 
-// The frame that a description's numbers describe.
-fn describe(numbers: &[u32], custom: &[f32; 2]) -> FrameDescription
+// The frame that a description's numbers describe; a code without a meaning counts as the first.
+pub fn describe(numbers: &[u32], custom: &[f32; 2]) -> FrameDescription
     requires { ⌜ 10 ≤ length (now numbers) ⌝ }
     ensures { λ r. ⌜ r ≡ descriptionOf (now (numbers .entry)) (now (custom .entry)) ⌝ }
 {

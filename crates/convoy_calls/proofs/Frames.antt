@@ -16,46 +16,47 @@ use Rattle.convoy_parts.specs.declared.ConvoyFrame.{ConvoyFrame}
 use Rattle.convoy_parts.specs.Parts.{noFrame, frameAt}
 use Rattle.convoy_calls.specs.Numbers.{numbersAt, customAt, describedBy, frameOf, listFrom, convoyOf}
 
-pub list-length : (f : ℕ → ConvoyFrame) (k n : ℕ) → length (listFrom f k n) ≡ n
-list-length f k zero = refl
-list-length f k (suc n) = ap suc (list-length f (suc k) n)
+module _ {A : Type 0} (f : ℕ → A) where
+  pub list-length : (k n : ℕ) → length (listFrom f k n) ≡ n
+  list-length k zero = refl
+  list-length k (suc n) = ap suc (list-length (suc k) n)
 
-pub list-at : (f : ℕ → ConvoyFrame) (k n j : ℕ) → j < n → getD (listFrom f k n) j noFrame ≡ f (k + j)
-list-at f k zero j l = absurd (omega arith)
-list-at f k (suc n) zero l = ap f (let e : k ≡ k + 0 = omega arith in e)
-list-at f k (suc n) (suc j) l = list-at f (suc k) n j (omega arith) ∙ ap f (let e : suc k + j ≡ k + suc j = omega arith in e)
+  pub list-at : (k n j : ℕ) (d : A) → j < n → getD (listFrom f k n) j d ≡ f (k + j)
+  list-at k zero j d l = absurd (omega arith)
+  list-at k (suc n) zero d l = ap f (let e : k ≡ k + 0 = omega arith in e)
+  list-at k (suc n) (suc j) d l = list-at (suc k) n j d (omega arith) ∙ ap f (let e : suc k + j ≡ k + suc j = omega arith in e)
 
--- the first k of 64 frames are in their places
-pub record Filled (f : ℕ → ConvoyFrame) (frames : List ConvoyFrame) (k : ℕ) : Type 0 where
-  pub size : length frames ≡ 64
-  pub most : k ≤ 64
-  pub frame : (j : ℕ) → j < k → getD frames j noFrame ≡ f j
+-- the first k of n are in their places
+pub record Filled {A : Type 0} (n : ℕ) (f : ℕ → A) (d : A) (xs : List A) (k : ℕ) : Type 0 where
+  pub size : length xs ≡ n
+  pub most : k ≤ n
+  pub at : (j : ℕ) → j < k → getD xs j d ≡ f j
 
-pub filled-next : (f : ℕ → ConvoyFrame) (frames : List ConvoyFrame) (k : ℕ) (x : ConvoyFrame) → k < 64 → x ≡ f k → Filled f frames k
-    → Filled f (set frames k x) (k + 1)
-filled-next f frames k x l is p = record {
-  size = length-set frames k x ∙ p .size;
-  most = omega arith;
-  frame = λ j m. go j m (eqb j k) refl;
-}
-  where
-    go : (j : ℕ) → j < k + 1 → (b : Bool) → eqb j k ≡ b → getD (set frames k x) j noFrame ≡ f j
-    go j m true e =
-        let here = eqb-true j k e in
-        ap (λ (i : ℕ). getD (set frames k x) i noFrame) here ∙ getD-set-same frames k x noFrame (omega (arith, p .size)) ∙ is ∙ ap f (sym here)
-    go j m false e = getD-set-other frames k j x noFrame (eqb-false j k e) ∙ p .frame j (omega (arith, eqb-false j k e))
+module _ {A : Type 0} (n : ℕ) (f : ℕ → A) (d : A) (xs : List A) (k : ℕ) where
+  pub filled-next : (x : A) → k < n → x ≡ f k → Filled n f d xs k → Filled n f d (set xs k x) (k + 1)
+  filled-next x l is p = record {
+    size = length-set xs k x ∙ p .size;
+    most = omega arith;
+    at = λ j m. go j m (eqb j k) refl;
+  }
+    where
+      go : (j : ℕ) → j < k + 1 → (b : Bool) → eqb j k ≡ b → getD (set xs k x) j d ≡ f j
+      go j m true e =
+          let here = eqb-true j k e in
+          ap (λ (i : ℕ). getD (set xs k x) i d) here ∙ getD-set-same xs k x d (omega (arith, p .size)) ∙ is ∙ ap f (sym here)
+      go j m false e = getD-set-other xs k j x d (eqb-false j k e) ∙ p .at j (omega (arith, eqb-false j k e))
 
-pub filled-all : (f : ℕ → ConvoyFrame) (frames : List ConvoyFrame) (k : ℕ) → 64 ≤ k → Filled f frames k → frames ≡ listFrom f 0 64
-filled-all f frames k l p =
-    ext-getD noFrame frames (listFrom f 0 64) (p .size ∙ sym (list-length f 0 64)) (λ j m.
-    p .frame j (omega (arith, p .size)) ∙ sym (list-at f 0 64 j (omega (arith, p .size)) ∙ ap f (let e : 0 + j ≡ j = omega arith in e)))
+  pub filled-all : n ≤ k → Filled n f d xs k → xs ≡ listFrom f 0 n
+  filled-all l p =
+      ext-getD d xs (listFrom f 0 n) (p .size ∙ sym (list-length f 0 n)) (λ j m.
+      p .at j (omega (arith, p .size)) ∙ sym (list-at f 0 n j d (omega (arith, p .size)) ∙ ap f (let e : 0 + j ≡ j = omega arith in e)))
 
 -- frame k of the convoy is the one that its numbers describe
 pub convoy-frame : (count : ℕ) (numbers : List ℕ) (customs : List Float) (parts : List ℕ) (k : ℕ) → k < 64
     → frameAt (convoyOf count numbers customs parts) k ≡ frameOf numbers customs parts k
 unfolding convoyOf
 convoy-frame count numbers customs parts k l =
-    list-at (frameOf numbers customs parts) 0 64 k l ∙ ap (frameOf numbers customs parts) (let e : 0 + k ≡ k = omega arith in e)
+    list-at (frameOf numbers customs parts) 0 64 k noFrame l ∙ ap (frameOf numbers customs parts) (let e : 0 + k ≡ k = omega arith in e)
 
 -- what its sixteen numbers describe, and its source's stride
 pub frame-described : (numbers : List ℕ) (customs : List Float) (parts : List ℕ) (k : ℕ) → 16 * k + 16 ≤ length numbers

@@ -46,7 +46,7 @@ frameOf numbers customs parts k = record {
 }
 
 -- RULES 10.9: f k, f (k + 1), .., so many of them
-abbrev pub listFrom : (f : ℕ → ConvoyFrame) → (k many : ℕ) → List ConvoyFrame
+abbrev pub listFrom : {A : Type 0} → (f : ℕ → A) → (k many : ℕ) → List A
 listFrom f k zero = []
 listFrom f k (suc n) = f k ∷ listFrom f (suc k) n
 

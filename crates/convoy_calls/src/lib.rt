@@ -40,7 +40,7 @@ fn custom_at(customs: &[f32], i: usize) -> f32
     customs[i]
 }
 
-fn as_place(n: u64) -> usize
+pub fn as_place(n: u64) -> usize
     ensures { λ r. ⌜ r ≡ n ⌝ }
 {
     n as usize
@@ -56,7 +56,7 @@ fn place_at(places: &[u64], i: usize) -> usize
     as_place(places[i])
 }
 
-fn part_at(parts: &[u64], i: usize) -> BufferPart
+pub fn part_at(parts: &[u64], i: usize) -> BufferPart
     requires { ⌜ i ≤ 512 ⌝ }
     ensures { λ r. ⌜ r ≡ partAt (now (parts .entry)) i ⌝ }
 {

@@ -25,6 +25,9 @@ ghost use Rattle.segvartin.specs.Calls.{exportedOpening, OpenAnswered, O
 ghost use Rattle.segvartin.specs.Calls.{exportedBand, BandAnswered, BandKept};
 ghost use Rattle.convoy.specs.Run.{planesOf};
 ghost use Rattle.convoy_calls.specs.Calls.{exportedConvoy, ConvoyKept};
+ghost use Rattle.desk_bands.specs.Buffers.{buffersOf};
+ghost use Rattle.desk_numbers.specs.Numbers.{deskNumbers};
+ghost use Rattle.desk_calls.specs.Calls.{exportedDeskOpen, DeskOpenKept, exportedDeskOffer, DeskOfferKept, exportedDeskStep, DeskStepKept};
 ghost use Rattle.segvartin.specs.Counts.{exportedCounts, CountsAnswered, CountsKept};
 ghost use Rattle.segvartin.specs.Summary.{exportedBuild, BuildKept, exportedCheck, asNumber, CheckKept};
 ghost use Rattle.segvartin.specs.Summary.{exportedFind, foundCount, foundPlace, FindKept, exportedUpdate, UpdateKept};
@@ -100,6 +103,85 @@ pub extern "C" fn segvartin_call_convoy(
         (planesOf (now (y .exit)) (now (u .exit)) (now (v .exit)))) ⌝ }
 {
     convoy_calls::call_convoy(count, numbers, customs, parts, source, y, u, v, told)
+}
+
+// ---- The front desk: its three arrays go from call to call as they are, and all zeros is a desk with no frame open. numbers: nineteen for each of 32
+// cameras (0 no frame, 1 a frame, 2 a frame with a band that waits; the rows done; the band's rows and stride; the description with rounding and
+// window), then the camera that is asked first. customs: its kr and kb. parts: offset and length of its band in the source, then of its parts of Y, U
+// and V and of the carried rows. A call that finds work done writes one camera's place anew, and a step also who is asked first.
+
+// Opens a frame for a camera (0), or answers the number of one refusal and changes nothing at the desk: 21 for a camera above 31, 23 for one that has a
+// frame, 18 where a part reaches outside its buffer or overlaps an open frame's, 1 for numbers without a meaning, else 2, 3, 4 or 14. described: the
+// description. frame_parts: offset and length in Y, U, V and in the carried rows. lengths: of these buffers. told: expected and received.
+#[no_mangle]
+pub extern "C" fn segvartin_call_desk_open(
+    camera: u32,
+    described: &[u32],
+    custom: &[f32; 2],
+    frame_parts: &[u64; 8],
+    lengths: &[u64; 4],
+    numbers: &mut [u32; 609],
+    customs: &mut [f32; 64],
+    parts: &mut [u64; 320],
+    told: &mut [usize; 2],
+) -> u32
+    ensures { λ n. ⌜ DeskOpenKept (exportedDeskOpen camera (now (described .entry)) (now (custom .entry)) (now («frame_parts» .entry)) (now (lengths .entry))
+        (deskNumbers (now (numbers .entry)) (now (customs .entry)) (now (parts .entry))) n (now (told .exit))
+        (deskNumbers (now (numbers .exit)) (now (customs .exit)) (now (parts .exit)))) ⌝ }
+{
+    desk_calls::call_desk_open(
+        camera,
+        described,
+        custom,
+        frame_parts,
+        lengths,
+        numbers,
+        customs,
+        parts,
+        told,
+    )
+}
+
+// Takes a camera's next band to wait (0), or answers the number of one refusal and changes nothing at the desk: 21 for a camera above 31 or without a
+// frame, 22 where a band of it waits, 18 where the band reaches outside the source. band: its rows and stride. place: its offset and length in the
+// source, and how long the source is.
+#[no_mangle]
+pub extern "C" fn segvartin_call_desk_offer(
+    camera: u32,
+    band: &[u32; 2],
+    place: &[u64; 3],
+    numbers: &mut [u32; 609],
+    customs: &mut [f32; 64],
+    parts: &mut [u64; 320],
+) -> u32
+    ensures { λ n. ⌜ DeskOfferKept (exportedDeskOffer camera (now (band .entry)) (now (place .entry))
+        (deskNumbers (now (numbers .entry)) (now (customs .entry)) (now (parts .entry))) n
+        (deskNumbers (now (numbers .exit)) (now (customs .exit)) (now (parts .exit)))) ⌝ }
+{
+    desk_calls::call_desk_offer(camera, band, place, numbers, customs, parts)
+}
+
+// Serves the next camera with a band waiting, and answers 0 where its band was converted or none waited, else the number of one refusal, with which no
+// byte is written: 18 where a part reaches outside the buffers now lent, else the band call's. The band is used up either way. told: expected,
+// received, 1 where a camera was served or refused and 0 where none waited, and its number.
+#[no_mangle]
+pub extern "C" fn segvartin_call_desk_step(
+    source: &[u8],
+    y: &mut [u8],
+    u: &mut [u8],
+    v: &mut [u8],
+    carried: &mut [u8],
+    numbers: &mut [u32; 609],
+    customs: &mut [f32; 64],
+    parts: &mut [u64; 320],
+    told: &mut [usize; 4],
+) -> u32
+    ensures { λ n. ⌜ DeskStepKept (exportedDeskStep (deskNumbers (now (numbers .entry)) (now (customs .entry)) (now (parts .entry)))
+        (buffersOf (now (source .entry)) (now (y .entry)) (now (u .entry)) (now (v .entry)) (now (carried .entry))) n (now (told .exit))
+        (deskNumbers (now (numbers .exit)) (now (customs .exit)) (now (parts .exit)))
+        (buffersOf (now (source .entry)) (now (y .exit)) (now (u .exit)) (now (v .exit)) (now (carried .exit)))) ⌝ }
+{
+    desk_calls::call_desk_step(source, y, u, v, carried, numbers, customs, parts, told)
 }
 
 // The opening, once the numbers have a meaning.

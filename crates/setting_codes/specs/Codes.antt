@@ -47,6 +47,13 @@ customCode = length matrixCodes
 -- ---- the other way round
 
 -- RULES 1.2
+abbrev pub channelsCode : YuvSourceChannels → ℕ
+channelsCode Rgb = 0
+channelsCode Rgba = 1
+channelsCode Bgra = 2
+channelsCode Bgr = 3
+
+-- RULES 1.2
 abbrev pub samplingCode : YuvChromaSubsampling → ℕ
 samplingCode Yuv420 = 0
 samplingCode Yuv422 = 1
@@ -72,3 +79,8 @@ transferCode Srgb = 0
 transferCode Rec709 = 1
 transferCode Gamma2p2 = 2
 transferCode Gamma2p8 = 3
+
+-- RULES 1.2
+abbrev pub roundingCode : TableRounding → ℕ
+roundingCode Truncated = 0
+roundingCode Nearest = 1

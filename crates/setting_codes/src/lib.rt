@@ -2,7 +2,7 @@
 ghost use mathlib.Core.Path.{_≡_};
 ghost use lib.ListN.{getD};
 ghost use Rattle.setting_codes.specs.Codes.{channelsCodes, samplingCodes, rangeCodes, matrixCodes, transferCodes, roundingCodes};
-ghost use Rattle.setting_codes.specs.Codes.{samplingCode, rangeCode, matrixCode, transferCode};
+ghost use Rattle.setting_codes.specs.Codes.{channelsCode, samplingCode, rangeCode, matrixCode, transferCode, roundingCode};
 use sharp_gamma::SharpYuvGammaTransfer;
 use sharp_gamma::TableRounding;
 use yuv_support::YuvChromaSubsampling;
@@ -81,6 +81,17 @@ pub fn rounding_of(code: u32) -> TableRounding
 }
 
 // The code of a setting, the other way round.
+pub fn channels_code(channels: YuvSourceChannels) -> u32
+    ensures { λ r. ⌜ r ≡ channelsCode channels ⌝ }
+{
+    match channels {
+        YuvSourceChannels::Rgb => 0,
+        YuvSourceChannels::Rgba => 1,
+        YuvSourceChannels::Bgra => 2,
+        YuvSourceChannels::Bgr => 3,
+    }
+}
+
 pub fn sampling_code(sampling: YuvChromaSubsampling) -> u32
     ensures { λ r. ⌜ r ≡ samplingCode sampling ⌝ }
 {
@@ -122,5 +133,14 @@ pub fn transfer_code(transfer: SharpYuvGammaTransfer) -> u32
         SharpYuvGammaTransfer::Rec709 => 1,
         SharpYuvGammaTransfer::Gamma2p2 => 2,
         SharpYuvGammaTransfer::Gamma2p8 => 3,
+    }
+}
+
+pub fn rounding_code(rounding: TableRounding) -> u32
+    ensures { λ r. ⌜ r ≡ roundingCode rounding ⌝ }
+{
+    match rounding {
+        TableRounding::Truncated => 0,
+        TableRounding::Nearest => 1,
     }
 }

@@ -1,0 +1,2 @@
+-- Laws of the desk's calls from numbers.
+pub mod Below

@@ -1,0 +1,222 @@
+// The front desk's calls from numbers, for callers without enums and structs (RULES 10.10): the desk stands in three lent arrays, in which a call writes
+// the place of one camera anew, and nothing else but who is asked first.
+use desk::Desk;
+use desk::DeskAnswer;
+use desk::Served;
+use desk::StepAnswer;
+use desk_places::BufferLengths;
+use desk_places::FrameParts;
+use desk_places::WaitingBand;
+use yuv_error::YuvAnswer;
+use yuv_error::YuvError;
+ghost use mathlib.Core.Path.{_≡_};
+ghost use mathlib.Core.List.{_∷_};
+ghost use Prim.Native.Nat.{_<_};
+ghost use lib.ListN.{length};
+ghost use Rattle.desk_bands.specs.Buffers.{buffersOf};
+ghost use Rattle.desk_numbers.specs.Numbers.{deskNumbers};
+ghost use Rattle.desk_calls.specs.Calls.{placeLeft, partsOf, lengthsOf, DescribedOpen, exportedDeskOpen, DeskOpenKept};
+ghost use Rattle.desk_calls.specs.Calls.{exportedDeskOffer, DeskOfferKept};
+ghost use Rattle.desk_calls.specs.Calls.{servedNumbers, servedTold, ServedBelow, stepLeft, exportedDeskStep, DeskStepKept};
+
+// Where the camera stands that is asked first.
+const ASKED_FIRST: usize = 608;
+
+// Writes what an opening or an offer made of the camera's place; a refused one made nothing of it.
+fn put_answer(
+    camera: u32,
+    answered: DeskAnswer,
+    numbers: &mut [u32],
+    customs: &mut [f32],
+    parts: &mut [u64],
+)
+    requires { ⌜ (answered .answer ≡ YuvAnswer.Finished → camera < 32) ⌝ }
+    requires { ⌜ (length (now numbers) ≡ 609) × ((length (now customs) ≡ 64) × (length (now parts) ≡ 320)) ⌝ }
+    ensures { λ _. ⌜ deskNumbers (now (numbers .exit)) (now (customs .exit)) (now (parts .exit))
+        ≡ placeLeft (deskNumbers (now (numbers .entry)) (now (customs .entry)) (now (parts .entry))) camera answered ⌝ }
+{
+    let answer = answered.answer;
+    match answer {
+        YuvAnswer::Refused(_) => {}
+        YuvAnswer::Finished => {
+            let desk = answered.desk;
+            let c = camera as usize;
+            let place = desk.places[c];
+            let slot = place.slot;
+            desk_numbers::put_place(c, slot, numbers, customs, parts);
+        }
+    }
+}
+
+// ---- the calls
+
+fn parts_of(parts: &[u64; 8]) -> FrameParts
+    ensures { λ r. ⌜ r ≡ partsOf (now (parts .entry)) ⌝ }
+{
+    FrameParts {
+        y: convoy_calls::part_at(parts, 0),
+        u: convoy_calls::part_at(parts, 2),
+        v: convoy_calls::part_at(parts, 4),
+        carried: convoy_calls::part_at(parts, 6),
+    }
+}
+
+fn lengths_of(lengths: &[u64; 4]) -> BufferLengths
+    ensures { λ r. ⌜ r ≡ lengthsOf (now (lengths .entry)) ⌝ }
+{
+    BufferLengths {
+        y: convoy_calls::as_place(lengths[0]),
+        u: convoy_calls::as_place(lengths[1]),
+        v: convoy_calls::as_place(lengths[2]),
+        carried: convoy_calls::as_place(lengths[3]),
+    }
+}
+
+// Opens the frame that the numbers describe; 1, where they have no meaning, stands before 2.
+fn open_described(
+    desk: Desk,
+    camera: u32,
+    described: &[u32],
+    custom: &[f32; 2],
+    parts: FrameParts,
+    lens: BufferLengths,
+) -> DeskAnswer
+    ensures { λ r. ⌜ DescribedOpen desk camera (now (described .entry)) (now (custom .entry)) parts lens r ⌝ }
+{
+    if call_numbers::is_malformed(0, described) {
+        let places = desk.places;
+        let number = desk::check_number(places, camera);
+        let taken = desk::check_parts(places, parts, lens);
+        let answer = number
+            .and(taken)
+            .and(YuvAnswer::Refused(YuvError::MalformedRequest));
+        return DeskAnswer { desk, answer };
+    }
+    let frame = call_numbers::describe_after(0, described, custom);
+    desk.open(camera, frame, parts, lens)
+}
+
+// Opens a frame for a camera (0), or answers the number of one refusal and leaves the desk's numbers as they are: 21, 23, 18, 1 for numbers without a
+// meaning, else 2, 3, 4 or 14. told: expected and received.
+pub fn call_desk_open(
+    camera: u32,
+    described: &[u32],
+    custom: &[f32; 2],
+    frame_parts: &[u64; 8],
+    lengths: &[u64; 4],
+    numbers: &mut [u32; 609],
+    customs: &mut [f32; 64],
+    parts: &mut [u64; 320],
+    told: &mut [usize; 2],
+) -> u32
+    ensures { λ n. ⌜ DeskOpenKept (exportedDeskOpen camera (now (described .entry)) (now (custom .entry)) (now («frame_parts» .entry)) (now (lengths .entry))
+        (deskNumbers (now (numbers .entry)) (now (customs .entry)) (now (parts .entry))) n (now (told .exit))
+        (deskNumbers (now (numbers .exit)) (now (customs .exit)) (now (parts .exit)))) ⌝ }
+{
+    let desk = desk_numbers::desk_of(numbers, customs, parts);
+    let opened = open_described(
+        desk,
+        camera,
+        described,
+        custom,
+        parts_of(frame_parts),
+        lengths_of(lengths),
+    );
+    let answer = opened.answer;
+    put_answer(camera, opened, numbers, customs, parts);
+    call_numbers::tell_answer(answer, told)
+}
+
+// Takes a camera's next band to wait (0), or answers the number of one refusal and leaves the desk's numbers as they are: 21, 22 or 18. band: its rows
+// and stride. place: its offset and length in the source, and how long the source is.
+pub fn call_desk_offer(
+    camera: u32,
+    band: &[u32; 2],
+    place: &[u64; 3],
+    numbers: &mut [u32; 609],
+    customs: &mut [f32; 64],
+    parts: &mut [u64; 320],
+) -> u32
+    ensures { λ n. ⌜ DeskOfferKept (exportedDeskOffer camera (now (band .entry)) (now (place .entry))
+        (deskNumbers (now (numbers .entry)) (now (customs .entry)) (now (parts .entry))) n
+        (deskNumbers (now (numbers .exit)) (now (customs .exit)) (now (parts .exit)))) ⌝ }
+{
+    let desk = desk_numbers::desk_of(numbers, customs, parts);
+    let waiting = WaitingBand {
+        rows: band[0],
+        stride: band[1],
+        source: convoy_calls::part_at(place, 0),
+    };
+    let offered = desk.offer(camera, waiting, convoy_calls::as_place(place[2]));
+    let answer = offered.answer;
+    put_answer(camera, offered, numbers, customs, parts);
+    let numbered = error_numbers::answer_numbers(answer);
+    numbered.number
+}
+
+// Writes what a step made of the place of the camera that it served, and who is asked first.
+fn put_served(stepped: StepAnswer, numbers: &mut [u32], customs: &mut [f32], parts: &mut [u64])
+    requires { ⌜ ServedBelow (stepped .served) (stepped .desk) ⌝ }
+    requires { ⌜ (length (now numbers) ≡ 609) × ((length (now customs) ≡ 64) × (length (now parts) ≡ 320)) ⌝ }
+    ensures { λ _. ⌜ deskNumbers (now (numbers .exit)) (now (customs .exit)) (now (parts .exit))
+        ≡ stepLeft (deskNumbers (now (numbers .entry)) (now (customs .entry)) (now (parts .entry))) (stepped .served) (stepped .desk) ⌝ }
+{
+    let served = stepped.served;
+    match served {
+        Served::Nobody => {}
+        Served::Camera(c, _) => {
+            let desk = stepped.desk;
+            let place = desk.places[c];
+            let slot = place.slot;
+            desk_numbers::put_place(c, slot, numbers, customs, parts);
+            numbers[ASKED_FIRST] = desk.from as u32;
+        }
+    }
+}
+
+// Tells the answer of the camera that a step served, then whether there was one, and its number.
+fn tell_served(served: Served, told: &mut [usize]) -> u32
+    requires { ⌜ length (now told) ≡ 4 ⌝ }
+    ensures { λ n. ⌜ (n ≡ servedNumbers served .number)
+        × (now (told .exit) ≡ servedNumbers served .expected ∷ servedNumbers served .received ∷ servedTold served) ⌝ }
+{
+    match served {
+        Served::Nobody => {
+            let number = call_numbers::tell_answer(YuvAnswer::Finished, told);
+            told[2] = 0;
+            told[3] = 0;
+            number
+        }
+        Served::Camera(c, answer) => {
+            let number = call_numbers::tell_answer(answer, told);
+            told[2] = 1;
+            told[3] = c;
+            number
+        }
+    }
+}
+
+// Serves the next camera with a band waiting, and answers 0 where its band was converted or none waited, else the number of one refusal: 18, else the
+// band call's. told: expected, received, 1 where a camera was served or refused and 0 where none waited, and its number.
+pub fn call_desk_step(
+    source: &[u8],
+    y: &mut [u8],
+    u: &mut [u8],
+    v: &mut [u8],
+    carried: &mut [u8],
+    numbers: &mut [u32; 609],
+    customs: &mut [f32; 64],
+    parts: &mut [u64; 320],
+    told: &mut [usize; 4],
+) -> u32
+    ensures { λ n. ⌜ DeskStepKept (exportedDeskStep (deskNumbers (now (numbers .entry)) (now (customs .entry)) (now (parts .entry)))
+        (buffersOf (now (source .entry)) (now (y .entry)) (now (u .entry)) (now (v .entry)) (now (carried .entry))) n (now (told .exit))
+        (deskNumbers (now (numbers .exit)) (now (customs .exit)) (now (parts .exit)))
+        (buffersOf (now (source .entry)) (now (y .exit)) (now (u .exit)) (now (v .exit)) (now (carried .exit)))) ⌝ }
+{
+    let desk = desk_numbers::desk_of(numbers, customs, parts);
+    let stepped = desk.step(source, y, u, v, carried);
+    let served = stepped.served;
+    put_served(stepped, numbers, customs, parts);
+    tell_served(served, told)
+}

@@ -1,0 +1,2 @@
+-- Laws of the desk as numbers.
+pub mod Copied

@@ -1,0 +1,2 @@
+-- The front desk as numbers: docs/RULES.md, 10.10.
+pub mod Numbers
