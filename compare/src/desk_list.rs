@@ -6,8 +6,8 @@
 //! buffers are stored as in the other lists (`stored.rs`). vectors/README.md has it field by field.
 //!
 //! What is printed of a call is a line: the place of its history in the list and its own in that, both from 1 on; the
-//! number; of an opening and of a step expected and received; of a step whether a camera was served, and which; the
-//! digest of the desk's three lists, one behind the other, and of a step those of Y, U, V and carried rows.
+//! number; of an opening and of a step expected and received; of a step whether a camera was served, and which, and
+//! the digests of Y, U, V and carried rows; and last that of the desk's three lists, one behind the other.
 //!
 //!     1.3 0 desk=28fe8ee6
 
@@ -28,8 +28,9 @@ use std::path::Path;
 
 const SEED: u64 = 1;
 
-/// The longest buffer, and the most numbers of a description, that the replaying program can lend.
-const LONGEST_BUFFER: usize = 1_024;
+/// The buffers of every history, as the replaying program has them: its steps lend the first bytes. And the most
+/// numbers of a description that it can lend.
+const LENGTHS: [usize; 5] = [1_024, 512, 512, 512, 512];
 const MOST_NUMBERS: usize = 16;
 
 /// Bytes of the whole list.
@@ -82,17 +83,19 @@ fn histories() -> Vec<Listed> {
     all
 }
 
-/// Buffers of one byte each, which is stored once.
+/// Buffers of one byte each, which is stored once, and as long as all are.
 fn plain(world: World, desk: DeskNumbers) -> History {
     let mut history = world.history(desk);
-    for (buffer, byte) in history
-        .buffers
-        .iter_mut()
-        .zip([0x3c, 0xa1, 0xa2, 0xa3, 0xa4])
-    {
-        *buffer = repeated(&[byte], buffer.len());
-    }
+    let bytes = [0x3c, 0xa1, 0xa2, 0xa3, 0xa4];
+    assert!(fits(&history), "a history that the program can lend");
+    history.buffers = [0, 1, 2, 3, 4].map(|b| repeated(&[bytes[b]], LENGTHS[b]));
     history
+}
+
+/// Whether its buffers are no longer than those that every history has.
+fn fits(history: &History) -> bool {
+    let lengths = history.buffers.each_ref().map(Vec::len);
+    (0..5).all(|b| lengths[b] <= LENGTHS[b])
 }
 
 fn fresh(world: World) -> History {
@@ -1021,12 +1024,11 @@ fn any() -> Vec<Listed> {
             _ => 0,
         };
         let delivered = history.asks.iter().map(delivered).sum::<usize>();
-        bytes + delivered <= 2_400 && (10..=50).contains(&history.asks.len())
+        bytes + delivered <= 2_400 && (10..=50).contains(&history.asks.len()) && fits(history)
     };
     let plain = |mut history: History| {
-        for buffer in &mut history.buffers {
-            let block = buffer[..buffer.len().min(5)].to_vec();
-            *buffer = repeated(&block, buffer.len());
+        for (buffer, length) in history.buffers.iter_mut().zip(LENGTHS) {
+            *buffer = repeated(&buffer[..buffer.len().min(5)], length);
         }
         history
     };
@@ -1144,13 +1146,13 @@ fn answers(vectors: &[Vector]) -> BTreeMap<&'static str, BTreeMap<u64, usize>> {
 
 /// What the list must have.
 fn complete(vectors: &[Vector]) -> Result<(), String> {
+    let numbers = |ask: &Ask| match ask {
+        Ask::Open(opening) => opening.described.len(),
+        _ => 0,
+    };
     let fits = |vector: &Vector| {
         let history = &vector.listed.history;
-        let numbers = |ask: &Ask| match ask {
-            Ask::Open(opening) => opening.described.len(),
-            _ => 0,
-        };
-        (history.buffers.iter()).all(|buffer| buffer.len() <= LONGEST_BUFFER)
+        history.buffers.each_ref().map(Vec::len) == LENGTHS
             && history.asks.iter().all(|ask| numbers(ask) <= MOST_NUMBERS)
     };
     let answers = answers(vectors);
@@ -1214,7 +1216,6 @@ fn stored(vectors: &[Vector]) -> Vec<u8> {
     stored.lengths([vectors.len()]);
     for vector in vectors {
         let history = &vector.listed.history;
-        stored.lengths(history.buffers.each_ref().map(Vec::len));
         for buffer in &history.buffers {
             stored.block(buffer);
         }
@@ -1292,7 +1293,7 @@ fn line(ask: &Ask, left: &Left) -> String {
             ]
             .concat();
             let told = format!("{number} {expected} {received} served={served} camera={camera}");
-            format!("{told}{desk}{buffers}")
+            format!("{told}{buffers}{desk}")
         }
         Ask::Open(_) => format!("{number} {expected} {received}{desk}"),
         _ => format!("{number}{desk}"),
@@ -1371,24 +1372,17 @@ fn index(vectors: &[Vector], bytes: usize) -> String {
         "# The histories of crates/replay_desk/stdin, made by vectors/make; README.md says how.\n\
          # {} in {bytes} bytes.\n\
          # {}.\n\
-         # number | what it is for | lengths of source, Y, U, V, carried rows | its calls: o opening, b band offered, \
-         s step, and the answer of each\n",
+         # number | what it is for | its calls: o opening, b band offered, s step, and the answer of each\n",
         counts(vectors),
         groups.join(", "),
     );
     for (vector, place) in vectors.iter().zip(1..) {
-        let Listed {
-            group,
-            why,
-            history,
-        } = &vector.listed;
-        let lengths = (history.buffers.each_ref()).map(|buffer| buffer.len().to_string());
+        let Listed { group, why, .. } = &vector.listed;
         let what = match group == why {
             true => why.clone(),
             false => format!("{group}: {why}"),
         };
-        let words = words(vector);
-        let _ = writeln!(text, "{place} | {what} | {} | {words}", lengths.join(" "));
+        let _ = writeln!(text, "{place} | {what} | {}", words(vector));
     }
     text
 }

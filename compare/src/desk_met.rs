@@ -205,7 +205,8 @@ impl Met {
             .map(|one| format!("{one}: {}", self.cases.get(one).copied().unwrap_or(0)))
             .collect();
         format!(
-            "{} of them on a fresh desk; {}; {} frames finished, of {} settings of 896, each as by one frame call; at most {} steps waited; {} bytes; met: {}",
+            "{} of them on a fresh desk; {}; {} frames finished, of {} settings of 896, each as by one frame call; \
+             at most {} steps waited; {} bytes; met: {}",
             self.fresh,
             calls.join(", "),
             self.finished,

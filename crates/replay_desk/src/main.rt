@@ -1,11 +1,11 @@
 // Makes the calls of a stored list of desk histories, its standard input, and prints a line of what came of each. vectors/README.md has both forms.
 
-// What is asked of a desk; the fourth is no call, but bytes that a camera writes into the source.
+// What is asked of a desk; what is none of these is an offer. A delivery is no call: a camera writes bytes into the source.
 const OPENING: u32 = 0;
 
-const OFFER: u32 = 1;
-
 const STEP: u32 = 2;
+
+const DELIVERY: u32 = 3;
 
 // The most numbers of a description that an opening of the list has.
 const DESCRIBED: usize = 16;
@@ -79,19 +79,13 @@ fn crc32_of_parts(before: u32, parts: &[u64]) -> u32 {
     crc
 }
 
-// The digest of the desk's three lists, one behind the other.
-fn print_desk(numbers: &[u32], customs: &[f32], parts: &[u64]) {
+// The digest of the desk's three lists, one behind the other, and the end of the line.
+fn print_desk(numbers: &[u32; 609], customs: &[f32; 64], parts: &[u64; 320]) {
     let of_numbers = crc32_of_numbers(ALL_ONES, numbers);
     let of_customs = crc32_of_customs(of_numbers, customs);
     let of_parts = crc32_of_parts(of_customs, parts);
     replay::print_digest(b" desk=", of_parts ^ ALL_ONES);
-}
-
-fn print_size(expected: usize, received: usize) {
-    replay::print(b" ");
-    replay::print_number(expected);
-    replay::print(b" ");
-    replay::print_number(received);
+    replay::print(b"\n");
 }
 
 fn print_label(history: u32, call: u32) {
@@ -101,9 +95,35 @@ fn print_label(history: u32, call: u32) {
     replay::print(b" ");
 }
 
+fn print_answer(number: u32, expected: usize, received: usize) {
+    replay::print_number(number as usize);
+    replay::print(b" ");
+    replay::print_number(expected);
+    replay::print(b" ");
+    replay::print_number(received);
+}
+
+fn print_step(number: u32, told: &[usize; 4]) {
+    print_answer(number, told[0], told[1]);
+    replay::print(b" served=");
+    replay::print_number(told[2]);
+    replay::print(b" camera=");
+    replay::print_number(told[3]);
+}
+
+fn print_buffers(y: &[u8], u: &[u8], v: &[u8], carried: &[u8]) {
+    replay::print_planes(y, u, v);
+    replay::print_buffer(b" carried=", carried);
+}
+
 // ---- the calls
 
-// By numbers of a description that are read.
+fn read_custom(custom: &mut [f32; 2]) {
+    custom[0] = replay::read_float();
+    custom[1] = replay::read_float();
+}
+
+// By numbers of a description that are still to be read.
 fn open_by(
     camera: u32,
     described: &mut [u32],
@@ -127,9 +147,7 @@ fn open_by(
         parts,
         &mut told,
     );
-    replay::print_number(number as usize);
-    print_size(told[0], told[1]);
-    print_desk(numbers, customs, parts);
+    print_answer(number, told[0], told[1]);
 }
 
 fn replay_opening(numbers: &mut [u32; 609], customs: &mut [f32; 64], parts: &mut [u64; 320]) {
@@ -138,8 +156,7 @@ fn replay_opening(numbers: &mut [u32; 609], customs: &mut [f32; 64], parts: &mut
     let mut lengths = [0u64; 4];
     let mut described = [0u32; 16];
     let camera = replay::read_number();
-    custom[0] = replay::read_float();
-    custom[1] = replay::read_float();
+    read_custom(&mut custom);
     replay::fill_wide(&mut frame_parts);
     replay::fill_wide(&mut lengths);
     let count = replay::read_room(DESCRIBED);
@@ -163,7 +180,6 @@ fn replay_offer(numbers: &mut [u32; 609], customs: &mut [f32; 64], parts: &mut [
     replay::fill_wide(&mut place);
     let number = desk_calls::call_desk_offer(camera, &band, &place, numbers, customs, parts);
     replay::print_number(number as usize);
-    print_desk(numbers, customs, parts);
 }
 
 // On as much of each buffer as is lent.
@@ -189,13 +205,7 @@ fn make_step(
         parts,
         &mut told,
     );
-    replay::print_number(number as usize);
-    print_size(told[0], told[1]);
-    replay::print(b" served=");
-    replay::print_number(told[2]);
-    replay::print(b" camera=");
-    replay::print_number(told[3]);
-    print_desk(numbers, customs, parts);
+    print_step(number, &told);
 }
 
 fn replay_step(
@@ -223,6 +233,7 @@ fn replay_step(
         customs,
         parts,
     );
+    print_buffers(y, u, v, carried);
 }
 
 // Bytes of a length for the start of a part.
@@ -239,52 +250,44 @@ fn deliver(source: &mut [u8]) {
 fn replay_ask(
     history: u32,
     call: u32,
-    source: &mut [u8],
-    y: &mut [u8],
-    u: &mut [u8],
-    v: &mut [u8],
-    carried: &mut [u8],
+    source: &mut [u8; 1024],
+    y: &mut [u8; 512],
+    u: &mut [u8; 512],
+    v: &mut [u8; 512],
+    carried: &mut [u8; 512],
     numbers: &mut [u32; 609],
     customs: &mut [f32; 64],
     parts: &mut [u64; 320],
 ) {
     let kind = replay::read_number();
-    if kind > STEP {
+    if kind == DELIVERY {
         deliver(source);
         return;
     }
     print_label(history, call);
     if kind == OPENING {
         replay_opening(numbers, customs, parts);
-        replay::print(b"\n");
-        return;
-    }
-    if kind == OFFER {
+    } else if kind == STEP {
+        replay_step(source, y, u, v, carried, numbers, customs, parts);
+    } else {
         replay_offer(numbers, customs, parts);
-        replay::print(b"\n");
-        return;
     }
-    replay_step(source, y, u, v, carried, numbers, customs, parts);
-    replay::print_planes(y, u, v);
-    replay::print_buffer(b" carried=", carried);
-    replay::print(b"\n");
+    print_desk(numbers, customs, parts);
 }
 
-// On buffers of the history's lengths.
-fn replay_on(
-    history: u32,
-    source: &mut [u8],
-    y: &mut [u8],
-    u: &mut [u8],
-    v: &mut [u8],
-    carried: &mut [u8],
-) {
+// The desk, the buffers, and what is asked, all of it on these.
+fn replay_history(history: u32) {
+    let mut source = [0u8; 1024];
+    let mut y = [0u8; 512];
+    let mut u = [0u8; 512];
+    let mut v = [0u8; 512];
+    let mut carried = [0u8; 512];
     let mut numbers = [0u32; 609];
     let mut customs = [0f32; 64];
     let mut parts = [0u64; 320];
-    replay::fill(source);
-    replay::fill_planes(y, u, v);
-    replay::fill(carried);
+    replay::fill(&mut source);
+    replay::fill_planes(&mut y, &mut u, &mut v);
+    replay::fill(&mut carried);
     read_numbers(&mut numbers);
     read_customs(&mut customs);
     read_parts(&mut parts);
@@ -293,37 +296,16 @@ fn replay_on(
         replay_ask(
             history,
             call + 1,
-            source,
-            y,
-            u,
-            v,
-            carried,
+            &mut source,
+            &mut y,
+            &mut u,
+            &mut v,
+            &mut carried,
             &mut numbers,
             &mut customs,
             &mut parts,
         );
     }
-}
-
-fn replay_history(history: u32) {
-    let mut source = [0u8; 1024];
-    let mut y = [0u8; 1024];
-    let mut u = [0u8; 1024];
-    let mut v = [0u8; 1024];
-    let mut carried = [0u8; 1024];
-    let source_length = replay::read_length(&source);
-    let y_length = replay::read_length(&y);
-    let u_length = replay::read_length(&u);
-    let v_length = replay::read_length(&v);
-    let carried_length = replay::read_length(&carried);
-    replay_on(
-        history,
-        &mut source[..source_length],
-        &mut y[..y_length],
-        &mut u[..u_length],
-        &mut v[..v_length],
-        &mut carried[..carried_length],
-    );
 }
 
 fn main() {
