@@ -11,8 +11,8 @@ use model::{Answer, FrameState, Refusal, Settings, Window, YuvStandardMatrix};
 type Condition = (u8, bool, u128, u128);
 
 /// The order in which they are asked.
-const ORDER: [u8; 19] = [
-    15, 17, 19, 1, 2, 3, 4, 14, 5, 6, 7, 8, 9, 10, 11, 12, 13, 20, 16,
+const ORDER: [u8; 23] = [
+    15, 17, 19, 21, 22, 23, 18, 1, 2, 3, 4, 14, 5, 6, 7, 8, 9, 10, 11, 12, 13, 20, 16,
 ];
 
 /// A mistake in a condition that a window brings, so that a list of calls can be held to catch it.
@@ -127,6 +127,17 @@ pub fn of_band_with(slip: Slip, request: &BandRequest) -> Answer {
     all.push((5, rows == 0 || rows > remain, 0, 0));
     all.extend(sizes(slip, s.w, s.h, &s.window, &s.settings));
     first(slip, all)
+}
+
+/// RULES 16.2, 16.3: an opening or an offer at the front desk, by the numbers of its own conditions that hold. An
+/// opening asks those of the frame's too.
+pub fn of_desk(holding: &[u8], asked: Option<&FrameState>) -> Answer {
+    let own = |number: &u8| (*number, true, 0, 0);
+    let mut all: Vec<Condition> = holding.iter().map(own).collect();
+    if let Some(s) = asked {
+        all.extend(sizes(Without, s.w, s.h, &s.window, &s.settings));
+    }
+    first(Without, all)
 }
 
 /// The call that counts colours, by its numbers.

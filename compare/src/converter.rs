@@ -2,6 +2,7 @@
 
 use crate::request::BandRequest;
 use model::convoy::Numbers;
+use model::desk::{Buffers, DeskNumbers, Told};
 use model::shift::{RecordRequest, ShiftForm};
 use model::{Answer, Frame, FrameState, Refusal};
 
@@ -152,6 +153,36 @@ pub trait Converter {
     ) -> (Answer, u64) {
         unreachable!("has_convoys() says so")
     }
+
+    /// Whether it has the three calls of the front desk, by the numbers of RULES 10.10.
+    fn has_desk(&self) -> bool {
+        false
+    }
+
+    /// Opens a frame for a camera.
+    fn desk_open(&self, _: &mut DeskNumbers, _: &Opening) -> Told {
+        unreachable!("has_desk() says so")
+    }
+
+    /// Offers a band: the camera; rows and stride; offset and length in the source, and the source's length.
+    fn desk_offer(&self, _: &mut DeskNumbers, _camera: u32, _: [u32; 2], _: [u64; 3]) -> Told {
+        unreachable!("has_desk() says so")
+    }
+
+    /// Serves the next camera.
+    fn desk_step(&self, _: &mut DeskNumbers, _: Buffers) -> Told {
+        unreachable!("has_desk() says so")
+    }
+}
+
+/// What an opening at the front desk is given: parts and lengths are those of Y, U, V and carried rows.
+#[derive(Clone, Debug)]
+pub struct Opening {
+    pub camera: u32,
+    pub described: Vec<u32>,
+    pub custom: [f32; 2],
+    pub parts: [u64; 8],
+    pub lengths: [u64; 4],
 }
 
 /// The model stands first and the oracle second: frames of all others are held to the model's,
@@ -318,6 +349,28 @@ impl Converter for Model {
         v: &mut [u8],
     ) -> (Answer, u64) {
         model::convoy::convoy_by_numbers(told, source, y, u, v)
+    }
+
+    fn has_desk(&self) -> bool {
+        true
+    }
+
+    fn desk_open(&self, desk: &mut DeskNumbers, o: &Opening) -> Told {
+        desk.open(o.camera, &o.described, o.custom, &o.parts, o.lengths)
+    }
+
+    fn desk_offer(
+        &self,
+        desk: &mut DeskNumbers,
+        camera: u32,
+        band: [u32; 2],
+        place: [u64; 3],
+    ) -> Told {
+        desk.offer(camera, band, place)
+    }
+
+    fn desk_step(&self, desk: &mut DeskNumbers, lent: Buffers) -> Told {
+        desk.step(lent)
     }
 }
 

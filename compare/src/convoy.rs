@@ -40,14 +40,45 @@ pub fn number(answer: &Answer) -> u8 {
 }
 
 /// Where the number of each setting's code stands among those of a frame.
-const CODES: [usize; 6] = [3, 4, 5, 6, 7, 11];
+pub const CODES: [usize; 6] = [3, 4, 5, 6, 7, 11];
 
 /// The first and the end of a part, which may lie past 2^64.
-type Ends = (u128, u128);
+pub type Ends = (u128, u128);
 
 /// Two parts have a byte in common.
-fn share(a: Ends, b: Ends) -> bool {
+pub fn share(a: Ends, b: Ends) -> bool {
     a.0.max(b.0) < a.1.min(b.1)
+}
+
+/// RULES 10.9: a frame by its numbers. None: a code has no meaning.
+pub fn frame_by(n: &[u32; NUMBERS], [kr, kb]: [f32; 2]) -> Option<Frame> {
+    let code = |i: usize| u8::try_from(n[i]).ok();
+    Some(Frame {
+        w: n[1],
+        h: n[2],
+        window: Window {
+            left: n[12],
+            top: n[13],
+            source_width: n[14],
+            source_height: n[15],
+        },
+        settings: Settings {
+            channels: channels_of(code(3)?)?,
+            sampling: sampling_of(code(4)?)?,
+            range: range_of(code(5)?)?,
+            matrix: if n[6] == 6 {
+                YuvStandardMatrix::Custom(kr, kb)
+            } else {
+                matrix_of(code(6)?)?
+            },
+            transfer: transfer_of(code(7)?)?,
+            rounding: rounding_of(code(11)?)?,
+        },
+        source_stride: n[0],
+        y_stride: n[8],
+        u_stride: n[9],
+        v_stride: n[10],
+    })
 }
 
 impl Convoy {
@@ -97,35 +128,9 @@ impl Convoy {
 
     /// Frame k. None: a number is missing, or a code has no meaning.
     pub fn frame(&self, k: usize) -> Option<Frame> {
-        let n = self.numbers.get(NUMBERS * k..)?.first_chunk::<NUMBERS>()?;
-        let code = |i: usize| u8::try_from(n[i]).ok();
+        let numbers = self.numbers.get(NUMBERS * k..)?.first_chunk()?;
         let custom = |i: usize| (self.customs.get(CUSTOMS * k + i).copied()).unwrap_or(f32::NAN);
-        Some(Frame {
-            w: n[1],
-            h: n[2],
-            window: Window {
-                left: n[12],
-                top: n[13],
-                source_width: n[14],
-                source_height: n[15],
-            },
-            settings: Settings {
-                channels: channels_of(code(3)?)?,
-                sampling: sampling_of(code(4)?)?,
-                range: range_of(code(5)?)?,
-                matrix: if n[6] == 6 {
-                    YuvStandardMatrix::Custom(custom(0), custom(1))
-                } else {
-                    matrix_of(code(6)?)?
-                },
-                transfer: transfer_of(code(7)?)?,
-                rounding: rounding_of(code(11)?)?,
-            },
-            source_stride: n[0],
-            y_stride: n[8],
-            u_stride: n[9],
-            v_stride: n[10],
-        })
+        frame_by(numbers, [custom(0), custom(1)])
     }
 
     /// A part of a convoy that is not answered with 18, as places of its buffer.

@@ -1,9 +1,10 @@
 //! The library that users link, by way of its Rust crate: what runs here is what a C or Rust program calls.
 
 use crate::conditions;
-use crate::converter::Converter;
+use crate::converter::{Converter, Opening};
 use crate::request::BandRequest;
 use model::convoy::Numbers;
+use model::desk::{ALL_CUSTOMS, ALL_NUMBERS, ALL_PARTS, Buffers, DeskNumbers, Told};
 use model::shift::{RecordRequest, ShiftForm};
 use model::{Answer, Frame, FrameState, Refusal, Settings, TableRounding, Window};
 use segvartin::{
@@ -526,6 +527,76 @@ impl Converter for Library {
         let [expected, received, done] = sizes;
         (answered(number, [expected, received]), done as u64)
     }
+
+    fn has_desk(&self) -> bool {
+        true
+    }
+
+    fn desk_open(&self, desk: &mut DeskNumbers, o: &Opening) -> Told {
+        // What stands there before is not looked at.
+        let mut told = [7; 2];
+        // SAFETY: the pointer is that of a slice beside its own length, and no two lent values overlap.
+        let number = unsafe {
+            segvartin_call_desk_open(
+                o.camera,
+                o.described.as_ptr(),
+                o.described.len(),
+                &o.custom,
+                &o.parts,
+                &o.lengths,
+                &mut desk.numbers,
+                &mut desk.customs,
+                &mut desk.parts,
+                &mut told,
+            )
+        };
+        let [expected, received] = told.map(|size| size as u64);
+        [number.into(), expected, received, 0, 0]
+    }
+
+    fn desk_offer(
+        &self,
+        desk: &mut DeskNumbers,
+        camera: u32,
+        band: [u32; 2],
+        place: [u64; 3],
+    ) -> Told {
+        let DeskNumbers {
+            numbers,
+            customs,
+            parts,
+        } = desk;
+        // SAFETY: no two lent values overlap.
+        let number =
+            unsafe { segvartin_call_desk_offer(camera, &band, &place, numbers, customs, parts) };
+        [number.into(), 0, 0, 0, 0]
+    }
+
+    fn desk_step(&self, desk: &mut DeskNumbers, lent: Buffers) -> Told {
+        // What stands there before is not looked at.
+        let mut told = [7; 4];
+        // SAFETY: the pointers are those of slices beside their own lengths, and no two lent values overlap.
+        let number = unsafe {
+            segvartin_call_desk_step(
+                lent.source.as_ptr(),
+                lent.source.len(),
+                lent.y.as_mut_ptr(),
+                lent.y.len(),
+                lent.u.as_mut_ptr(),
+                lent.u.len(),
+                lent.v.as_mut_ptr(),
+                lent.v.len(),
+                lent.carried.as_mut_ptr(),
+                lent.carried.len(),
+                &mut desk.numbers,
+                &mut desk.customs,
+                &mut desk.parts,
+                &mut told,
+            )
+        };
+        let [expected, received, served, camera] = told.map(|number| number as u64);
+        [number.into(), expected, received, served, camera]
+    }
 }
 
 /// The answer of an exported call.
@@ -912,6 +983,45 @@ unsafe extern "C" {
         v: *mut u8,
         v_len: usize,
         told: &mut [usize; 3],
+    ) -> u32;
+
+    fn segvartin_call_desk_open(
+        camera: u32,
+        described: *const u32,
+        described_len: usize,
+        custom: &[f32; 2],
+        frame_parts: &[u64; 8],
+        lengths: &[u64; 4],
+        numbers: &mut [u32; ALL_NUMBERS],
+        customs: &mut [f32; ALL_CUSTOMS],
+        parts: &mut [u64; ALL_PARTS],
+        told: &mut [usize; 2],
+    ) -> u32;
+
+    fn segvartin_call_desk_offer(
+        camera: u32,
+        band: &[u32; 2],
+        place: &[u64; 3],
+        numbers: &mut [u32; ALL_NUMBERS],
+        customs: &mut [f32; ALL_CUSTOMS],
+        parts: &mut [u64; ALL_PARTS],
+    ) -> u32;
+
+    fn segvartin_call_desk_step(
+        source: *const u8,
+        source_len: usize,
+        y: *mut u8,
+        y_len: usize,
+        u: *mut u8,
+        u_len: usize,
+        v: *mut u8,
+        v_len: usize,
+        carried: *mut u8,
+        carried_len: usize,
+        numbers: &mut [u32; ALL_NUMBERS],
+        customs: &mut [f32; ALL_CUSTOMS],
+        parts: &mut [u64; ALL_PARTS],
+        told: &mut [usize; 4],
     ) -> u32;
 
     fn segvartin_call_luma_counts(

@@ -10,6 +10,11 @@ mod convoy;
 mod convoy_list;
 mod convoy_mistakes;
 mod counts;
+mod desk;
+mod desk_list;
+mod desk_met;
+mod desk_mistakes;
+mod desk_random;
 mod grey;
 #[cfg(library)]
 mod library;
@@ -76,6 +81,8 @@ compare --vectors ROOT | --check ROOT | --mistakes | --flat
                  back; and every byte of small files changed, left out and added
   --convoys N    convoys (50000) of up to 64 frames and some more, of sides up to 17, good and broken, against single
                  frame calls in order
+  --desks N      histories of a front desk (10000): openings, offers and steps of up to 32 cameras, of sides up to 9,
+                 good and broken, one in six on a desk that no call made, against single band calls and frame calls
   --side N       sizes to N by N (64); some are 1,920 by 1,080, some up to 16,384 long and thin;
                  four of five lie in a source that is larger by up to 18 each way, or all it may be
   --seed N       seed of all of these (1)
@@ -84,13 +91,13 @@ compare --vectors ROOT | --check ROOT | --mistakes | --flat
 A mismatch is printed as the smallest request found that shows it, in the form of --list.
 
   --vectors ROOT   write the stored lists of frame calls, band sequences, calls on shift files and on
-                   summaries, pairings, calls on Y4M files, and convoys into the repository ROOT
+                   summaries, pairings, calls on Y4M files, convoys, and desk histories into the repository ROOT
   --check ROOT     say whether the lists in ROOT are what --vectors writes
   --mistakes       for each mistake near at hand the call made for it, and how many calls catch it;
                    for each way to lose tables or window between calls, and for each mistake in a
                    condition of bands, the first sequence that catches it, and how many do; the same
                    of mistakes in a reader or a writer of shift files, in a call on summaries, in a
-                   pairing, in a reader or a writer of Y4M files, and in a call on a convoy
+                   pairing, in a reader or a writer of Y4M files, in a call on a convoy, and in the front desk
   --flat           for each transfer and rounding, how many of the 256 values of a flat channel
                    come back through both tables, and how far off the others are at most";
 
@@ -118,6 +125,7 @@ struct Options {
     paired: u64,
     y4m: u64,
     convoys: u64,
+    desks: u64,
     side: u64,
     seed: u64,
     list: u64,
@@ -139,6 +147,7 @@ fn options() -> Option<Options> {
         paired: 100_000,
         y4m: 200_000,
         convoys: 50_000,
+        desks: 10_000,
         side: 64,
         seed: 1,
         list: 0,
@@ -161,6 +170,7 @@ fn options() -> Option<Options> {
                 options.paired /= 10;
                 options.y4m /= 10;
                 options.convoys /= 10;
+                options.desks /= 10;
                 continue;
             }
             "--frames" => &mut options.frames,
@@ -177,6 +187,7 @@ fn options() -> Option<Options> {
             "--paired" => &mut options.paired,
             "--y4m" => &mut options.y4m,
             "--convoys" => &mut options.convoys,
+            "--desks" => &mut options.desks,
             "--side" => &mut options.side,
             "--seed" => &mut options.seed,
             "--list" => &mut options.list,
@@ -254,6 +265,7 @@ fn main() {
     paired(&options, &converters);
     y4m(&options, &converters);
     timed(|| convoy::check(options.convoys, seed, &converters));
+    timed(|| desk::check(options.desks, seed, &converters));
     let input = |case| random::input(&mut Random::new(seed, 4, case), side);
     let grey_input = |case| GreyInput::random(&mut Random::new(seed, 13, case));
     compare("program inputs", options.programs, &converters, input);
@@ -414,8 +426,8 @@ fn timed(check: impl Fn() -> Result<String, String>) {
 type OnList = fn(&Path, &Converters) -> Result<String, String>;
 
 /// The lists of frame calls, of band sequences, of calls on shift files, of calls on summaries, of
-/// pairings, of calls on Y4M files and of convoys: what is said of all, an error where one is wrong.
-fn each(root: &Path, converters: &Converters, lists: [OnList; 7]) -> Result<String, String> {
+/// pairings, of calls on Y4M files, of convoys and of desk histories: what is said of all, an error where one is wrong.
+fn each(root: &Path, converters: &Converters, lists: [OnList; 8]) -> Result<String, String> {
     let said = lists.map(|list| list(root, converters));
     let wrong = said.iter().any(Result::is_err);
     let all = said.map(|said| said.unwrap_or_else(|wrong| wrong));
@@ -442,6 +454,7 @@ fn told(converters: &Converters) -> Option<Result<String, String>> {
                 pairings::write,
                 y4m_list::write,
                 convoy_list::write,
+                desk_list::write,
             ],
         )),
         ["--check", root] => Some(each(
@@ -455,6 +468,7 @@ fn told(converters: &Converters) -> Option<Result<String, String>> {
                 pairings::check,
                 y4m_list::check,
                 convoy_list::check,
+                desk_list::check,
             ],
         )),
         ["--mistakes"] => Some(vectors::report(converters).and_then(|frames| {
@@ -464,8 +478,9 @@ fn told(converters: &Converters) -> Option<Result<String, String>> {
             let pairings = pairings::report(converters)?;
             let y4m = y4m_list::report(converters)?;
             let convoys = convoy_list::report(converters)?;
-            let all = [frames, sequences, shifts, summaries, pairings, y4m, convoys];
-            Ok(all.join("\n\n"))
+            let desks = desk_list::report(converters)?;
+            let files = [shifts, summaries, pairings, y4m].join("\n\n");
+            Ok([frames, sequences, files, convoys, desks].join("\n\n"))
         })),
         ["--flat"] => Some(Ok(worked::flat_colours())),
         _ => None,

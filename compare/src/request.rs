@@ -122,17 +122,7 @@ impl FrameRequest {
 
     /// The state of the frame's opening.
     pub fn opening(&self) -> FrameState {
-        let f = &self.frame;
-        FrameState {
-            w: f.w,
-            h: f.h,
-            window: f.window,
-            settings: f.settings,
-            y_stride: f.y_stride,
-            u_stride: f.u_stride,
-            v_stride: f.v_stride,
-            done: 0,
-        }
+        opening(&self.frame)
     }
 
     /// Whether the frame is all of its source.
@@ -148,6 +138,20 @@ impl FrameRequest {
         let mut other = self.clone();
         others_outside(&mut other.lent[0], f.source_stride, rows, self.columns(), c);
         other
+    }
+}
+
+/// The state of a frame's opening.
+pub fn opening(f: &Frame) -> FrameState {
+    FrameState {
+        w: f.w,
+        h: f.h,
+        window: f.window,
+        settings: f.settings,
+        y_stride: f.y_stride,
+        u_stride: f.u_stride,
+        v_stride: f.v_stride,
+        done: 0,
     }
 }
 

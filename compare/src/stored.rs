@@ -2,7 +2,9 @@
 //! first, and buffers as blocks; and the digest of a buffer that a call left. vectors/README.md has
 //! it field by field.
 
-use model::settings::{channels_of, matrix_of, range_of, rounding_of, sampling_of, transfer_of};
+use model::settings::{
+    channels_of, code_of, matrix_of, range_of, rounding_of, sampling_of, transfer_of,
+};
 use model::{Frame, Settings, Window, YuvStandardMatrix};
 
 #[derive(Default)]
@@ -15,10 +17,10 @@ const CUSTOM: u32 = 6;
 pub fn settings_codes(settings: &Settings) -> [u32; 4] {
     let has = "a code for every setting";
     [
-        code(settings.sampling, sampling_of).expect(has),
-        code(settings.range, range_of).expect(has),
-        code(settings.matrix, matrix_of).unwrap_or(CUSTOM),
-        code(settings.transfer, transfer_of).expect(has),
+        code_of(settings.sampling, sampling_of).expect(has),
+        code_of(settings.range, range_of).expect(has),
+        code_of(settings.matrix, matrix_of).unwrap_or(CUSTOM),
+        code_of(settings.transfer, transfer_of).expect(has),
     ]
 }
 
@@ -35,7 +37,7 @@ pub fn frame_numbers(frame: &Frame) -> ([u32; 16], Option<[f32; 2]>) {
         frame.source_stride,
         frame.w,
         frame.h,
-        code(settings.channels, channels_of).expect(has),
+        code_of(settings.channels, channels_of).expect(has),
         sampling,
         range,
         matrix,
@@ -43,20 +45,13 @@ pub fn frame_numbers(frame: &Frame) -> ([u32; 16], Option<[f32; 2]>) {
         frame.y_stride,
         frame.u_stride,
         frame.v_stride,
-        code(settings.rounding, rounding_of).expect(has),
+        code_of(settings.rounding, rounding_of).expect(has),
         window.left,
         window.top,
         window.source_width,
         window.source_height,
     ];
     (numbers, custom)
-}
-
-/// The program's code of a setting, where it has one.
-fn code<T: PartialEq>(setting: T, of: fn(u8) -> Option<T>) -> Option<u32> {
-    (0..=u8::MAX)
-        .find(|code| of(*code).as_ref() == Some(&setting))
-        .map(u32::from)
 }
 
 impl Stored {
@@ -79,13 +74,13 @@ impl Stored {
         };
         let has = "a code for every setting";
         self.numbers(&[
-            code(settings.channels, channels_of).expect(has),
-            code(settings.sampling, sampling_of).expect(has),
-            code(settings.range, range_of).expect(has),
-            code(settings.matrix, matrix_of).unwrap_or(CUSTOM),
+            code_of(settings.channels, channels_of).expect(has),
+            code_of(settings.sampling, sampling_of).expect(has),
+            code_of(settings.range, range_of).expect(has),
+            code_of(settings.matrix, matrix_of).unwrap_or(CUSTOM),
             kr.to_bits(),
             kb.to_bits(),
-            code(settings.transfer, transfer_of).expect(has),
+            code_of(settings.transfer, transfer_of).expect(has),
         ]);
     }
 
@@ -100,7 +95,7 @@ impl Stored {
         self.numbers(&[w, h]);
         self.settings(settings);
         self.numbers(&strides);
-        let rounding = code(settings.rounding, rounding_of);
+        let rounding = code_of(settings.rounding, rounding_of);
         self.numbers(&[rounding.expect("a code for every rounding")]);
         self.numbers(&[window.left, window.top]);
         self.numbers(&[window.source_width, window.source_height]);

@@ -33,13 +33,13 @@ pub struct ConvoyFrame {
 }
 
 impl Part {
-    /// RULES 15.1.
-    fn is_inside(self, buffer: &[u8]) -> bool {
-        u128::from(self.offset) + u128::from(self.length) <= buffer.len() as u128
+    /// RULES 15.1, of a buffer of this length.
+    pub(crate) fn is_inside(self, length: u64) -> bool {
+        u128::from(self.offset) + u128::from(self.length) <= u128::from(length)
     }
 
     /// The places of the bytes of a part that is inside its buffer.
-    fn places(self) -> std::ops::Range<usize> {
+    pub(crate) fn places(self) -> std::ops::Range<usize> {
         let start = self.offset as usize;
         start..start + self.length as usize
     }
@@ -60,7 +60,7 @@ fn overlap(parts: impl Iterator<Item = Part>, plane: &[u8]) -> bool {
 fn is_broken(frames: &[ConvoyFrame], buffers: [&[u8]; 4]) -> bool {
     let outside = |frame: &ConvoyFrame| {
         let mut parts = frame.parts.iter().zip(buffers);
-        parts.any(|(part, buffer)| !part.is_inside(buffer))
+        parts.any(|(part, buffer)| !part.is_inside(buffer.len() as u64))
     };
     let of = |plane: usize| frames.iter().map(move |frame| frame.parts[plane]);
     frames.len() as u64 > MOST_FRAMES
@@ -141,7 +141,7 @@ impl Numbers<'_> {
 }
 
 /// RULES 10.1, 10.9: the source's stride, then a description of fifteen numbers. None: a code has no meaning.
-fn described(numbers: &[u32], [kr, kb]: [f32; 2]) -> Option<Frame> {
+pub(crate) fn described(numbers: &[u32], [kr, kb]: [f32; 2]) -> Option<Frame> {
     let [
         source_stride,
         w,

@@ -1,6 +1,6 @@
 //! A model of docs/RULES.md, to compare converters with. It was written from the scope document
-//! that the rules come from, without a look at the proved code; `convoy`, `pairs`, `shift` and `y4m` say what
-//! was read for them.
+//! that the rules come from, without a look at the proved code; `convoy`, `desk`, `pairs`, `shift` and
+//! `y4m` say what was read for them.
 //!
 //! It is meant to be read: each item names the rules that it states. Two things that the rules take
 //! from the Rust are copied as numbers: the ten stored sets and the kr and kb of Fcc (`matrix`).
@@ -13,6 +13,7 @@ pub mod bands;
 pub mod convoy;
 pub mod counts;
 pub mod curves;
+pub mod desk;
 pub mod frame;
 pub mod grey;
 pub mod matrix;

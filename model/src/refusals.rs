@@ -2,9 +2,9 @@
 //!
 //! The first condition that holds is answered: the conditions stand below in the order in which
 //! they are asked, and `?` ends at the first that holds. It is the order of their numbers, but for
-//! 14, which comes between 4 and 5, 15, which comes first, 17 and 19, which come behind it, 18, which comes
-//! before all of a convoy's frames, and 20, which comes between 13 and 16. So a condition may count on
-//! those before it: rows are not 0 once 2, 5, 14 and 15 were passed.
+//! 14, which comes between 4 and 5, 15, which comes first, 17 and 19, which come behind it, 21, 22 and 23 of the
+//! front desk, 18, which comes behind those and before all of a convoy's frames, and 20, which comes between 13 and 16.
+//! So a condition may count on those before it: rows are not 0 once 2, 5, 14 and 15 were passed.
 
 use crate::settings::{Settings, YuvStandardMatrix, chroma_width};
 use crate::window::Window;

@@ -190,3 +190,10 @@ pub fn rounding_of(code: u8) -> Option<TableRounding> {
         _ => None,
     }
 }
+
+/// The code of a setting, where it has one: a Custom matrix has none here.
+pub fn code_of<T: PartialEq>(setting: T, of: fn(u8) -> Option<T>) -> Option<u32> {
+    (0..=u8::MAX)
+        .find(|code| of(*code).as_ref() == Some(&setting))
+        .map(u32::from)
+}

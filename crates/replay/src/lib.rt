@@ -7,6 +7,7 @@ use libc::STDIN_FILENO;
 use libc::STDOUT_FILENO;
 use yuv_error::YuvAnswer;
 use yuv_support::YuvStandardMatrix;
+ghost use Prim.Native.Nat.{_≤_};
 ghost use Rattle.io.specs.Counts.{Counts};
 
 fn number_of(a: u8, b: u8, c: u8, d: u8) -> u32 {
@@ -18,6 +19,37 @@ pub fn read_number() -> u32 {
     let mut bytes = [0u8; 4];
     io::read_full(STDIN_FILENO, &mut bytes);
     number_of(bytes[0], bytes[1], bytes[2], bytes[3])
+}
+
+// The next two numbers as one of 64 bits, the low half first.
+pub fn read_wide() -> u64 {
+    let low = read_number() as u64;
+    let high = read_number() as u64;
+    low + 4294967296 * high
+}
+
+// The next number, at most this one.
+pub fn read_room(most: usize) -> usize
+    ensures { λ r. ⌜ r ≤ most ⌝ }
+{
+    let room = read_number() as usize;
+    if room > most { most } else { room }
+}
+
+pub fn fill_numbers(numbers: &mut [u32]) {
+    let mut i = 0;
+    while i < numbers.len() {
+        numbers[i] = read_number();
+        i += 1;
+    }
+}
+
+pub fn fill_wide(numbers: &mut [u64]) {
+    let mut i = 0;
+    while i < numbers.len() {
+        numbers[i] = read_wide();
+        i += 1;
+    }
 }
 
 // The next number as a length: all of the buffer where it is more.
@@ -128,6 +160,15 @@ fn crc32_of_byte(crc: u32, byte: u8) -> u32 {
     crc32_of_four(crc32_of_four(crc ^ byte as u32))
 }
 
+fn crc32_of_half(crc: u32) -> u32 {
+    crc32_of_four(crc32_of_four(crc32_of_four(crc32_of_four(crc))))
+}
+
+// That of the four bytes of a number, low byte first. It is not inverted, neither at the start nor at the end.
+pub fn crc32_of_number(crc: u32, number: u32) -> u32 {
+    crc32_of_half(crc32_of_half(crc ^ number))
+}
+
 // The CRC-32 of zlib and PNG.
 pub fn crc32(bytes: &[u8]) -> u32 {
     let mut crc = 0xFFFF_FFFF;
@@ -157,10 +198,15 @@ pub fn print_answer(answer: YuvAnswer) {
     print_number(size.received);
 }
 
+// A name, and a digest.
+pub fn print_digest(name: &[u8], digest: u32) {
+    print(name);
+    io::print_hex(STDOUT_FILENO, digest as u64, 8);
+}
+
 // What a buffer is called, and its digest.
 pub fn print_buffer(name: &[u8], buffer: &[u8]) {
-    print(name);
-    io::print_hex(STDOUT_FILENO, crc32(buffer) as u64, 8);
+    print_digest(name, crc32(buffer));
 }
 
 pub fn print_planes(y: &[u8], u: &[u8], v: &[u8]) {

@@ -1,6 +1,4 @@
 // Converts the convoys of a stored list, its standard input, and prints a line of what came of each. vectors/README.md has both forms.
-ghost use Prim.Native.Nat.{_≤_};
-
 // The most numbers that a convoy of the list lends, those of 65 frames: of descriptions, of kr and kb, of parts.
 const NUMBERS: usize = 1040;
 
@@ -8,40 +6,10 @@ const CUSTOMS: usize = 130;
 
 const PARTS: usize = 520;
 
-fn read_wide() -> u64 {
-    let low = replay::read_number() as u64;
-    let high = replay::read_number() as u64;
-    low + 4294967296 * high
-}
-
-// The next number, at most this one.
-fn read_room(most: usize) -> usize
-    ensures { λ r. ⌜ r ≤ most ⌝ }
-{
-    let room = replay::read_number() as usize;
-    if room > most { most } else { room }
-}
-
-fn fill_numbers(numbers: &mut [u32]) {
-    let mut i = 0;
-    while i < numbers.len() {
-        numbers[i] = replay::read_number();
-        i += 1;
-    }
-}
-
 fn fill_customs(customs: &mut [f32]) {
     let mut i = 0;
     while i < customs.len() {
         customs[i] = replay::read_float();
-        i += 1;
-    }
-}
-
-fn fill_parts(parts: &mut [u64]) {
-    let mut i = 0;
-    while i < parts.len() {
-        parts[i] = read_wide();
         i += 1;
     }
 }
@@ -94,9 +62,9 @@ fn read_and_convert(
     u: &mut [u8],
     v: &mut [u8],
 ) {
-    fill_numbers(numbers);
+    replay::fill_numbers(numbers);
     fill_customs(customs);
-    fill_parts(parts);
+    replay::fill_wide(parts);
     replay::fill(source);
     replay::fill_planes(y, u, v);
     convert_on(count, numbers, customs, parts, source, y, u, v);
@@ -107,10 +75,10 @@ fn replay_on(source: &mut [u8], y: &mut [u8], u: &mut [u8], v: &mut [u8]) {
     let mut numbers = [0u32; 1040];
     let mut customs = [0f32; 130];
     let mut parts = [0u64; 520];
-    let count = read_wide() as usize;
-    let numbers_room = read_room(NUMBERS);
-    let customs_room = read_room(CUSTOMS);
-    let parts_room = read_room(PARTS);
+    let count = replay::read_wide() as usize;
+    let numbers_room = replay::read_room(NUMBERS);
+    let customs_room = replay::read_room(CUSTOMS);
+    let parts_room = replay::read_room(PARTS);
     read_and_convert(
         count,
         &mut numbers[0..numbers_room],
