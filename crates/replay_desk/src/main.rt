@@ -194,7 +194,7 @@ fn make_step(
     parts: &mut [u64; 320],
 ) {
     let mut told = [0usize; 4];
-    let number = desk_calls::call_desk_step(
+    let number = desk_steps::call_desk_step(
         source,
         y,
         u,

@@ -135,7 +135,7 @@ pub extern "C" fn segvartin_call_desk_step(
         (deskNumbers (now (numbers .exit)) (now (customs .exit)) (now (parts .exit)))
         (buffersOf (now (source .entry)) (now (y .exit)) (now (u .exit)) (now (v .exit)) (now (carried .exit)))) ⌝ }
 {
-    desk_calls::call_desk_step(source, y, u, v, carried, numbers, customs, parts, told)
+    desk_steps::call_desk_step(source, y, u, v, carried, numbers, customs, parts, told)
 }
 
 // Opens a frame that comes in bands (0), or answers the number of one refusal: 1 for numbers without a meaning, else 2, 3, 4 or 14.

@@ -2,9 +2,9 @@
 -- Assumes nothing.
 use mathlib.Core.Path.{_∙_}
 use borrow.Author.Needs.{needs}
 use Rattle.desk_calls.proofs.Below.{served-below}
-use Rattle.desk_calls.proofs.call_desk_step.Statement.{statement}
-use Rattle.desk_calls.proofs.call_desk_step.Tie as tie
+use Rattle.desk_steps.proofs.call_desk_step.Statement.{statement}
+use Rattle.desk_steps.proofs.call_desk_step.Tie as tie
 
 put-served-requires : tie.Need-put-served-requires
 put-served-requires c κs = (

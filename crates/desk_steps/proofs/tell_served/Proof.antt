@@ -6,8 +6,8 @@ use mathlib.Core.List.{List, [], _∷_}
 use lib.ListN.{set}
 use borrow.Author.Needs.{needs}
 use Rattle.call_numbers.proofs.Arrays.{all-written}
-use Rattle.desk_calls.proofs.tell_served.Statement.{statement}
-use Rattle.desk_calls.proofs.tell_served.Tie as tie
+use Rattle.desk_steps.proofs.tell_served.Statement.{statement}
+use Rattle.desk_steps.proofs.tell_served.Tie as tie
 
 returns : tie.Need-returns
 returns c =

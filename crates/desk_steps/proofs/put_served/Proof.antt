@@ -6,9 +6,9 @@ use native.Mathlib.Omega.{arith}
 use borrow.Author.Needs.{needs}
 use Rattle.desk.specs.declared.Served.{Served}
 use Rattle.desk_numbers.specs.Numbers.{DeskNumbers, askFirst}
 use Rattle.desk_calls.specs.Calls.{ServedBelow}
-use Rattle.desk_calls.proofs.put_served.Statement.{statement}
-use Rattle.desk_calls.proofs.put_served.Tie as tie
+use Rattle.desk_steps.proofs.put_served.Statement.{statement}
+use Rattle.desk_steps.proofs.put_served.Tie as tie
 
 abbrev Start : tie.After-known-told → tie.Start
 Start e = e .before .before .before .before .before .before
