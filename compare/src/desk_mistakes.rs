@@ -20,6 +20,7 @@ pub enum Mistake {
     OneOn,
     Backward,
     NotPast31,
+    SecondWaiting,
     FirstOffered,
     LastOffered,
     OfferedIsFirst,
@@ -111,13 +112,14 @@ pub enum Mistake {
 
 use Mistake::*;
 
-pub const MISTAKES: [(Mistake, &str); 93] = [
+pub const MISTAKES: [(Mistake, &str); 94] = [
     (FromZero, "every step asks camera 0 first"),
     (NotMoved, "the camera asked first is never moved"),
     (ServedFirstAgain, "the camera served is asked first again"),
     (OneOn, "each step moves the camera asked first by one"),
     (Backward, "the round goes down"),
     (NotPast31, "the round ends with camera 31"),
+    (SecondWaiting, "the first camera that waits is passed over"),
     (
         FirstOffered,
         "bands are served in the order of their offers",
@@ -636,7 +638,12 @@ impl<'a> Second<'a> {
             LastOffered => self.offered.iter().rev().copied().collect(),
             _ => (0..32).map(|turn| (first + turn) % 32).collect(),
         };
-        round.into_iter().find(|c| is_waiting(m, desk, *c))
+        let mut waiting = round.into_iter().filter(|c| is_waiting(m, desk, *c));
+        let first = waiting.next();
+        match m {
+            SecondWaiting => waiting.next().or(first),
+            _ => first,
+        }
     }
 
     fn step(&mut self, desk: &mut DeskNumbers, mut lent: [&mut [u8]; 5]) -> Result<Told, String> {

@@ -148,6 +148,7 @@ fn open_by(
         &mut told,
     );
     print_answer(number, told[0], told[1]);
+    print_desk(numbers, customs, parts);
 }
 
 fn replay_opening(numbers: &mut [u32; 609], customs: &mut [f32; 64], parts: &mut [u64; 320]) {
@@ -180,6 +181,7 @@ fn replay_offer(numbers: &mut [u32; 609], customs: &mut [f32; 64], parts: &mut [
     replay::fill_wide(&mut place);
     let number = desk_calls::call_desk_offer(camera, &band, &place, numbers, customs, parts);
     replay::print_number(number as usize);
+    print_desk(numbers, customs, parts);
 }
 
 // On as much of each buffer as is lent.
@@ -234,6 +236,7 @@ fn replay_step(
         parts,
     );
     print_buffers(y, u, v, carried);
+    print_desk(numbers, customs, parts);
 }
 
 // Bytes of a length for the start of a part.
@@ -245,6 +248,19 @@ fn deliver_to(part: &mut [u8]) {
 fn deliver(source: &mut [u8]) {
     let offset = replay::read_length(source);
     deliver_to(&mut source[offset..]);
+}
+
+fn replay_call(
+    kind: u32,
+    numbers: &mut [u32; 609],
+    customs: &mut [f32; 64],
+    parts: &mut [u64; 320],
+) {
+    if kind == OPENING {
+        replay_opening(numbers, customs, parts);
+        return;
+    }
+    replay_offer(numbers, customs, parts);
 }
 
 fn replay_ask(
@@ -265,14 +281,11 @@ fn replay_ask(
         return;
     }
     print_label(history, call);
-    if kind == OPENING {
-        replay_opening(numbers, customs, parts);
-    } else if kind == STEP {
+    if kind == STEP {
         replay_step(source, y, u, v, carried, numbers, customs, parts);
-    } else {
-        replay_offer(numbers, customs, parts);
+        return;
     }
-    print_desk(numbers, customs, parts);
+    replay_call(kind, numbers, customs, parts);
 }
 
 // The desk, the buffers, and what is asked, all of it on these.
