@@ -135,8 +135,8 @@ impl Shared {
         self.open(CAMERA); // its last row is done, so its number is free
     }
 
-    /// The times of each band of a frame by the band call, by its step, and of its offer, in milliseconds of the processor, once a turn. Which of the two
-    /// is first changes from turn to turn: the later one finds the band in the cache.
+    /// The times of each band of a frame by the band call, by its step, and of its offer, in milliseconds of the processor, once a turn. Which of
+    /// the two is first changes from turn to turn: the later one finds the band in the cache.
     fn times(&mut self, turns: usize) -> Vec<Times> {
         let mut all = vec![Vec::new(); self.bands()];
         for turn in 0..turns {
@@ -179,8 +179,9 @@ fn least(all: &[Times]) -> [f64; 3] {
     [0, 1, 2].map(|form| all.iter().map(|times| times.iter().map(|took| took[form]).fold(f64::MAX, f64::min)).sum())
 }
 
-/// How many times as long a step takes as the band call: the middle of all pairs in which the call was first, and of those in which the step was. A pair
-/// is made within a millisecond, so that a slow or a fast moment of the machine falls on both; on a busy one that cannot be said of the least of each.
+/// How many times as long a step takes as the band call: the middle of all pairs in which the call was first, and of those in which the step was. A
+/// pair is made within a millisecond, so that a slow or a fast moment of the machine falls on both; on a busy one that cannot be said of the least
+/// of each.
 fn over(all: &[Times]) -> f64 {
     let [call_first, step_first] = [0, 1].map(|first| {
         let pairs = all.iter().flat_map(|times| times.iter().skip(first).step_by(2));
