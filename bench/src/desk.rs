@@ -14,7 +14,7 @@ const BANDS: usize = HEIGHT / ROWS;
 
 const TURNS: usize = 100;
 
-/// How often the two programs' tables are gone through: a moment in which the processor is faster may fall on one of the two.
+/// How often these are gone through, by the linked calls and from Rattle in turn.
 const RUNS: usize = 3;
 const TURNS_OF_SMALL: usize = 2000;
 
@@ -135,79 +135,106 @@ impl Shared {
         self.open(CAMERA); // its last row is done, so its number is free
     }
 
-    /// The least times of each band of a frame by the band call, by its step, and of its offer, in milliseconds of the processor, added up. Which of the
-    /// two is first changes from turn to turn: the later one finds the band in the cache.
-    fn least(&mut self, turns: usize) -> [f64; 3] {
-        let mut least = vec![[f64::MAX; 3]; self.bands()];
+    /// The times of each band of a frame by the band call, by its step, and of its offer, in milliseconds of the processor, once a turn. Which of
+    /// the two is first changes from turn to turn: the later one finds the band in the cache.
+    fn times(&mut self, turns: usize) -> Vec<Times> {
+        let mut all = vec![Vec::new(); self.bands()];
         for turn in 0..turns {
             let mut state = FrameStateWith::open(self.frame, FrameOptions::of(&self.frame)).unwrap();
-            for (band, times) in least.iter_mut().enumerate() {
+            for (band, times) in all.iter_mut().enumerate() {
+                let mut took = [0.; 3];
                 for form in [turn % 2, 1 - turn % 2] {
                     if form == 0 {
                         let start = processor_time();
                         state = self.call(state, band);
-                        times[0] = times[0].min(processor_time() - start);
+                        took[0] = processor_time() - start;
                     } else {
                         let start = processor_time();
                         self.offer(band);
-                        times[2] = times[2].min(processor_time() - start);
+                        took[2] = processor_time() - start;
                         let start = processor_time();
                         self.step();
-                        times[1] = times[1].min(processor_time() - start);
+                        took[1] = processor_time() - start;
                     }
                 }
+                times.push(took);
             }
             self.open(CAMERA);
         }
-        [0, 1, 2].map(|form| least.iter().map(|times| times[form]).sum())
+        all
     }
 }
 
-/// The same two times by the program in Rattle (desk.rattle), which takes turns too.
-fn in_rattle(cameras: usize, sampling: usize) -> [f64; 2] {
+/// Of one band, one for each turn.
+type Times = Vec<[f64; 3]>;
+
+/// The middle one.
+fn middle(mut numbers: Vec<f64>) -> f64 {
+    numbers.sort_by(f64::total_cmp);
+    numbers[numbers.len() / 2]
+}
+
+/// The least times of each form, added up over the bands.
+fn least(all: &[Times]) -> [f64; 3] {
+    [0, 1, 2].map(|form| all.iter().map(|times| times.iter().map(|took| took[form]).fold(f64::MAX, f64::min)).sum())
+}
+
+/// How many times as long a step takes as the band call: the middle of all pairs in which the call was first, and of those in which the step was. A
+/// pair is made within a millisecond, so that a slow or a fast moment of the machine falls on both; on a busy one that cannot be said of the least
+/// of each.
+fn over(all: &[Times]) -> f64 {
+    let [call_first, step_first] = [0, 1].map(|first| {
+        let pairs = all.iter().flat_map(|times| times.iter().skip(first).step_by(2));
+        middle(pairs.map(|took| took[1] / took[0]).collect())
+    });
+    (call_first * step_first).sqrt()
+}
+
+/// The same of the band call and the step, by the program in Rattle (desk.rattle).
+fn in_rattle(cameras: usize, sampling: usize) -> Vec<Times> {
     let program = std::env::current_exe().unwrap().with_file_name("desk_rattle");
     let mut running = Command::new(program).stdin(Stdio::piped()).stdout(Stdio::piped()).spawn().expect("bench/build makes desk_rattle");
     running.stdin.take().unwrap().write_all(&[sampling as u8, cameras as u8, TURNS as u8]).unwrap();
     let written = running.wait_with_output().unwrap().stdout;
-    let numbers: Vec<f64> = String::from_utf8(written).unwrap().lines().map(|line| line.parse().unwrap()).collect();
-    let [call, step, sum] = numbers[..] else { panic!("desk_rattle wrote {numbers:?}") };
-    assert!(sum > 0., "steps leave other planes than band calls");
-    [call / 1e6, step / 1e6]
-}
-
-/// The least of each over some runs.
-fn least_of_runs(mut run: impl FnMut() -> [f64; 2]) -> [f64; 2] {
-    (0..RUNS).map(|_| run()).reduce(|a, b| [a[0].min(b[0]), a[1].min(b[1])]).unwrap()
+    let mut numbers: Vec<f64> = String::from_utf8(written).unwrap().lines().map(|line| line.parse().unwrap()).collect();
+    assert!(numbers.pop().unwrap() > 0., "steps leave other planes than band calls");
+    assert_eq!(numbers.len(), 2 * BANDS * TURNS);
+    let of_band = |band| numbers.chunks(2).skip(band).step_by(BANDS).map(|took| [took[0] / 1e6, took[1] / 1e6, 0.]).collect();
+    (0..BANDS).map(of_band).collect()
 }
 
 pub fn report(bars: &mut Bars) {
     println!(
         "\na step on bands of {ROWS} rows of {WIDTH} x {HEIGHT} beside the band call on them, Rgb, noise, processor ms a frame of {BANDS} bands; \
-         least of {RUNS} x {TURNS} turns of each band; bar: {MOST_OVER_BAND} %"
+         least of {RUNS} x {TURNS} turns, and the middle of as many pairs; bar: {MOST_OVER_BAND} %"
     );
-    println!("{:<8}{:<8}{:>13}{:>13}{:>9}{:>9}{:>12}", "calls", "chroma", "frames open", "band calls", "steps", "over", "us a band");
-    let mut line = |calls: &str, chroma: &str, cameras: usize, [call, step]: [f64; 2]| {
-        let said = bars.hold(step <= call * (1. + MOST_OVER_BAND / 100.));
-        let more = (step - call) * 1e3 / BANDS as f64;
-        println!("{calls:<8}{chroma:<8}{cameras:>13}{call:>13.3}{step:>9.3}{:>7.2} %{more:>12.2}{said}", (step / call - 1.) * 100.);
-    };
+    println!("{:<8}{:<8}{:>13}{:>13}{:>9}{:>16}{:>12}", "calls", "chroma", "frames open", "band calls", "steps", "over, in pairs", "us a band");
     for (code, (chroma, sampling)) in SAMPLINGS.into_iter().enumerate() {
         for cameras in [1, 31] {
             let mut shared = Shared::new(cameras, WIDTH, HEIGHT, ROWS, sampling);
             shared.check();
-            let linked = least_of_runs(|| shared.least(TURNS).first_chunk().copied().unwrap());
-            line("linked", chroma, cameras, linked);
-            line("Rattle", chroma, cameras, least_of_runs(|| in_rattle(cameras, code)));
+            let mut all = [vec![Vec::new(); BANDS], vec![Vec::new(); BANDS]];
+            for _ in 0..RUNS {
+                for (all, times) in all.iter_mut().zip([shared.times(TURNS), in_rattle(cameras, code)]) {
+                    all.iter_mut().zip(times).for_each(|(all, times)| all.extend(times));
+                }
+            }
+            for (calls, all) in ["linked", "Rattle"].into_iter().zip(all) {
+                let ([call, step, _], over) = (least(&all), (over(&all) - 1.) * 100.);
+                let said = bars.hold(over <= MOST_OVER_BAND);
+                let more = over / 100. * call * 1e3 / BANDS as f64;
+                println!("{calls:<8}{chroma:<8}{cameras:>13}{call:>13.3}{step:>9.3}{over:>14.2} %{more:>12.2}{said}");
+            }
         }
     }
 
-    println!("\nthe same on bands of one row of 16 x 8, us a band; least of {TURNS_OF_SMALL} turns; the clock takes its part of each");
+    println!("\nthe same on bands of one row of 16 x 8, linked, us a band; least of {TURNS_OF_SMALL} turns; the clock takes its part of each");
     println!("{:<8}{:>13}{:>13}{:>9}{:>9}{:>9}", "chroma", "frames open", "band call", "step", "more", "offer");
     for (name, sampling) in SAMPLINGS {
         for cameras in [1, 31] {
             let mut small = Shared::new(cameras, 16, 8, 1, sampling);
             let each = small.bands() as f64;
-            let [call, step, offer] = small.least(TURNS_OF_SMALL).map(|time| time * 1e3 / each);
+            let [call, step, offer] = least(&small.times(TURNS_OF_SMALL)).map(|time| time * 1e3 / each);
             println!("{name:<8}{cameras:>13}{call:>13.2}{step:>9.2}{:>9.2}{offer:>9.2}", step - call);
         }
     }

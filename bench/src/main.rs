@@ -1,5 +1,6 @@
-//! Times this converter and the unaltered Rust on the same frames, in one run, on one thread; several frames in one call beside single calls; a desk's
-//! steps beside band calls; a count of colours beside a loop in C; shift files beside memcpy; their summaries beside a sum in C; two of them paired beside memcmp; and Y4M files beside memcpy.
+//! Times this converter and the unaltered Rust on the same frames, in one run, on one thread; several frames in one call beside single calls; a
+//! desk's steps beside band calls; a count of colours beside a loop in C; shift files beside memcpy; their summaries beside a sum in C; two of them
+//! paired beside memcmp; and Y4M files beside memcpy.
 //!
 //! Each figure is the least of many turns. The two, or a frame's forms, take turns, so that a busy
 //! moment of the machine falls on both alike.

@@ -62,24 +62,24 @@ impl From<DeskError> for YuvError {
     }
 }
 
-/// A desk where up to 32 cameras share the converter. A camera [opens](Desk::open) a frame at its number and [offers](Desk::offer) its bands one at a
-/// time; a [step](Desk::step) serves one band, that of the next camera with a band waiting, by number, going round. Planes, carried rows and bands are
-/// parts of five buffers that all cameras share. [`Desk::default`] has no frame open.
+/// A desk where up to 32 cameras share the converter. A camera [opens](Desk::open) a frame at its number and [offers](Desk::offer) its bands one at
+/// a time; a [step](Desk::step) serves one band, that of the next camera with a band waiting, by number, going round. Planes, carried rows and bands
+/// are parts of five buffers that all cameras share. [`Desk::default`] has no frame open.
 ///
-/// - A band that is refused at its step uses that step: it is dropped, no byte is written, the frame stays open with the rows that it had, and the next
-///   camera is asked first. The band may be offered again.
-/// - A number is free again with the step that does the last row of its frame, and so are the frame's parts: another frame can be opened there before
-///   the next step.
-/// - There is no call that gives a frame up. One whose bands can only be refused, since a plane's part is too short for it, say, keeps its number and
-///   its parts as long as the desk is used. Who wants them back begins a new desk.
+/// - A band that is refused at its step uses that step: it is dropped, no byte is written, the frame stays open with the rows that it had, and the
+///   next camera is asked first. The band may be offered again.
+/// - A number is free again with the step that does the last row of its frame, and so are the frame's parts: another frame can be opened there
+///   before the next step.
+/// - There is no call that gives a frame up. One whose bands can only be refused, since a plane's part is too short for it, say, keeps its number
+///   and its parts as long as the desk is used. Who wants them back begins a new desk.
 ///
-/// Where the desk began as [`Desk::default`] and each call gets it as the call before left it, a camera with a band waiting is served within 32 steps,
-/// whatever the others open and offer. Where the bytes of planes, carried rows and waiting bands also come back as they were left, the planes of each
-/// camera are, up to the step of its last row, those of its own accepted bands converted alone. Buffers may move and be of other lengths from call to
-/// call. A desk that no call left is answered too.
+/// Where the desk began as [`Desk::default`] and each call gets it as the call before left it, a camera with a band waiting is served within 32
+/// steps, whatever the others open and offer. Where the bytes of planes, carried rows and waiting bands also come back as they were left, the planes
+/// of each camera are, up to the step of its last row, those of its own accepted bands converted alone. Buffers may move and be of other lengths
+/// from call to call. A desk that no call left is answered too.
 ///
-/// The fields are the numbers of RULES 10.10: of camera c 19 numbers from 19 × c on, of which the first is 0 where the number is free, 1 where a frame
-/// is open and 2 where a band of it waits, and the second the rows done; its kr and kb; and offset and length of its band and of its parts.
+/// The fields are the numbers of RULES 10.10: of camera c 19 numbers from 19 × c on, of which the first is 0 where the number is free, 1 where a
+/// frame is open and 2 where a band of it waits, and the second the rows done; its kr and kb; and offset and length of its band and of its parts.
 ///
 /// ```
 /// use segvartin::*;
@@ -132,9 +132,9 @@ impl Default for Desk {
 }
 
 impl Desk {
-    /// Opens a frame for a camera, with no row done: RULES 16.2. The options hold for all its bands. Refuses a number above 31 (21) or in use (23); parts
-    /// (18) that reach outside buffers of these lengths or share a byte with an open frame's part of the same buffer; a size (2, 3), a matrix (4) or a
-    /// window (14). A refusal leaves the desk as it is. Of strides and of the lengths of parts it asks nothing; each step does.
+    /// Opens a frame for a camera, with no row done: RULES 16.2. The options hold for all its bands. Refuses a number above 31 (21) or in use (23);
+    /// parts (18) that reach outside buffers of these lengths or share a byte with an open frame's part of the same buffer; a size (2, 3), a matrix
+    /// (4) or a window (14). A refusal leaves the desk as it is. Of strides and of the lengths of parts it asks nothing; each step does.
     ///
     /// A part of no bytes shares none, and is outside where its offset is above the buffer's length.
     pub fn open(
@@ -172,9 +172,10 @@ impl Desk {
         YuvError::answer(number, expected, received)
     }
 
-    /// Offers the next band of a camera's frame, which then waits for its step: RULES 16.3. It is `rows` rows, `stride` bytes apart, in this part of a
-    /// source buffer of `source_len` bytes. Refuses a number above 31 or without an open frame (21), a camera whose last band waits (22), and a part
-    /// outside the buffer (18), and leaves the desk as it is. Neither the rows nor the stride are asked here; the step does. Bands may share bytes.
+    /// Offers the next band of a camera's frame, which then waits for its step: RULES 16.3. It is `rows` rows, `stride` bytes apart, in this part of
+    /// a source buffer of `source_len` bytes. Refuses a number above 31 or without an open frame (21), a camera whose last band waits (22), and a
+    /// part outside the buffer (18), and leaves the desk as it is. Neither the rows nor the stride are asked here; the step does. Bands may share
+    /// bytes.
     pub fn offer(
         &mut self,
         camera: u32,
@@ -198,10 +199,10 @@ impl Desk {
         YuvError::answer(number, 0, 0)
     }
 
-    /// Serves one band, that of the first camera with a band waiting, from the one behind the camera last served, going round, at first from camera 0:
-    /// RULES 16.4. Tells which, or none where no band waited. The band is converted as by [`FrameStateWith::band`](crate::FrameStateWith::band) on the
-    /// frame's parts, or refused: 18 where a part of it or of its frame is outside the buffers as they are lent now, else 2, 3, 4, 14, 5 to 13. Either
-    /// way it waits no more. No byte outside the parts of the camera's frame is written, and with a refusal none.
+    /// Serves one band, that of the first camera with a band waiting, from the one behind the camera last served, going round, at first from camera
+    /// 0: RULES 16.4. Tells which, or none where no band waited. The band is converted as by [`FrameStateWith::band`](crate::FrameStateWith::band)
+    /// on the frame's parts, or refused: 18 where a part of it or of its frame is outside the buffers as they are lent now, else 2, 3, 4, 14, 5 to
+    /// 13. Either way it waits no more. No byte outside the parts of the camera's frame is written, and with a refusal none.
     ///
     /// `source` has the waiting bands in their places; `y`, `u`, `v` and `carried` have the parts of open frames as the step before left them.
     pub fn step(

@@ -1,10 +1,10 @@
 /*
  * The lines of C that README.md shows, one block after another, on a frame of flat green 10 with the rear of a truck in it, flat white. tests/run
- * takes them out of it. The last call but one is that with nearest tables: V of green is 124, and 125 by truncated ones (RULES 5.2, Bt601 Limited: of
- * green 10 and of green 9). The last is the window onto the rear, which is white alone; behind its planes there is still what the call before left.
- * The six frames in one call show the truck's white from the third on. Behind the frames come the counts of colours, the rear twice at a desk, the shift
- * file of the rear, its summary, which at the end is that of the file with its record twice, the file held against itself, the same with settings, and
- * the first moved forward; last the Y4M file of the rear.
+ * takes them out of it. The last call but one is that with nearest tables: V of green is 124, and 125 by truncated ones (RULES 5.2, Bt601 Limited:
+ * of green 10 and of green 9). The last is the window onto the rear, which is white alone; behind its planes there is still what the call before
+ * left. The six frames in one call show the truck's white from the third on. Behind the frames come the counts of colours, the rear twice at a desk,
+ * the shift file of the rear, its summary, which at the end is that of the file with its record twice, the file held against itself, the same with
+ * settings, and the first moved forward; last the Y4M file of the rear.
  */
 #include "expect.h"
 
