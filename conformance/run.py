@@ -28,7 +28,7 @@ FILES = ['requests', 'frames', 'large', 'bands', 'states', 'counts', 'tables', '
 COUNTS = HERE / 'luma_counts.txt'  # requests to the program of RULES 9.4
 NOT_OFFERED = 'not offered'
 PATIENCE = 3600  # seconds for one run of a program
-RESTARTS = 20  # of a program that ends before its last line
+RESTARTS = 20  # lines that may end a program
 
 Vector = namedtuple('Vector', 'file number rule text line answer')
 Wrong = namedtuple('Wrong', 'vector rule what got')
@@ -116,17 +116,21 @@ def run(command, data):
 
 
 def answers_in_lines(command, lines):
-    """The answer to each line; None where the program gave none. It is started anew behind a line that ended it."""
-    answers = []
-    for _ in range(RESTARTS):
-        left = lines[len(answers):]
-        if not left:
-            break
-        text = run(command, ''.join(line + '\n' for line in left).encode()).decode('ascii', 'replace')
-        told = text.split('\n')[:-1][:len(left)]
+    """The answer to each line; None where the program gave none. Where it ends early, answers that it had not yet written are lost with it: it is
+    given fewer lines, until the one that ends it is found, and goes on behind that."""
+    answers, size, ended = [], len(lines), 0
+    while len(answers) < len(lines) and ended < RESTARTS:
+        part = lines[len(answers):len(answers) + size]
+        text = run(command, ''.join(line + '\n' for line in part).encode()).decode('ascii', 'replace')
+        told = text.split('\n')[:-1][:len(part)]
         answers += told
-        if len(told) < len(left):
+        if len(told) == len(part):
+            size *= 2
+        elif len(part) > 1:
+            size = max(1, (len(part) - len(told)) // 2)
+        else:
             answers.append(None)
+            ended += 1
     return answers + [None] * (len(lines) - len(answers))
 
 
