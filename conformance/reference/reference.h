@@ -62,7 +62,8 @@ enum {
     REFERENCE_BAD_LAYOUT = 15,    /* RULES 11.3, 11.6, 12.7, 13.4 */
     REFERENCE_BAD_SUMMARY = 17,   /* RULES 12.4, 12.6, 12.7 */
     REFERENCE_BAD_Y4M = 19,       /* RULES 14.4, 14.6, 14.7 */
-    REFERENCE_BAD_CODE = 1,       /* RULES 9.2, 9.4, 10.2, 10.4 */
+    REFERENCE_BAD_CONVOY = 18,    /* RULES 15.2 */
+    REFERENCE_BAD_CODE = 1,       /* RULES 9.2, 9.4, 10.2, 10.4, 15.3 */
     REFERENCE_EMPTY = 2,          /* RULES 7.3 */
     REFERENCE_TOO_LARGE = 3,      /* RULES 7.3 */
     REFERENCE_BAD_MATRIX = 4,     /* RULES 7.4 */
@@ -104,6 +105,9 @@ enum {
 
 /* RULES 14.5: numbers of an entry. */
 #define REFERENCE_Y4M_NUMBERS 6u
+
+/* RULES 15.2: most frames of a convoy. */
+#define REFERENCE_MOST_FRAMES 64u
 
 /* RULES 10.7: numbers of a report; kinds of its first difference; which file is none. */
 #define REFERENCE_REPORT_NUMBERS 18u
@@ -213,11 +217,18 @@ uint32_t reference_chroma_height(uint32_t height, uint32_t sampling);
 /* RULES 2.6: makes the whole source the window of a frame whose width and height are set. */
 void reference_whole_source(struct reference_description *frame);
 
-/* RULES 3.4, 3.5: makes all tables. Once, before the first frame or band call. */
+/* RULES 3.4, 3.5: makes all tables, or both of a rounding and a transfer. Once, before the first frame or band call that needs them. */
 void reference_make_tables(struct reference_tables *tables);
+void reference_make_pair(struct reference_tables *tables, uint32_t rounding, uint32_t transfer);
 
 /* RULES 4.1 to 4.5: weights of an accepted matrix and range. */
 void reference_make_weights(const struct reference_description *frame, struct reference_weights *weights);
+
+/*
+ * RULES 4.4, 4.5: the nine weights of a pair by the machine's own binary32 numbers. It stands in floats.c, and is called where
+ * reference.c is compiled with REFERENCE_FLOATS; without, no floating-point type is used.
+ */
+void reference_work_out(uint32_t kr_bits, uint32_t kb_bits, uint32_t range, struct reference_weights *weights);
 
 /*
  * RULES 5.3, 10.4: counts the colours of each luma; count y of REFERENCE_LUMAS is that of luma y. The numbers are the codes of
@@ -313,5 +324,26 @@ struct reference_answer reference_y4m_write(uint32_t width, uint32_t height, uin
 struct reference_answer reference_y4m_picture(uint32_t width, uint32_t height, uint32_t sampling,
                                               const struct reference_plane *planes, const struct reference_buffer *output,
                                               uint64_t *size);
+
+/* RULES 15.1: a part of a buffer. */
+struct reference_part {
+    uint64_t offset;
+    uint64_t length;
+};
+
+/* RULES 15.2: a frame of a convoy. Codes of its description that have no meaning are refused at its turn. */
+struct reference_convoy_frame {
+    struct reference_description frame;
+    uint32_t stride;
+    struct reference_part source;
+    struct reference_part y;
+    struct reference_part u;
+    struct reference_part v;
+};
+
+/* RULES 15.3: converts a convoy. It asks 18, then what each frame call asks, and tells how many frames are finished. */
+struct reference_answer reference_convoy(const struct reference_tables *tables, const struct reference_convoy_frame *frames,
+                                         uint64_t count, const struct reference_bytes *source,
+                                         const struct reference_planes *planes, uint64_t *done);
 
 #endif
