@@ -5,13 +5,16 @@
     conformance/run.py --lines COMMAND       a program that takes calls in lines (conformance/README.md)
     conformance/run.py --counts COMMAND      a program that reads a range and a matrix (RULES 9.4), like `luma_counts`
 
-Each can be given, alone or with the others. COMMAND is a program and its arguments, as a shell takes them.
+Each can be given, alone or with the others. COMMAND is a program and its arguments, in one word, quoted as for a shell.
 
     --only NAME,..   of the files with vectors these alone: requests, frames, large, bands, states, counts, tables, shift, summaries, pairs,
                      y4m, convoys
     --wrong N        how many wrong answers are shown in full (5)
+    --patience N     seconds that one run of a program may take (600); after two that take longer it is not run again
 
-Exit status 0: all that the program offers is as it must be. It needs Python alone, and the files beside it.
+Exit status 0: all that the program offers is as it must be, and that is something. A kind of line that it answers anywhere it offers: `not offered` to
+another of that kind is wrong. So is the answer after which it writes more lines than it was asked for, or is ended by a signal. It needs Python alone,
+and the files beside it.
 """
 import functools
 import hashlib
@@ -27,7 +30,8 @@ HERE = Path(__file__).resolve().parent
 FILES = ['requests', 'frames', 'large', 'bands', 'states', 'counts', 'tables', 'shift', 'summaries', 'pairs', 'y4m', 'convoys']
 COUNTS = HERE / 'luma_counts.txt'  # requests to the program of RULES 9.4
 NOT_OFFERED = 'not offered'
-PATIENCE = 3600  # seconds for one run of a program
+PATIENCE = 3600  # seconds for one run of a program, where a script here runs it
+MOST_TIMEOUTS = 2  # runs that may take too long
 RESTARTS = 20  # lines that may end a program
 
 Vector = namedtuple('Vector', 'file number rule text line answer')
@@ -97,32 +101,54 @@ def digested(line, answer):
     if not line.startswith('seed ') or answer == NOT_OFFERED:
         return answer
     words = answer.split(' ')
-    return ' '.join(words[:3] + [hashlib.sha256(bytes.fromhex(word.replace('-', ''))).hexdigest() for word in words[3:]])
+    try:
+        return ' '.join(words[:3] + [hashlib.sha256(bytes.fromhex(word.replace('-', ''))).hexdigest() for word in words[3:]])
+    except ValueError:
+        return answer
 
 
 # ---- programs
 
-def run(command, data):
-    """What a program writes, given these bytes; whatever it wrote, where it fails or does not end."""
-    with tempfile.TemporaryFile() as given, tempfile.TemporaryFile() as got:
-        given.write(data)
-        given.seek(0)
-        try:
-            subprocess.run(command, stdin=given, stdout=got, stderr=subprocess.DEVNULL, timeout=PATIENCE)
-        except subprocess.TimeoutExpired:
-            pass
-        got.seek(0)
-        return got.read()
+class Program:
+    """A program and its arguments, run on bytes, for so many seconds at the most."""
+
+    def __init__(self, words, patience):
+        self.words, self.patience, self.timeouts = words, patience, 0
+
+    def run(self, data):
+        """What it writes, and whether it came to its end by itself; whatever it wrote, where it did not."""
+        if self.timeouts >= MOST_TIMEOUTS:
+            return b'', False
+        with tempfile.TemporaryFile() as given, tempfile.TemporaryFile() as got:
+            given.write(data)
+            given.seek(0)
+            try:
+                ended = subprocess.run(self.words, stdin=given, stdout=got, stderr=subprocess.DEVNULL, timeout=self.patience).returncode >= 0
+            except subprocess.TimeoutExpired:
+                ended = False
+                self.timeouts += 1
+            except OSError as error:
+                sys.exit(f'cannot run {self.words[0]}: {error.strerror}')
+            got.seek(0)
+            return got.read(), ended
+
+
+def program_of(command):
+    return command if isinstance(command, Program) else Program(command, PATIENCE)
 
 
 def answers_in_lines(command, lines):
     """The answer to each line; None where the program gave none. Where it ends early, answers that it had not yet written are lost with it: it is
     given fewer lines, until the one that ends it is found, and goes on behind that."""
-    answers, size, ended = [], len(lines), 0
-    while len(answers) < len(lines) and ended < RESTARTS:
+    program, answers, size, ended = program_of(command), [], len(lines), 0
+    while len(answers) < len(lines) and ended < RESTARTS and program.timeouts < MOST_TIMEOUTS:
         part = lines[len(answers):len(answers) + size]
-        text = run(command, ''.join(line + '\n' for line in part).encode()).decode('ascii', 'replace')
-        told = text.split('\n')[:-1][:len(part)]
+        data, whole = program.run(''.join(line + '\n' for line in part).encode())
+        text = data.decode('ascii', 'replace').split('\n')
+        more = len(text) - 1 - len(part)
+        told = text[:-1][:len(part)]
+        if len(told) == len(part) and (more > 0 or not whole):
+            told[-1] = f'{told[-1]} and {more} lines more' if more > 0 else None
         answers += told
         if len(told) == len(part):
             size *= 2
@@ -142,18 +168,23 @@ def portions(given):
 
 def of_lines(command):
     """Answers to vectors by a program that takes calls in lines."""
+    program = program_of(command)
+
     def answers(given):
         for part in portions(given):
-            for vector, answer in zip(part, answers_in_lines(command, [expanded(vector.line) for vector in part])):
+            for vector, answer in zip(part, answers_in_lines(program, [expanded(vector.line) for vector in part])):
                 yield None if answer is None else digested(vector.line, answer)
     return answers
 
 
 def of_requests(command):
     """Answers to requests by a program that takes one of them."""
+    program = program_of(command)
+
     def answers(given):
         for vector in given:
-            yield run(command, bytes.fromhex(vector.line.split(' ')[1].replace('-', ''))).hex() or '-'
+            reply, whole = program.run(bytes.fromhex(vector.line.split(' ')[1].replace('-', '')))
+            yield (reply.hex() or '-') if whole else None
     return answers
 
 
@@ -191,6 +222,13 @@ def fault(vector, got):
     """The rule that a wrong answer breaks, and what is wrong with it."""
     if got is None:
         return vector.rule, 'no answer'
+    try:
+        return fault_of_words(vector, got)
+    except (ValueError, IndexError):
+        return vector.rule, 'the answer does not have the form of one'
+
+
+def fault_of_words(vector, got):
     words, told, should = vector.line.split(' '), got.split(' '), vector.answer.split(' ')
     kind = words[0]
     if kind == 'seed':
@@ -241,13 +279,18 @@ def fault(vector, got):
     return vector.rule, f'word {first + 1} of the answer: {told[first]}, must be {should[first]}'
 
 
-def judged(given, answers):
-    """How many answers are right, how many calls are not offered, and those that are wrong."""
+def kind_of(vector):
+    words = vector.line.split(' ')
+    return words[2] if words[0] == 'seed' else words[0]
+
+
+def judged(given, answers, offered=frozenset()):
+    """How many answers are right, how many calls are of a kind that is not offered, and those that are wrong."""
     right, missing, wrong = 0, 0, []
     for vector, got in zip(given, answers):
         if got == vector.answer:
             right += 1
-        elif got == NOT_OFFERED:
+        elif got == NOT_OFFERED and kind_of(vector) not in offered:
             missing += 1
         else:
             wrong.append(Wrong(vector, *fault(vector, got), got))
@@ -284,28 +327,41 @@ def report(wrong, asked):
 
 
 def arguments(words):
-    options = {'--request': None, '--lines': None, '--counts': None, '--only': ','.join(FILES), '--wrong': '5'}
+    options = {'--request': None, '--lines': None, '--counts': None, '--only': ','.join(FILES), '--wrong': '5', '--patience': '600'}
     if len(words) % 2 or any(word not in options for word in words[::2]):
         sys.exit(__doc__)
     options.update(zip(words[::2], words[1::2]))
     if not any(options[name] for name in ('--request', '--lines', '--counts')):
         sys.exit(__doc__)
+    if not (options['--wrong'].isdigit() and options['--patience'].isdigit()):
+        sys.exit(__doc__)
+    unknown = [name for name in options['--only'].split(',') if name not in FILES]
+    if unknown:
+        sys.exit(f'no file with vectors is called {", ".join(unknown)}')
     return options
 
 
 def main():
     options = arguments(sys.argv[1:])
     only = options['--only'].split(',')
+
+    def program(name):
+        return Program(shlex.split(options[name]), int(options['--patience']))
+
     jobs = []
     if options['--request'] and 'requests' in only:
-        jobs.append(('requests', vectors('requests'), of_requests(shlex.split(options['--request']))))
+        jobs.append(('requests', vectors('requests'), of_requests(program('--request'))))
     if options['--lines']:
-        jobs += [(f'{name}, in lines', vectors(name), of_lines(shlex.split(options['--lines']))) for name in FILES if name in only]
+        takes_lines = of_lines(program('--lines'))
+        jobs += [(f'{name}, in lines', vectors(name), takes_lines) for name in FILES if name in only]
     if options['--counts']:
-        jobs.append(('luma_counts', list(counts_vectors()), of_requests(shlex.split(options['--counts']))))
+        jobs.append(('luma_counts', list(counts_vectors()), of_requests(program('--counts'))))
+    told = [list(answers(given)) for _, given, answers in jobs]
+    offered = {kind_of(vector) for (_, given, _), answers in zip(jobs, told)
+               for vector, got in zip(given, answers) if got not in (None, NOT_OFFERED)}
     wrong, right, missing = [], 0, 0
-    for name, given, answers in jobs:
-        passed, absent, faults = judged(given, answers(given))
+    for (name, given, _), answers in zip(jobs, told):
+        passed, absent, faults = judged(given, answers, offered)
         print(f'{name}: {passed} of {len(given)} right' + (f', {absent} not offered' if absent else ''), flush=True)
         right, missing, wrong = right + passed, missing + absent, wrong + faults
     for found in wrong[:int(options['--wrong'])]:
@@ -316,7 +372,7 @@ def main():
     if wrong:
         report(wrong, [vector.rule for _, given, _ in jobs for vector in given])
     print(f'\n{right} right, {len(wrong)} wrong' + (f', {missing} not offered' if missing else ''))
-    sys.exit(1 if wrong else 0)
+    sys.exit(1 if wrong or not right else 0)
 
 
 if __name__ == '__main__':
