@@ -606,7 +606,7 @@ def frames():
     for order, sampling in product(range(4), range(2)):
         w, h, c = 3, 3, rules.ORDERS[ORDERS[order]][0]
         for more in (1, c, 7):
-            call('2.2', f'{ORDERS[order]}, {SAMPLINGS[sampling]}, source rows {more} bytes apart',
+            call('2.2', f'{ORDERS[order]}, {SAMPLINGS[sampling]}, {more} more bytes after every source row',
                  Frame(w, h, order, sampling, FULL, stride=w * c + more, seed=draw.below(1000), before=0xEE))
     call('2.1', 'four strides that all differ', Frame(5, 4, 1, 0, FULL, stride=23, strides=(7, 5, 4), seed=77))
     call('2.1', 'the stride of U above that of V', Frame(4, 4, 0, 1, FULL, strides=(4, 5, 2), seed=78))
@@ -1247,11 +1247,11 @@ def pairs():
     pair('13.3', 'other samplings', [SET_SECOND], [record(70000, 2, 2, [[0x50, 0x51, 0x52, 0x53], [0x60], [0x70]], (0, 1, 6, 3))], (1, 1))
     for w, h in ((3, 3), (8, 2), (9, 3), (17, 1), (16, 4), (7, 7), (24, 3)):
         base = drawn_record(draw, 0, 4, w, h)
-        for _ in range(2):
+        for time in ('once', 'again'):
             changed = bytearray(base)
             for _ in range(draw.between(1, 3)):
                 changed[8 + draw.below(len(base) - 8)] ^= 1 << draw.below(8)
-            pair('13.3', f'{w} × {h}, up to three bits another', [base], [bytes(changed)])
+            pair('13.3', f'{w} × {h}, up to three bits another, {time}', [base], [bytes(changed)])
     good, bad = rules.file_of(ours), rules.file_of(ours)[:-1]
     pair('13.4', 'ours without its last byte', bad, good)
     pair('13.4', 'theirs without its last byte', good, bad)
@@ -1325,7 +1325,7 @@ def y4m():
             planes = sum(rules.plane_sizes(w, h, sampling))
             for more in (-1, 0, 1):
                 data = b'YUV4MPEG2 H%d W%d%s\n' % (h, w, tag) + b'FRAME\n' + draw.bytes(planes) + b'FRAME X\n' + draw.bytes(planes + more)
-                read('14.3', f'{w} × {h}, {SAMPLINGS[sampling]}, two pictures' + {-1: ', no last byte', 0: '', 1: ', a byte behind'}[more], data)
+                read('14.3', f'{w} × {h}, {tag.decode().strip() or "no tag C"}, two pictures' + {-1: ', no last byte', 0: '', 1: ', a byte behind'}[more], data)
     for name, data in (('no last byte', Y4M_FILE[:-1]), ('a newline behind', Y4M_FILE + b'\n'), ('FRAME and newline behind', Y4M_FILE + b'FRAME\n'),
                        ('9 bytes of a third', Y4M_FILE + b'FRAME\n123456789'), ('a third', Y4M_FILE + b'FRAME\n1234567890'), ('no header', Y4M_FIRST),
                        ('the header twice', Y4M_HEADER + Y4M_FILE), ('a newline behind the header', Y4M_HEADER + b'\n' + Y4M_FIRST),

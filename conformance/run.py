@@ -218,6 +218,17 @@ def plane_fault(vector, words, plane, got, should):
     return vector.rule, what
 
 
+def is_convoy_padding(words, plane, at):
+    """Whether byte `at` of a plane's buffer is padding of a frame of this convoy."""
+    for start in range(6, len(words), 26):  # a description of 17 words, the stride, and offset and length of four parts
+        frame = words[start:start + 26]
+        offset, length = map(int, frame[20 + 2 * plane:22 + 2 * plane])
+        w, stride = int(frame[0]), int(frame[9 + plane])
+        if offset <= at < offset + length and stride:
+            return (at - offset) % stride >= (w if plane == 0 else (w + 1) // 2)
+    return False
+
+
 def fault(vector, got):
     """The rule that a wrong answer breaks, and what is wrong with it."""
     if got is None:
@@ -268,9 +279,11 @@ def fault_of_words(vector, got):
     if first < 3:
         return vector.rule, f'answer {" ".join(told[:3])}, must be {" ".join(should[:3])}'
     if kind == 'convoy' and first > 3:
-        plane, at = 'YUV'[first - 4], differing(told[first], should[first])
-        what = f'byte {at} of {plane}: {byte_at(told[first], at)}, must be {byte_at(should[first], at)}'
-        return ('7.2', f'refused with 18, and {what}') if should[0] == '18' else (vector.rule, what)
+        plane, at = first - 4, differing(told[first], should[first])
+        what = f'byte {at} of {"YUV"[plane]}: {byte_at(told[first], at)}, must be {byte_at(should[first], at)}'
+        if should[0] == '18':
+            return '7.2', f'refused with 18, and {what}'
+        return ('2.4', what + ', which is padding') if is_convoy_padding(words, plane, at) else (vector.rule, what)
     if kind in ('write', 'record', 'record-settings', 'move', 'build', 'update', 'y4m-write', 'y4m-picture') and first == len(should) - 1:
         if should[0] != '0':
             return '7.2', 'refused, and the output is written'
@@ -318,12 +331,14 @@ def report(wrong, asked):
     names, shares = titles(), {}
     for rule in sorted({found.rule for found in wrong}, key=by_number):
         of_rule = [found for found in wrong if found.rule == rule]
-        shares[rule] = len(of_rule), max(asked.count(rule), len(of_rule))
+        elsewhere = sum(found.vector.rule != rule for found in of_rule)  # told by the answer of another rule's vector
+        count, total = len(of_rule) - elsewhere, asked.count(rule)
+        shares[rule] = len(of_rule) / (total + elsewhere), len(of_rule)
+        said = ([f'{count} of {total}'] if total else []) + ([f'{elsewhere} under other rules'] if elsewhere else [])
         vector = of_rule[0].vector
-        print(f'  {rule} {names.get(rule, "")}: {shares[rule][0]} of {shares[rule][1]}, {vector.file} {vector.number}: {of_rule[0].what}')
-    most = max(count / total for count, total in shares.values())
-    print('a mistake in one rule shows under others too; begin with ' + ', '.join(
-        rule for rule, (count, total) in shares.items() if count / total == most) + ', of which most is wrong')
+        print(f'  {rule} {names.get(rule, "")}: {" and ".join(said)}, {vector.file} {vector.number}: {of_rule[0].what}')
+    first = sorted(shares, key=lambda rule: shares[rule], reverse=True)[:2]
+    print('a mistake in one rule shows under others too; look first at ' + ', then at '.join(first) + ', where the largest share is wrong')
 
 
 def arguments(words):
@@ -369,7 +384,9 @@ def main():
         print(f'\n{vector.file} {vector.number}, RULES {found.rule}: {vector.text}\n  {found.what}')
         for sign, text in (('>', vector.line), ('<', vector.answer), ('got', str(found.got))):
             print(f'  {sign} {text[:200]}' + (' ..' if len(text) > 200 else ''))
-    if wrong:
+    if all(answer in (None, '-') for answers in told for answer in answers):
+        print('\nno answer at all: the program ends before it has answered, or writes nothing')
+    elif wrong:
         report(wrong, [vector.rule for _, given, _ in jobs for vector in given])
     print(f'\n{right} right, {len(wrong)} wrong' + (f', {missing} not offered' if missing else ''))
     sys.exit(1 if wrong or not right else 0)
