@@ -3,7 +3,8 @@
 
     tools/promises.py --check
 
-Says which must-fail edit or rule the page does not name, and which file, edit, theorem or rule it names that is not there; ends with 1 then.
+Says which edit, of the gate (`must-fail`) or beside it (`wrong`), or which rule the page does not name, and which file, edit, theorem or rule it
+names that is not there; ends with 1 then.
 A name of the form `CRATE/specs/FILE.antt` `NAME` (or proofs) must stand in that file. In a table with a column of rules, each number there
 must be a rule of docs/RULES.md, and each rule must stand in one of them.
 """
@@ -22,7 +23,8 @@ def main():
     os.chdir(ROOT)
     page = open("docs/PROMISES.md", encoding="utf-8").read()
     faults = []
-    for path in sorted(glob.glob("crates/*/must-fail/*.edit")):
+    edits = sorted(glob.glob("crates/*/must-fail/*.edit") + glob.glob("crates/*/wrong/*.edit"))
+    for path in edits:
         crate, edit = path.split("/")[1], os.path.basename(path)[:-5]
         if f"`{edit}`" not in page and f"`{crate}/{edit}`" not in page:
             faults.append(f"not named: {crate}/{edit}")
@@ -35,7 +37,7 @@ def main():
             crate = ""
             for name in re.findall(r"`([\w/]+)`", cells[column]):
                 crate = os.path.dirname(name) or crate
-                if not os.path.exists(f"crates/{crate}/must-fail/{os.path.basename(name)}.edit"):
+                if not {f"crates/{crate}/{folder}/{os.path.basename(name)}.edit" for folder in ("must-fail", "wrong")} & set(edits):
                     faults.append(f"no such edit: {crate}/{os.path.basename(name)}")
         else:
             column = None
@@ -57,7 +59,7 @@ def main():
         print(fault)
     if faults:
         sys.exit(1)
-    print(f"docs/PROMISES.md names every one of {len(glob.glob('crates/*/must-fail/*.edit'))} edits and {len(rules)} rules, and nothing that is not there")
+    print(f"docs/PROMISES.md names every one of {len(edits)} edits and {len(rules)} rules, and nothing that is not there")
 
 
 main()
