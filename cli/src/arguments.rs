@@ -41,9 +41,10 @@ impl Arguments {
 
     /// The value of a flag that this command cannot do without.
     pub fn needed(&self, name: &str) -> Result<&OsStr, Failure> {
-        let flag = format!("--{name}");
-        let hint = format!("segvartin {} --help", self.command.name);
-        let missing = || Failure::new("a flag is missing", &flag, "none").hint(hint);
+        let flag = self.command.flags().find(|flag| flag.name == name);
+        let usage = flag.map(Flag::usage).unwrap_or_default();
+        let missing =
+            || Failure::new("a flag is missing", &format!("--{name}"), "none").hint(usage);
         self.value(name).ok_or_else(missing)
     }
 
@@ -99,7 +100,7 @@ impl Arguments {
                 &expected
             };
             let hint = format!("segvartin {} --help", self.command.name);
-            return Err(Failure::new("names and words", expected, &received).hint(hint));
+            return Err(Failure::new("operands", expected, &received).hint(hint));
         }
         let mut pairs = operands.iter().zip(&self.operands);
         pairs.try_for_each(|(operand, word)| check(operand.name, &operand.value, word))
@@ -193,7 +194,7 @@ fn parse_for(
                 let mut parts = long.splitn(2, |&byte| byte == b'=');
                 let name = parts.next().unwrap_or_default();
                 let flag = command.flags().find(|flag| flag.name.as_bytes() == name);
-                let flag = flag.ok_or_else(|| unknown_flag(command, name))?;
+                let flag = flag.ok_or_else(|| unknown_flag(command, word.as_bytes()))?;
                 arguments.take(flag, parts.next(), &mut words)?;
             }
             [b'-', shorts @ ..] if !shorts.is_empty() => {
@@ -223,7 +224,7 @@ fn parse_shorts(
         let flag = command
             .flags()
             .find(|flag| flag.short == Some(char::from(short)));
-        let flag = flag.ok_or_else(|| unknown_flag(command, &shorts[k..]))?;
+        let flag = flag.ok_or_else(|| unknown_flag(command, &[b"-", &shorts[k..]].concat()))?;
         let rest = &shorts[k + 1..];
         let takes_rest = !matches!(flag.value, Value::Nothing) && !rest.is_empty();
         arguments.take(flag, takes_rest.then_some(rest), words)?;
@@ -234,11 +235,16 @@ fn parse_shorts(
     Ok(())
 }
 
-fn unknown_flag(command: &Command, name: &[u8]) -> Failure {
-    let received = String::from_utf8_lossy(name);
-    let near = nearest(&received, command.flags().map(|flag| flag.name));
+fn unknown_flag(command: &Command, word: &[u8]) -> Failure {
+    let received = String::from_utf8_lossy(word);
+    let name = received
+        .trim_start_matches('-')
+        .split('=')
+        .next()
+        .unwrap_or_default();
+    let near = nearest(name, command.flags().map(|flag| flag.name));
     let expected = format!("a flag of `segvartin {} --help`", command.name);
-    Failure::new("an unknown flag", &expected, &format!("--{received}")).hint(format!("--{near}"))
+    Failure::new("an unknown flag", &expected, &received).hint(format!("--{near}"))
 }
 
 /// The word that the fewest letters put in, left out or replaced make of this one.

@@ -270,8 +270,7 @@ fn take_rows<'a>(
             Ok(rows)
         }
         None => {
-            let rows = bytes.len() * header.stride as usize / header.row();
-            frame.refuse(rows)?;
+            frame.refuse(header.given(bytes.len()))?;
             Ok(&[])
         }
     }

@@ -66,6 +66,17 @@ impl Header {
         }
     }
 
+    /// How many bytes the library is given of so many of the input, where it is not text.
+    pub fn given(&self, read: usize) -> usize {
+        let (rows, rest) = (read / self.row(), read % self.row());
+        let rest = match self.pixels {
+            Pixels::Grey => 3 * rest,
+            Pixels::Bits => 3 * (8 * rest).min(self.width as usize),
+            _ => rest,
+        };
+        rows * self.stride as usize + rest
+    }
+
     /// Reads the next rows, as many as `rows` has room for; tells how many bytes of them there were.
     pub fn read_rows(&self, input: &mut dyn BufRead, rows: &mut [u8]) -> Result<usize, Failure> {
         if let Pixels::Channels(_) = self.pixels {
