@@ -1,9 +1,10 @@
-//! `segvartin shift append`: records at the end of a shift file. The old file is not copied in memory, and a picture is converted where its planes stand
-//! in the new file.
+//! `segvartin shift append`: records at the end of a shift file. The old file is not copied in memory, and a picture is converted where its planes
+//! stand in the new file.
 
 use crate::arguments::Arguments;
-use crate::files::{self, Input, Joined, Map, MapMut, Output, with_ending};
+use crate::files::{self, Input, Output, with_ending};
 use crate::json::Json;
+use crate::maps::{Joined, Map, MapMut};
 use crate::picture::Pictures;
 use crate::progress::Progress;
 use crate::report::Failure;

@@ -35,6 +35,29 @@ impl Arguments {
         self.value(name).and_then(OsStr::to_str)
     }
 
+    /// Of a flag that has a list of values the one that was said, or else the one that the name of a file ends in.
+    pub fn choice_or_ending(&self, name: &str, file: &OsStr) -> Result<&'static str, Failure> {
+        let flag = self.command.flags().find(|flag| flag.name == name);
+        let words = match flag.map(|flag| &flag.value) {
+            Some(Value::OneOf(words)) => *words,
+            _ => &[],
+        };
+        let is_meant = |word: &&str| match self.choice(name) {
+            Some(said) => said == *word,
+            None => has_ending(file, &format!(".{word}")),
+        };
+        let unknown = || {
+            let expected = format!("--{name}, or a name that ends in .{}", words.join(" or ."));
+            let failure = Failure::new("what to write", &expected, "another name").of(file);
+            failure.hint(format!("--{name} {}", listed(words)))
+        };
+        words
+            .iter()
+            .copied()
+            .find(|word| is_meant(word))
+            .ok_or_else(unknown)
+    }
+
     pub fn json(&self) -> bool {
         self.has("json")
     }
@@ -139,6 +162,12 @@ pub fn crossing(word: &OsStr) -> Result<u32, Failure> {
     digits
         .and_then(|digits| digits.parse().ok())
         .ok_or_else(wrong)
+}
+
+pub fn has_ending(name: &OsStr, ending: &str) -> bool {
+    name.to_string_lossy()
+        .to_ascii_lowercase()
+        .ends_with(ending)
 }
 
 /// Reads the words behind the program's name; a failure with the command's name.

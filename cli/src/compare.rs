@@ -3,6 +3,7 @@
 use crate::arguments::Arguments;
 use crate::files;
 use crate::json::Json;
+use crate::maps;
 use crate::names::sampling_name;
 use crate::progress::Progress;
 use crate::report::Failure;
@@ -15,7 +16,7 @@ pub fn run(arguments: &Arguments) -> Result<u8, Failure> {
     let [ours, theirs] = [0, 1].map(|k| files::open_whole(&arguments.operands[k]));
     let (ours, theirs) = (ours?, theirs?);
     let progress = Progress::touched(arguments, ours.len() + theirs.len());
-    let report = pair_shift_files(&ours, &theirs);
+    let report = maps::read_ahead(&[&ours, &theirs], || pair_shift_files(&ours, &theirs));
     drop(progress);
     let report = report.map_err(|refused| {
         let side = usize::from(refused.side == PairSide::Theirs);

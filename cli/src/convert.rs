@@ -9,36 +9,9 @@ use crate::picture::{Frame, Picture, Pictures};
 use crate::progress::Progress;
 use crate::report::Failure;
 use crate::room::Room;
-use crate::settings::{Settings, has_ending};
+use crate::settings::Settings;
 use segvartin::{ShiftFile, YuvError};
 use std::ffi::OsStr;
-
-#[derive(Clone, Copy, PartialEq)]
-enum Form {
-    Yuv,
-    Y4m,
-    Shift,
-}
-
-/// By `--to`, or by the end of the output's name.
-fn form_of(arguments: &Arguments, name: &OsStr) -> Result<Form, Failure> {
-    match arguments.choice("to") {
-        Some("yuv") => Ok(Form::Yuv),
-        Some("y4m") => Ok(Form::Y4m),
-        Some(_) => Ok(Form::Shift),
-        None if has_ending(name, ".yuv") => Ok(Form::Yuv),
-        None if has_ending(name, ".y4m") => Ok(Form::Y4m),
-        None if has_ending(name, ".shift") => Ok(Form::Shift),
-        None => {
-            let failure = Failure::new(
-                "what to write",
-                "--to, or a name in .yuv, .y4m or .shift",
-                "another name",
-            );
-            Err(failure.of(name).hint("--to yuv, --to y4m or --to shift"))
-        }
-    }
-}
 
 /// What was written.
 #[derive(Default)]
@@ -52,13 +25,13 @@ struct Made {
 pub fn run(arguments: &Arguments) -> Result<u8, Failure> {
     let settings = Settings::of(arguments)?;
     let name = arguments.needed("output")?;
-    let form = form_of(arguments, name)?;
-    check_flags(arguments, form)?;
+    let to = arguments.choice_or_ending("to", name)?;
+    check_flags(arguments, to)?;
     let output = Output::create(name, arguments.has("force"))?;
     let is_printed = arguments.json() && !output.is_standard_output();
-    let made = match form {
-        Form::Shift => to_shift(arguments, &settings, output)?,
-        _ => to_frames(arguments, &settings, form, output)?,
+    let made = match to {
+        "shift" => to_shift(arguments, &settings, output)?,
+        _ => to_frames(arguments, &settings, to == "y4m", output)?,
     };
     if is_printed {
         let json = Json::Object(vec![
@@ -78,9 +51,9 @@ pub fn run(arguments: &Arguments) -> Result<u8, Failure> {
 }
 
 /// A shift file alone has crossings and forms.
-fn check_flags(arguments: &Arguments, form: Form) -> Result<(), Failure> {
+fn check_flags(arguments: &Arguments, to: &str) -> Result<(), Failure> {
     for flag in ["crossing", "plain"] {
-        if form != Form::Shift && arguments.has(flag) {
+        if to != "shift" && arguments.has(flag) {
             let failure = Failure::new(&format!("--{flag}"), "--to shift", "another output");
             return Err(failure.hint("--to shift"));
         }
@@ -91,12 +64,12 @@ fn check_flags(arguments: &Arguments, form: Form) -> Result<(), Failure> {
 fn to_frames(
     arguments: &Arguments,
     settings: &Settings,
-    form: Form,
+    is_y4m: bool,
     output: Output,
 ) -> Result<Made, Failure> {
     let progress = Progress::counted(arguments, files::total_size(&arguments.operands));
     let mut frames = Frames {
-        form,
+        is_y4m,
         output,
         room: None,
         made: Made::default(),
@@ -112,7 +85,7 @@ fn to_frames(
 
 /// One frame behind the other, all through the same room.
 struct Frames {
-    form: Form,
+    is_y4m: bool,
     output: Output,
     room: Option<Room>,
     made: Made,
@@ -158,7 +131,7 @@ impl Frames {
         let size = (frame.description.width, frame.description.height);
         match self.room.take() {
             Some(room) if room.size == size => Ok(room),
-            Some(room) if self.form == Form::Y4m => {
+            Some(room) if self.is_y4m => {
                 let [expected, received] =
                     [room.size, size].map(|(width, height)| format!("{width}x{height}"));
                 Err(Failure::new(
@@ -168,7 +141,7 @@ impl Frames {
                 )
                 .hint("--window, or a file for each size"))
             }
-            _ if self.form == Form::Y4m => Ok(Room::of_y4m(frame)?),
+            _ if self.is_y4m => Ok(Room::of_y4m(frame)?),
             _ => Ok(Room::of_planes(frame)),
         }
     }

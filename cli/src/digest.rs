@@ -12,6 +12,7 @@ use crate::settings::{Kind, Settings};
 use crate::sha256::digest_of;
 use segvartin::{FrameDescription, ShiftFile, Y4mFile, YuvChromaSubsampling};
 use std::ffi::OsStr;
+use std::io::{self, Write};
 use std::os::unix::ffi::OsStrExt;
 
 /// A picture's planes, and what is said of it.
@@ -43,7 +44,17 @@ pub fn run(arguments: &Arguments) -> Result<u8, Failure> {
     if let Some(list) = digests.json {
         files::print(format!("{}\n", Json::List(list)))?;
     }
-    Ok(u8::from(digests.crossing.is_some() && digests.count == 0))
+    match digests.crossing {
+        Some(crossing) if digests.count == 0 => {
+            // Not among the digests, which other programs read.
+            let _ = writeln!(
+                io::stderr(),
+                "segvartin digest: no record of crossing {crossing}"
+            );
+            Ok(1)
+        }
+        _ => Ok(0),
+    }
 }
 
 struct Digests {
@@ -117,6 +128,7 @@ impl Digests {
     ) -> Result<(), Failure> {
         let mut pictures = Pictures::of(input, is_raw, settings)?;
         let mut number = 0;
+        let mut last: Option<Room> = None;
         while let Some(picture) = pictures.next()? {
             let bytes = picture.bytes();
             let frame = picture.frame;
@@ -126,7 +138,10 @@ impl Digests {
                 sampling,
                 ..
             } = frame.description;
-            let mut room = Room::of_planes(&frame);
+            let mut room = match last.take() {
+                Some(room) if room.size == (width, height) => room,
+                _ => Room::of_planes(&frame),
+            };
             picture.convert(room.planes())?;
             let planes = room.planes().map(|plane| &*plane);
             self.put(
@@ -141,6 +156,7 @@ impl Digests {
                 },
             )?;
             self.progress.add(bytes);
+            last = Some(room);
             number += 1;
         }
         Ok(())

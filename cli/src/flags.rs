@@ -2,7 +2,7 @@
 
 use crate::arguments::Arguments;
 use crate::report::Failure;
-use crate::{append, compare, convert, digest, help, names, rules, shift};
+use crate::{append, compare, completion, convert, digest, find, help, names, rules, shift};
 
 pub enum Value {
     Nothing,
@@ -257,7 +257,7 @@ pub const COMMANDS: &[Command] = &[
             ),
         ]],
         help: "Finds the record of a crossing; status 1 where there is none.",
-        run: shift::find,
+        run: find::run,
     },
     Command {
         name: "shift summary",
@@ -354,7 +354,7 @@ pub const COMMANDS: &[Command] = &[
         }],
         flags: &[],
         help: "Prints the completions for a shell.",
-        run: help::completion,
+        run: completion::run,
     },
 ];
 

@@ -4,12 +4,15 @@
 mod append;
 mod arguments;
 mod compare;
+mod completion;
 mod convert;
 mod digest;
 mod files;
+mod find;
 mod flags;
 mod help;
 mod json;
+mod maps;
 mod names;
 mod picture;
 mod pnm;
@@ -20,6 +23,7 @@ mod rules;
 mod settings;
 mod sha256;
 mod shift;
+mod signals;
 
 use arguments::Asked;
 use report::Failure;
@@ -45,7 +49,7 @@ fn main() -> ExitCode {
         Ok(Asked::Version) => "",
         Err((command, _)) => command,
     };
-    files::watch_signals(command, json);
+    signals::watch(command, json);
     let answer = match asked {
         Ok(Asked::Run(arguments)) => (arguments.command.run)(&arguments),
         Ok(Asked::Help(command)) => files::print(help::text(command)).map(|()| 0),

@@ -66,12 +66,12 @@ impl Failure {
         if let Some(number) = self.number {
             text += &format!("refused {number}, ");
         }
-        text += &self.message;
+        text += &escaped(&self.message);
         if let Some((expected, received)) = self.sizes {
             text += &format!(": expected {expected}, received {received}");
         }
         if let Some(hint) = &self.hint {
-            text += &format!("\n  try: {hint}");
+            text += &format!("\n  try: {}", escaped(hint));
         }
         text + "\n"
     }
@@ -135,16 +135,21 @@ fn advice(error: &YuvError) -> &'static str {
     }
 }
 
-/// A name on a line by itself: what would end the line or steer the terminal is escaped.
+/// A name in a line.
 pub fn shown(name: &OsStr) -> String {
-    let escaped = |c: char| {
+    escaped(&name.to_string_lossy())
+}
+
+/// What would end the line or steer the terminal is escaped.
+fn escaped(text: &str) -> String {
+    let one = |c: char| {
         if c.is_control() {
             c.escape_default().to_string()
         } else {
             c.to_string()
         }
     };
-    name.to_string_lossy().chars().map(escaped).collect()
+    text.chars().map(one).collect()
 }
 
 #[cfg(test)]

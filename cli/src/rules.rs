@@ -47,9 +47,11 @@ fn directory() -> Result<PathBuf, Failure> {
     if let Some(said) = env::var_os("SEGVARTIN_CONFORMANCE") {
         return has_runner(Path::new(&said));
     }
-    let installed = env::current_exe()
-        .unwrap_or_default()
-        .join("../../share/segvartin/conformance");
+    let program = env::current_exe().unwrap_or_default();
+    let installed = program
+        .parent()
+        .unwrap_or(Path::new(""))
+        .join("../share/segvartin/conformance");
     let built = Path::new(env!("CARGO_MANIFEST_DIR")).join("../conformance");
     has_runner(&installed).or_else(|_| has_runner(&built))
 }

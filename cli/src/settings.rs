@@ -1,6 +1,6 @@
 //! What the flags say of inputs and of conversion.
 
-use crate::arguments::Arguments;
+use crate::arguments::{Arguments, has_ending};
 use crate::names;
 use crate::report::Failure;
 use segvartin::{
@@ -133,10 +133,4 @@ impl Settings {
             None => has_ending(name, ".rgb") || has_ending(name, ".raw"),
         }
     }
-}
-
-pub fn has_ending(name: &OsStr, ending: &str) -> bool {
-    name.to_string_lossy()
-        .to_ascii_lowercase()
-        .ends_with(ending)
 }
