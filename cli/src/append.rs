@@ -222,7 +222,7 @@ pub fn new_form(arguments: &Arguments) -> ShiftForm {
 
 pub fn needed_crossing(arguments: &Arguments) -> Result<u32, Failure> {
     arguments.needed("crossing")?;
-    Ok(arguments.crossing()?.unwrap_or_default())
+    Ok(arguments.number("crossing")?.unwrap_or_default())
 }
 
 /// The summary of the file that has grown, of the one before; 17 where it was not that.
@@ -262,7 +262,10 @@ pub fn append(arguments: &Arguments) -> Result<u8, Failure> {
         );
     }
     let output = Output::create(name, true)?;
-    let progress = Progress::touched(arguments, 2 * old.bytes().len());
+    let progress = Progress::touched(
+        arguments,
+        2 * old.bytes().len() + files::total_size(&arguments.operands[1..]),
+    );
     let map =
         add_input(arguments, &settings, &old, &output).map_err(|failure| failure.of(input))?;
     let new = ShiftFile::open_any(&map)?;

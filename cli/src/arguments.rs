@@ -71,8 +71,11 @@ impl Arguments {
         self.value(name).ok_or_else(missing)
     }
 
-    pub fn crossing(&self) -> Result<Option<u32>, Failure> {
-        self.value("crossing").map(crossing).transpose()
+    /// The value of a flag that is a number of 32 bits.
+    pub fn number(&self, name: &str) -> Result<Option<u32>, Failure> {
+        let word = self.value(name);
+        word.map(|word| number(&format!("--{name}"), word))
+            .transpose()
     }
 
     fn take(
@@ -150,14 +153,17 @@ fn listed(words: &[&str]) -> String {
     }
 }
 
-pub fn crossing(word: &OsStr) -> Result<u32, Failure> {
+pub fn number(name: &str, word: &OsStr) -> Result<u32, Failure> {
     let digits = word
         .to_str()
         .filter(|word| word.bytes().all(|byte| byte.is_ascii_digit()));
     let wrong = || {
-        let received = word.to_string_lossy();
-        Failure::new("a crossing", "a number from 0 to 4294967295", &received)
-            .hint("a crossing number as `segvartin shift list` shows it")
+        Failure::new(
+            name,
+            "a number from 0 to 4294967295",
+            &word.to_string_lossy(),
+        )
+        .hint(format!("{name} 1400"))
     };
     digits
         .and_then(|digits| digits.parse().ok())

@@ -6,7 +6,7 @@ use crate::files::{self, Output};
 use crate::json::Json;
 use crate::names;
 use crate::picture::{Frame, Picture, Pictures};
-use crate::progress::Progress;
+use crate::progress::{self, Progress};
 use crate::report::Failure;
 use crate::room::Room;
 use crate::settings::Settings;
@@ -28,11 +28,13 @@ pub fn run(arguments: &Arguments) -> Result<u8, Failure> {
     let to = arguments.choice_or_ending("to", name)?;
     check_flags(arguments, to)?;
     let output = Output::create(name, arguments.has("force"))?;
+    let progress = Progress::counted(arguments, files::total_size(&arguments.operands));
     let is_printed = arguments.json() && !output.is_standard_output();
     let made = match to {
         "shift" => to_shift(arguments, &settings, output)?,
         _ => to_frames(arguments, &settings, to == "y4m", output)?,
     };
+    drop(progress);
     if is_printed {
         let json = Json::Object(vec![
             ("pictures", Json::number(made.pictures)),
@@ -67,7 +69,6 @@ fn to_frames(
     is_y4m: bool,
     output: Output,
 ) -> Result<Made, Failure> {
-    let progress = Progress::counted(arguments, files::total_size(&arguments.operands));
     let mut frames = Frames {
         is_y4m,
         output,
@@ -76,7 +77,7 @@ fn to_frames(
     };
     for name in &arguments.operands {
         frames
-            .take_input(name, settings, &progress)
+            .take_input(name, settings)
             .map_err(|failure| failure.of(name))?;
     }
     frames.output.finish()?;
@@ -92,18 +93,13 @@ struct Frames {
 }
 
 impl Frames {
-    fn take_input(
-        &mut self,
-        name: &OsStr,
-        settings: &Settings,
-        progress: &Progress,
-    ) -> Result<(), Failure> {
+    fn take_input(&mut self, name: &OsStr, settings: &Settings) -> Result<(), Failure> {
         let mut input = files::open(name)?;
         let mut pictures = Pictures::of(&mut input, settings.is_raw(name), settings)?;
         while let Some(picture) = pictures.next()? {
-            let bytes = picture.bytes();
+            let bytes = picture.mapped_bytes();
             self.take(picture)?;
-            progress.add(bytes);
+            progress::add(bytes);
         }
         Ok(())
     }

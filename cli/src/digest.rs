@@ -5,7 +5,7 @@ use crate::files::{self, Input};
 use crate::json::Json;
 use crate::names::sampling_name;
 use crate::picture::Pictures;
-use crate::progress::Progress;
+use crate::progress::{self, Progress};
 use crate::report::Failure;
 use crate::room::Room;
 use crate::settings::{Kind, Settings};
@@ -29,9 +29,9 @@ struct Planes<'a> {
 
 pub fn run(arguments: &Arguments) -> Result<u8, Failure> {
     let settings = Settings::of(arguments)?;
+    let progress = Progress::counted(arguments, files::total_size(&arguments.operands));
     let mut digests = Digests {
-        crossing: arguments.crossing()?,
-        progress: Progress::counted(arguments, files::total_size(&arguments.operands)),
+        crossing: arguments.number("crossing")?,
         with_planes: arguments.has("planes"),
         json: arguments.json().then(Vec::new),
         count: 0,
@@ -41,6 +41,7 @@ pub fn run(arguments: &Arguments) -> Result<u8, Failure> {
             .take(name, &settings)
             .map_err(|failure| failure.of(name))?;
     }
+    drop(progress);
     if let Some(list) = digests.json {
         files::print(format!("{}\n", Json::List(list)))?;
     }
@@ -60,7 +61,6 @@ pub fn run(arguments: &Arguments) -> Result<u8, Failure> {
 struct Digests {
     /// Of shift files only the records of this one.
     crossing: Option<u32>,
-    progress: Progress,
     with_planes: bool,
     /// What is printed at the end, in place of lines.
     json: Option<Vec<Json>>,
@@ -97,7 +97,7 @@ impl Digests {
                 };
                 self.put(name, &planes)?;
             }
-            self.progress.add(record.bytes.len());
+            progress::add(record.bytes.len());
         }
         Ok(())
     }
@@ -114,7 +114,7 @@ impl Digests {
                 planes: [picture.y, picture.u, picture.v],
             };
             self.put(name, &planes)?;
-            self.progress.add(bytes.len() / file.len());
+            progress::add(bytes.len() / file.len());
         }
         Ok(())
     }
@@ -130,7 +130,7 @@ impl Digests {
         let mut number = 0;
         let mut last: Option<Room> = None;
         while let Some(picture) = pictures.next()? {
-            let bytes = picture.bytes();
+            let bytes = picture.mapped_bytes();
             let frame = picture.frame;
             let FrameDescription {
                 width,
@@ -155,7 +155,7 @@ impl Digests {
                     planes,
                 },
             )?;
-            self.progress.add(bytes);
+            progress::add(bytes);
             last = Some(room);
             number += 1;
         }

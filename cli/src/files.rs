@@ -1,11 +1,12 @@
 //! Inputs, and outputs that take the old files' place when they are complete.
 
 use crate::maps::{Map, MapMut};
+use crate::progress;
 use crate::report::Failure;
 use crate::signals;
 use std::ffi::{OsStr, OsString};
 use std::fs::{self, File, Permissions};
-use std::io::{self, BufRead, BufReader, Write};
+use std::io::{self, BufRead, BufReader, Read, Write};
 use std::os::fd::AsFd;
 use std::os::unix::ffi::OsStrExt;
 use std::os::unix::fs::FileTypeExt;
@@ -13,7 +14,18 @@ use std::path::{Path, PathBuf};
 
 pub enum Input {
     Map(Map),
-    Stream(BufReader<File>),
+    Stream(BufReader<Stream>),
+}
+
+/// What is read as it comes, and counted.
+pub struct Stream(File);
+
+impl Read for Stream {
+    fn read(&mut self, room: &mut [u8]) -> io::Result<usize> {
+        let count = self.0.read(room)?;
+        progress::add(count);
+        Ok(count)
+    }
 }
 
 /// A regular file is mapped, and `-`, standard input, where it is one; everything else is read as it comes.
@@ -39,7 +51,10 @@ pub fn open(name: &OsStr) -> Result<Input, Failure> {
     if about.is_file() && about.len() > 0 {
         return Map::of(file, about.len()).map(Input::Map).map_err(failed);
     }
-    Ok(Input::Stream(BufReader::with_capacity(1 << 16, file)))
+    Ok(Input::Stream(BufReader::with_capacity(
+        1 << 16,
+        Stream(file),
+    )))
 }
 
 /// A file that is needed as a whole.
@@ -69,8 +84,8 @@ impl Input {
     pub fn whole(self) -> Result<Map, Failure> {
         match self {
             Input::Map(map) => Ok(map),
-            Input::Stream(stream) if stream.get_ref().metadata()?.is_file() => {
-                Ok(Map::of(stream.into_inner(), 0)?)
+            Input::Stream(stream) if stream.get_ref().0.metadata()?.is_file() => {
+                Ok(Map::of(stream.into_inner().0, 0)?)
             }
             Input::Stream(_) => Err(not_whole()),
         }
@@ -92,13 +107,16 @@ impl From<io::Error> for Failure {
     }
 }
 
-/// How many bytes regular files have together; none where one is something else.
-pub fn total_size(names: &[OsString]) -> Option<u64> {
-    let size = |name| {
-        fs::metadata(name)
-            .ok()
-            .filter(fs::Metadata::is_file)
-            .map(|about| about.len())
+/// How many bytes those of these that are regular files have together.
+pub fn total_size(names: &[OsString]) -> usize {
+    let size = |name: &OsString| {
+        let name = if name == "-" {
+            OsStr::new("/dev/stdin")
+        } else {
+            name
+        };
+        let about = fs::metadata(name).ok().filter(fs::Metadata::is_file);
+        about.map_or(0, |about| about.len() as usize)
     };
     names.iter().map(size).sum()
 }
@@ -139,7 +157,10 @@ impl Output {
                     .into(),
             );
         }
-        let old = fs::metadata(name).ok();
+        let old = match fs::metadata(name) {
+            Err(error) if error.kind() != io::ErrorKind::NotFound => return Err(failed(error)),
+            about => about.ok(),
+        };
         match &old {
             Some(about) if about.is_dir() => {
                 return Err(Failure::new("cannot write", "a file", "a directory")

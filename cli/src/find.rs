@@ -13,7 +13,7 @@ use std::fs;
 
 pub fn run(arguments: &Arguments) -> Result<u8, Failure> {
     let name = &arguments.operands[0];
-    let crossing = arguments::crossing(&arguments.operands[1])?;
+    let crossing = arguments::number("CROSSING", &arguments.operands[1])?;
     let output = arguments.value("output");
     let to = output
         .map(|output| arguments.choice_or_ending("to", output))

@@ -2,13 +2,14 @@
 
 use crate::files::Input;
 use crate::pnm::{self, Header, Pixels};
+use crate::progress;
 use crate::report::Failure;
 use crate::settings::Settings;
 use segvartin::{
     FrameDescription, FrameOptions, FrameStateWith, Window, YuvError, YuvPlanarImageMut,
     YuvSourceChannels, rgbx_to_sharp_yuv_with,
 };
-use std::io::BufRead;
+use std::io::{self, BufRead, Read};
 
 /// A band of rows that are read has at most so many bytes, or one row.
 const MOST_BAND: usize = 4 << 20;
@@ -101,9 +102,12 @@ enum Body<'a> {
 }
 
 impl Picture<'_> {
-    /// How many bytes its rows have in the input, about.
-    pub fn bytes(&self) -> usize {
-        self.header.row() * self.header.height as usize
+    /// How many bytes of a map it is, about; those that are read are counted then.
+    pub fn mapped_bytes(&self) -> usize {
+        match self.body {
+            Body::Map(rows) => rows.len(),
+            Body::Stream(_) => 0,
+        }
     }
 
     pub fn convert(self, planes: [&mut [u8]; 3]) -> Result<(), Failure> {
@@ -218,11 +222,17 @@ impl<'a> Pictures<'a> {
         let frame = Frame::new(self.settings, &header);
         frame.open()?;
         if header.stride < header.pixel_row() {
-            frame.refuse(frame_size(&header) + header.pixel_row() as usize)?;
+            // Such rows are no pictures: the library is told of all that comes.
+            let most = frame_size(&header) + header.pixel_row() as usize;
+            let length = io::copy(&mut Read::take(input, most as u64), &mut io::sink())?;
+            frame.refuse(length as usize)?;
         }
         let body = match &mut self.source {
             Source::Map(bytes) => Body::Map(take_rows(bytes, &header, &frame)?),
-            Source::Stream(stream) => Body::Stream(*stream),
+            Source::Stream(stream) => {
+                progress::expect(frame_size(&header));
+                Body::Stream(*stream)
+            }
         };
         Ok(Some(Picture {
             frame,

@@ -3,7 +3,6 @@
 use crate::arguments::Arguments;
 use std::fs;
 use std::io::{self, IsTerminal, Write};
-use std::sync::Arc;
 use std::sync::atomic::{AtomicU64, Ordering};
 use std::sync::mpsc::{self, Receiver, RecvTimeoutError, Sender};
 use std::thread::{self, JoinHandle};
@@ -14,63 +13,66 @@ const NEXT: Duration = Duration::from_millis(250);
 const WIDTH: u64 = 40;
 const PAGE: u64 = 4096;
 
-/// A thread that shows how far the work is, until it is dropped.
-pub struct Progress {
-    done: Arc<AtomicU64>,
-    watcher: Option<(Sender<()>, JoinHandle<()>)>,
+/// Bytes that were gone through, and those that will be, as far as is known.
+static DONE: AtomicU64 = AtomicU64::new(0);
+static TOTAL: AtomicU64 = AtomicU64::new(0);
+
+pub fn add(bytes: usize) {
+    DONE.fetch_add(bytes as u64, Ordering::Relaxed);
 }
 
+pub fn expect(bytes: usize) {
+    TOTAL.fetch_add(bytes as u64, Ordering::Relaxed);
+}
+
+/// A thread that shows how far the work is, until this is dropped.
+pub struct Progress(Option<(Sender<()>, JoinHandle<()>)>);
+
 impl Progress {
-    /// Of bytes that are told by `add`; without a total nothing is shown.
-    pub fn counted(arguments: &Arguments, total: Option<u64>) -> Progress {
-        let done = Arc::new(AtomicU64::new(0));
-        let counted = Arc::clone(&done);
-        Progress::new(done, arguments, total, move || {
-            counted.load(Ordering::Relaxed)
-        })
+    /// Of bytes that are counted by `add`; these and those that `expect` tells.
+    pub fn counted(arguments: &Arguments, total: usize) -> Progress {
+        Progress::new(arguments, total, || DONE.load(Ordering::Relaxed))
     }
 
-    /// Of the bytes of maps, which one call of the library goes through: those whose pages were touched.
+    /// The same, and of maps, which one call of the library goes through, the bytes of the pages that were touched.
     pub fn touched(arguments: &Arguments, total: usize) -> Progress {
         let before = touched_pages();
         let touched = move || PAGE * touched_pages().saturating_sub(before);
-        Progress::new(Arc::default(), arguments, Some(total as u64), touched)
+        Progress::new(arguments, total, move || {
+            touched() + DONE.load(Ordering::Relaxed)
+        })
     }
 
     fn new(
-        done: Arc<AtomicU64>,
         arguments: &Arguments,
-        total: Option<u64>,
-        measure: impl Fn() -> u64 + Send + 'static,
+        total: usize,
+        done: impl Fn() -> u64 + Send + 'static,
     ) -> Progress {
+        expect(total);
         let is_wanted = !arguments.json() && io::stderr().is_terminal();
-        let watcher = total.filter(|total| is_wanted && *total > 0).map(|total| {
+        Progress(is_wanted.then(|| {
             let (stop, stopped) = mpsc::channel();
-            (stop, thread::spawn(move || watch(total, measure, &stopped)))
-        });
-        Progress { done, watcher }
-    }
-
-    pub fn add(&self, bytes: usize) {
-        self.done.fetch_add(bytes as u64, Ordering::Relaxed);
+            (stop, thread::spawn(move || watch(done, &stopped)))
+        }))
     }
 }
 
 impl Drop for Progress {
     fn drop(&mut self) {
-        if let Some((stop, watcher)) = self.watcher.take() {
+        if let Some((stop, watcher)) = self.0.take() {
             drop(stop);
             let _ = watcher.join(); // its line is erased then
         }
     }
 }
 
-fn watch(total: u64, measure: impl Fn() -> u64, stopped: &Receiver<()>) {
+fn watch(done: impl Fn() -> u64, stopped: &Receiver<()>) {
     let mut wait = FIRST;
     let mut most = 0;
     while let Err(RecvTimeoutError::Timeout) = stopped.recv_timeout(wait) {
-        most = measure().clamp(most, total.max(most));
-        show(&format!("\r{}", line(most, total)));
+        let total = TOTAL.load(Ordering::Relaxed).max(1);
+        most = done().max(most);
+        show(&format!("\r{}", line(most.min(total), total)));
         wait = NEXT;
     }
     if wait == NEXT {

@@ -40,7 +40,7 @@ impl Settings {
             from: arguments.choice("from").map(str::to_owned),
             size: numbers("size", &['x'], "1920x1080")?.map(|n| [n[0], n[1]]),
             channels: names::channels(choice("pix-fmt")),
-            stride: numbers("stride", &[], "5760")?.map(|n| n[0]),
+            stride: arguments.number("stride")?,
         })
     }
 }

@@ -22,6 +22,8 @@ const SIG_DFL: usize = 0;
 const SIG_IGN: usize = 1;
 const SIGHUP: c_int = 1;
 const SIGINT: c_int = 2;
+const SIGQUIT: c_int = 3;
+const SIGABRT: c_int = 6;
 const SIGBUS: c_int = 7;
 const SIGPIPE: c_int = 13;
 const SIGTERM: c_int = 15;
@@ -87,7 +89,7 @@ pub fn watch(command: &str, json: bool) {
     )
     .hint("again, when nobody writes to it");
     let _ = SHORTER.set(shorter.text(command, json)); // it is set once
-    for number in [SIGHUP, SIGINT, SIGPIPE, SIGTERM, SIGXFSZ] {
+    for number in [SIGHUP, SIGINT, SIGQUIT, SIGABRT, SIGPIPE, SIGTERM, SIGXFSZ] {
         // SAFETY: the handler calls only what a signal may.
         let before = unsafe { signal(number, end as *const () as usize) };
         // What was to be ignored, as nohup wants, stays so; that of SIGPIPE is Rust's own.
