@@ -73,12 +73,12 @@ fn write_file(form: ShiftForm, records: &[u8], file: &mut [u8]) -> Result<usize,
 fn grow(
     old: &Old,
     room: usize,
-    put: impl FnOnce(&mut [u8]) -> Result<(), YuvError>,
+    put: impl FnOnce(&mut Joined) -> Result<(), YuvError>,
     output: &Output,
 ) -> Result<MapMut, Failure> {
     let file = old.file()?;
     let mut joined = Joined::new(old.map.as_ref(), room)?;
-    put(joined.room())?;
+    put(&mut joined)?;
     // The records stand at the end of the file.
     let first = joined.len() - room - file.records_as_bytes().len();
     let records = &joined[first..];
@@ -128,7 +128,12 @@ fn add_record(
                 .hint("--sampling 420, or a file with settings"),
         );
     }
-    let mut map = grow(old, blank.size(form)?, |room| blank.put(form, room), output)?;
+    let put = |joined: &mut Joined| {
+        blank.put(form, joined.room())?;
+        joined.give_back_zeros();
+        Ok(())
+    };
+    let mut map = grow(old, blank.size(form)?, put, output)?;
     let record = ShiftFile::open_any(&map)?
         .record(count)
         .ok_or(YuvError::MalformedShiftFile)?;
@@ -197,8 +202,8 @@ fn add_records(old: &Old, bytes: &[u8], output: &Output) -> Result<MapMut, Failu
         return Err(failure.hint("segvartin shift move, which writes it in the other form"));
     }
     let records = file.records_as_bytes();
-    let put = |room: &mut [u8]| {
-        room.copy_from_slice(records);
+    let put = |joined: &mut Joined| {
+        joined.room().copy_from_slice(records);
         Ok(())
     };
     grow(old, records.len(), put, output)
@@ -291,8 +296,7 @@ fn add_input(
     output: &Output,
 ) -> Result<MapMut, Failure> {
     let name = &arguments.operands[1];
-    let mut input = files::open(name)?;
-    let kind = settings.kind(name, input.first_bytes()?);
+    let (mut input, kind) = settings.open(name)?;
     match kind {
         Kind::Shift if arguments.has("crossing") => {
             Err(

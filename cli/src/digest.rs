@@ -69,15 +69,15 @@ struct Digests {
 
 impl Digests {
     fn take(&mut self, name: &OsStr, settings: &Settings) -> Result<(), Failure> {
-        let mut input = files::open(name)?;
-        match settings.kind(name, input.first_bytes()?) {
+        let (mut input, kind) = settings.open(name)?;
+        match kind {
             Kind::Shift => self.take_shift(name, &input.whole()?),
             _ if self.crossing.is_some() => {
                 Err(Failure::new("--crossing", "a shift file", "another input")
                     .hint("--from shift"))
             }
             Kind::Y4m => self.take_y4m(name, &input.whole()?),
-            kind => self.take_pictures(name, &mut input, kind == Kind::Raw, settings),
+            _ => self.take_pictures(name, &mut input, kind == Kind::Raw, settings),
         }
     }
 

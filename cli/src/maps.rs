@@ -31,6 +31,7 @@ const MAP_PRIVATE: c_int = 2;
 const MAP_FIXED: c_int = 0x10;
 const MAP_ANONYMOUS: c_int = 0x20;
 const MAP_NORESERVE: c_int = 0x4000;
+const MADV_DONTNEED: c_int = 4;
 const MADV_POPULATE_READ: c_int = 22;
 const PAGE: usize = 4096;
 
@@ -199,6 +200,16 @@ impl Joined {
 
     pub fn room(&mut self) -> &mut [u8] {
         self.pages.bytes_mut(self.len)
+    }
+
+    /// Gives back the memory of room that is zeros behind its first page: what is read there again is zeros.
+    pub fn give_back_zeros(&mut self) {
+        let start = (self.len + PAGE).next_multiple_of(PAGE);
+        if start < self.pages.len {
+            let len = self.pages.len - start;
+            // SAFETY: these pages are ours and of no file, and nobody borrows them.
+            unsafe { madvise(self.pages.at.as_ptr().add(start).cast(), len, MADV_DONTNEED) };
+        }
     }
 }
 

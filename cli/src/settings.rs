@@ -1,6 +1,7 @@
 //! What the flags say of inputs and of conversion.
 
 use crate::arguments::{Arguments, has_ending};
+use crate::files::{self, Input};
 use crate::names;
 use crate::report::Failure;
 use segvartin::{
@@ -108,8 +109,19 @@ pub enum Kind {
 }
 
 impl Settings {
+    /// An input, and what it is. A pipe that cannot be one is not waited for.
+    pub fn open(&self, name: &OsStr) -> Result<(Input, Kind), Failure> {
+        let kind = self.kind(name, &[]);
+        if kind == Kind::Y4m || kind == Kind::Shift {
+            return Ok((Input::Map(files::open_whole(name)?), kind));
+        }
+        let mut input = files::open(name)?;
+        let kind = self.kind(name, input.first_bytes()?);
+        Ok((input, kind))
+    }
+
     /// By `--from`, by the end of the name, or by the first bytes.
-    pub fn kind(&self, name: &OsStr, first: &[u8]) -> Kind {
+    fn kind(&self, name: &OsStr, first: &[u8]) -> Kind {
         let from = |word, ending| {
             self.from
                 .as_deref()
