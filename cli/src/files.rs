@@ -1,0 +1,301 @@
+//! Inputs, and outputs that take the old files' place when they are complete.
+
+use crate::maps::{Map, MapMut};
+use crate::progress;
+use crate::report::Failure;
+use crate::signals;
+use std::ffi::{OsStr, OsString};
+use std::fs::{self, File, Permissions};
+use std::io::{self, BufRead, BufReader, Read, Write};
+use std::os::fd::AsFd;
+use std::os::unix::ffi::OsStrExt;
+use std::os::unix::fs::FileTypeExt;
+use std::path::{Path, PathBuf};
+
+pub enum Input {
+    Map(Map),
+    Stream(BufReader<Stream>),
+}
+
+/// What is read as it comes, and counted.
+pub struct Stream(File);
+
+impl Read for Stream {
+    fn read(&mut self, room: &mut [u8]) -> io::Result<usize> {
+        let count = self.0.read(room)?;
+        progress::add(count);
+        Ok(count)
+    }
+}
+
+/// A regular file is mapped, and `-`, standard input, where it is one; everything else is read as it comes.
+pub fn open(name: &OsStr) -> Result<Input, Failure> {
+    let failed = |error| {
+        Failure::system("cannot read", "a file", &error)
+            .of(name)
+            .hint("a file that exists and that you may read")
+    };
+    let file = if name == "-" {
+        io::stdin().as_fd().try_clone_to_owned().map(File::from)
+    } else {
+        File::open(name)
+    };
+    let file = file.map_err(failed)?;
+    let about = file.metadata().map_err(failed)?;
+    if about.is_dir() {
+        return Err(Failure::new("cannot read", "a file", "a directory")
+            .of(name)
+            .hint("the name of a file in it"));
+    }
+    // A file of no bytes may have some all the same, in /proc.
+    if about.is_file() && about.len() > 0 {
+        return Map::of(file, about.len()).map(Input::Map).map_err(failed);
+    }
+    Ok(Input::Stream(BufReader::with_capacity(
+        1 << 16,
+        Stream(file),
+    )))
+}
+
+/// A file that is needed as a whole.
+pub fn open_whole(name: &OsStr) -> Result<Map, Failure> {
+    // To open a pipe waits for its writer, who need not come.
+    let is_pipe = name != "-" && fs::metadata(name).is_ok_and(|about| about.file_type().is_fifo());
+    let input = if is_pipe {
+        Err(not_whole())
+    } else {
+        open(name)
+    };
+    input
+        .and_then(Input::whole)
+        .map_err(|failure| failure.of(name))
+}
+
+fn not_whole() -> Failure {
+    Failure::new(
+        "it is needed as a whole",
+        "a regular file",
+        "a pipe or a device",
+    )
+    .hint("write it to a file first")
+}
+
+impl Input {
+    pub fn whole(self) -> Result<Map, Failure> {
+        match self {
+            Input::Map(map) => Ok(map),
+            Input::Stream(stream) if stream.get_ref().0.metadata()?.is_file() => {
+                Ok(Map::of(stream.into_inner().0, 0)?)
+            }
+            Input::Stream(_) => Err(not_whole()),
+        }
+    }
+
+    /// By which it is told what it is.
+    pub fn first_bytes(&mut self) -> io::Result<&[u8]> {
+        match self {
+            Input::Map(map) => Ok(map),
+            Input::Stream(stream) => stream.fill_buf(),
+        }
+    }
+}
+
+/// Errors of reading, where the name is put in by who knows it.
+impl From<io::Error> for Failure {
+    fn from(error: io::Error) -> Failure {
+        Failure::system("cannot read", "its bytes to the end", &error)
+    }
+}
+
+/// How many bytes those of these that are regular files have together.
+pub fn total_size(names: &[OsString]) -> usize {
+    let size = |name: &OsString| {
+        let name = if name == "-" {
+            OsStr::new("/dev/stdin")
+        } else {
+            name
+        };
+        let about = fs::metadata(name).ok().filter(fs::Metadata::is_file);
+        about.map_or(0, |about| about.len() as usize)
+    };
+    names.iter().map(size).sum()
+}
+
+/// The name with more at its end.
+pub fn with_ending(name: &OsStr, ending: &str) -> OsString {
+    let mut name = name.to_owned();
+    name.push(ending);
+    name
+}
+
+// ---- outputs
+
+/// A file that is written: a new one that takes the place of the old one when it is complete; or what is no regular file, straight.
+pub struct Output {
+    name: OsString,
+    file: File,
+    part: Option<Part>,
+}
+
+impl Output {
+    /// `replace` lets it take the place of a file that exists.
+    pub fn create(name: &OsStr, replace: bool) -> Result<Output, Failure> {
+        let failed = |error| Output::failed(name, &error);
+        let straight = |file| {
+            Ok(Output {
+                name: name.to_owned(),
+                file,
+                part: None,
+            })
+        };
+        if name == "-" {
+            return straight(
+                io::stdout()
+                    .as_fd()
+                    .try_clone_to_owned()
+                    .map_err(failed)?
+                    .into(),
+            );
+        }
+        let old = match fs::metadata(name) {
+            Err(error) if error.kind() != io::ErrorKind::NotFound => return Err(failed(error)),
+            about => about.ok(),
+        };
+        match &old {
+            Some(about) if about.is_dir() => {
+                return Err(Failure::new("cannot write", "a file", "a directory")
+                    .of(name)
+                    .hint("the name of a file in it"));
+            }
+            Some(about) if !about.is_file() => {
+                return straight(File::options().write(true).open(name).map_err(failed)?);
+            }
+            Some(_) if !replace => {
+                let failure = Failure::new(
+                    "it exists",
+                    "a new name, or --force",
+                    "the name of a file that exists",
+                );
+                return Err(failure.of(name).hint("--force to replace it"));
+            }
+            _ => (),
+        }
+        let (file, part) =
+            Part::create(&target_of(name), old.map(|about| about.permissions())).map_err(failed)?;
+        Ok(Output {
+            name: name.to_owned(),
+            file,
+            part: Some(part),
+        })
+    }
+
+    fn failed(name: &OsStr, error: &io::Error) -> Failure {
+        Failure::system("cannot write", "a file that can be written", error)
+            .of(name)
+            .hint("a directory that you may write to, with room in it")
+    }
+
+    pub fn is_standard_output(&self) -> bool {
+        self.name == "-"
+    }
+
+    pub fn write(&mut self, bytes: &[u8]) -> Result<(), Failure> {
+        self.file
+            .write_all(bytes)
+            .map_err(|error| Output::failed(&self.name, &error))
+    }
+
+    /// So many bytes to write, which `finish_map` takes: those of the new file, or zeros in memory.
+    pub fn map(&self, len: usize) -> Result<MapMut, Failure> {
+        let map = if self.part.is_some() {
+            MapMut::of(&self.file, len)
+        } else {
+            MapMut::zeros(len)
+        };
+        map.map_err(|error| Output::failed(&self.name, &error))
+    }
+
+    pub fn finish_map(mut self, map: MapMut) -> Result<(), Failure> {
+        if self.part.is_none() {
+            self.write(&map)?;
+        }
+        drop(map);
+        self.finish()
+    }
+
+    /// The new file, on the disk, takes its place.
+    pub fn finish(self) -> Result<(), Failure> {
+        let Some(part) = self.part else {
+            return Ok(());
+        };
+        self.file
+            .sync_all()
+            .and_then(|()| part.rename())
+            .map_err(|error| Output::failed(&self.name, &error))
+    }
+}
+
+/// Prints on standard output; an error of it is told, as it would not be by `print!`.
+pub fn print(text: impl AsRef<[u8]>) -> Result<(), Failure> {
+    Output::create(OsStr::new("-"), true)?.write(text.as_ref())
+}
+
+/// Where the links of a name lead, also to a name that does not exist.
+fn target_of(name: &OsStr) -> PathBuf {
+    const MOST_LINKS: usize = 40; // as many as the system follows
+    let mut path = PathBuf::from(name);
+    for _ in 0..MOST_LINKS {
+        let Ok(link) = fs::read_link(&path) else {
+            break;
+        };
+        path = path.parent().unwrap_or(Path::new("")).join(link);
+    }
+    path
+}
+
+/// A new file beside the one whose place it takes. Dropped without that, it is taken away.
+struct Part {
+    path: PathBuf,
+    target: PathBuf,
+    slot: usize,
+}
+
+impl Part {
+    fn create(target: &Path, permissions: Option<Permissions>) -> io::Result<(File, Part)> {
+        const LONGEST: usize = 200; // of a name's 255 bytes; the rest is for the number and the ending
+        let name = target
+            .file_name()
+            .ok_or(io::ErrorKind::InvalidFilename)?
+            .as_bytes();
+        let mut part = OsString::from(".");
+        part.push(OsStr::from_bytes(&name[..name.len().min(LONGEST)]));
+        part.push(format!(".{}.part", std::process::id()));
+        let path = target.with_file_name(part);
+        let slot = signals::remember(&path)?;
+        let part = Part {
+            path,
+            target: target.to_owned(),
+            slot,
+        };
+        let file = File::options()
+            .read(true)
+            .write(true)
+            .create_new(true)
+            .open(&part.path)?;
+        if let Some(permissions) = permissions {
+            file.set_permissions(permissions)?;
+        }
+        Ok((file, part))
+    }
+
+    fn rename(self) -> io::Result<()> {
+        fs::rename(&self.path, &self.target)
+    }
+}
+
+impl Drop for Part {
+    fn drop(&mut self) {
+        let _ = fs::remove_file(&self.path); // it is there no more where it took its place
+        signals::forget(self.slot);
+    }
+}
