@@ -62,6 +62,8 @@ def written(place, count):
         for k in range(count):
             file.write(files.record(k, W, H, b''))
             file.write(memoryview(noise)[k * 997 % size:][:size])
+        file.flush()
+        os.fsync(file.fileno())  # so that nothing is written while times are taken
     return place
 
 

@@ -40,6 +40,7 @@ REFUSED = [
     ('a width of 16,385', ['--size=16385x1'], 3, 0, 0),
     ('a height of 16,385', ['--size=1x16385'], 3, 0, 0),
     ('a height of 2 ^ 32 - 1', ['--size=1x4294967295'], 3, 0, 0),
+    ('a width of more than 32 bits', ['--size=99999999999x1'], 3, 0, 0),
     ('a window of a source too large', ['--size=16385x1', '--window=1x1+0+0'], 3, 0, 0),
     ('kr 0.7', [*CUSTOM, '--kr=0.7', '--kb=0.1'], 4, 0, 0),
     ('kb 0.51', [*CUSTOM, '--kr=0.2', '--kb=0.51'], 4, 0, 0),
@@ -48,6 +49,7 @@ REFUSED = [
     ('a window outside', ['--size=4x2', '--window=3x2+2+0'], 14, 0, 0),
     ('a window below', ['--size=4x2', '--window=1x1+0+2'], 14, 0, 0),
     ('a window far outside', ['--size=4x2', '--window=1x1+4294967295+4294967295'], 14, 0, 0),
+    ('a window at a place of more than 32 bits', ['--size=4x2', '--window=1x1+0+99999999999'], 14, 0, 0),
     ('a window wider than its source', ['--size=4x2', '--window=5x2+0+0'], 14, 0, 0),
     ('too few bytes', ['--size=5x2'], 6, 30, 24),
     ('a row too few', ['--size=1x9'], 6, 27, 24),
@@ -64,6 +66,8 @@ REFUSED_PICTURES = [
     ('P6 of no width', b'P6 0 1 255\n', 2, 0, 0),
     ('P5 of no height', b'P5 1 0 255\n', 2, 0, 0),
     ('P6 of 16,385', b'P6 16385 1 255\n' + bytes(49155), 3, 0, 0),
+    ('P6 of 2 ^ 32 + 3', b'P6 4294967299 2 255\n' + bytes(18), 3, 0, 0),
+    ('P6 of 2 ^ 64 + 3', b'P6 18446744073709551619 2 255\n' + bytes(18), 3, 0, 0),
     ('P6 a byte too short', files.ppm(4, 2, bytes(23)), 6, 24, 23),
     ('P6 without pixels', files.ppm(4, 2, b''), 6, 24, 0),
     ('a second P6 a byte too short', files.ppm(4, 2, bytes(24)) + files.ppm(4, 2, bytes(23)), 6, 24, 23),
@@ -121,8 +125,8 @@ WRONG_VALUES = {
     '--to': ['png'],
     '--from': ['png'],
     '--pix-fmt': ['yuv420p'],
-    '--size': ['4', '4x', 'x2', '4x2x1', '-4x2', '4 x 2', '99999999999x1', '+4x2'],
-    '--window': ['2x2', '2x2+1', '2x2+1+1+1', '2x2-1+0', '2x2+1+99999999999'],
+    '--size': ['4', '4x', 'x2', '4x2x1', '-4x2', '4 x 2', '+4x2'],
+    '--window': ['2x2', '2x2+1', '2x2+1+1+1', '2x2-1+0'],
     '--stride': ['x', '-1', '4294967296', ''],
     '--crossing': ['-1', '4294967296', '1x'],
     '--kr': ['x'],
@@ -134,8 +138,9 @@ def wrong_flags():
     picture, out = write('picture.ppm', files.ppm(4, 2, bytes(24))), fresh('out.yuv')
     black = bytes([16] * 8 + [128] * 4)
     for flag, value in ((flag, value) for flag, values in WRONG_VALUES.items() for value in values):
-        words = [f'{flag}={value}'] + (['--matrix=custom'] if flag in ('--kr', '--kb') else [])
-        words += ['--from=raw', '--size=4x2'] if flag in ('--pix-fmt', '--stride', '--window') else []
+        words = {'--kr': ['--matrix=custom', '--kb=0.1'], '--kb': ['--matrix=custom', '--kr=0.1'], '--size': ['--from=raw'],
+                 '--pix-fmt': ['--from=raw', '--size=4x2'], '--stride': ['--from=raw', '--size=4x2']}.get(flag, [])
+        words = [*words, f'{flag}={value}']
         fails(f'{flag}={value}', 'convert', *words, picture, '-o', out, keeps=[out], says=[flag])
     fails('custom without kr and kb', 'convert', '--matrix=custom', picture, '-o', out, keeps=[out])
     fails('custom without kb', 'convert', '--matrix=custom', '--kr=0.2', picture, '-o', out, keeps=[out])
@@ -170,8 +175,6 @@ NO_PICTURES = [
     ('letters for a width', b'P6 x 2 255\n' + bytes(18)),
     ('a minus', b'P6 -3 2 255\n' + bytes(18)),
     ('a fraction', b'P6 3.0 2 255\n' + bytes(18)),
-    ('a width of 2 ^ 32 + 3', b'P6 4294967299 2 255\n' + bytes(18)),
-    ('a width of 2 ^ 64 + 3', b'P6 18446744073709551619 2 255\n' + bytes(18)),
     ('P3 with a number above 255', b'P3 1 1 255 1 256 3\n'),
     ('P3 with letters', b'P3 1 1 255 1 x 3\n'),
     ('P3 with a minus', b'P3 1 1 255 1 -2 3\n'),
@@ -192,9 +195,10 @@ def short_pictures():
     for form, data, _ in forms(3, 2, 5):
         body, binary = bodies[form], form[1] in '4567'
         head = len(data) - body if binary else data.index(b'3 2\n') + (4 if form == 'P1' else 8)
-        for length in range(head):
+        for length in range(head - 1):
             fails(f'{form}, {length} bytes of its head', 'convert', write('picture', data[:length]), '-o', out, keeps=[out], as_json=length == 5)
             fails(f'{form}, {length} bytes of its head by a pipe', 'convert', '-', '-o', out, keeps=[out], feed=data[:length], as_json=False)
+        ends_with_2(f'{form}, its head but for the last byte', data[:head - 1], out)
         for length in range(head, len(data)) if binary else ():
             name = f'{form}, {length - head} bytes of its pixels'
             if form in ('P6', 'P7 RGB', 'P7 RGB_ALPHA'):

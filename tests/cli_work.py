@@ -494,7 +494,8 @@ def shift_append():
         makes(f'no records to a file, settings {settings}', path('day.shift'), file_of(settings, texts), 'shift', 'append', path('day.shift'),
               write('none.shift', none))
         unlike = write('unlike.shift', some_file(n, 2, 3, not settings))
-        fails(f'records of the other form, settings {settings}', 'shift', 'append', path('day.shift'), unlike, keeps=[path('day.shift')], number=15)
+        fails(f'records of the other form, settings {settings}', 'shift', 'append', path('day.shift'), unlike, keeps=[path('day.shift')], file=unlike,
+              says=['form'])
         two = write('two.y4m', files.y4m_file(w, h, 0, bytes(2 * files.picture_size(w, h, 0))))
         for name, words in (('a Y4M file of two pictures', [two, '--crossing=9']), ('a Y4M file without a crossing', [path('one.y4m')]),
                             ('a picture without a crossing', [picture])):
@@ -826,6 +827,7 @@ COMP_WORDS=("$@")
 COMP_CWORD=$(($# - 1))
 COMP_LINE="$*"
 COMP_POINT=${#COMP_LINE}
+compopt() { :; } # it wants to be called by the shell itself
 spec=$(complete -p segvartin)
 function=${spec#*-F }
 function=${function%% *}

@@ -29,9 +29,11 @@ COMMANDS = [
     'segvartin shift append day.shift sample.ppm --crossing 1400',
     'segvartin shift append day.shift sample.ppm --crossing 1401 --sampling 422 --matrix bt709',
     'segvartin shift list day.shift',
-    "cp day.shift theirs.shift; printf '\\0' | dd of=theirs.shift bs=1 seek=5000 conv=notrunc status=none",
+    'cp day.shift theirs.shift',
+    "printf '\\0' | dd of=theirs.shift bs=1 seek=5000 conv=notrunc status=none",
     'segvartin compare day.shift theirs.shift',
-    'segvartin convert sample.ppm --window 40x40+30+0 -o rear.yuv',
+    'head -c 9000 sample.ppm > rear.raw',
+    'segvartin convert rear.raw --size 64x48 -o rear.yuv',
 ]
 
 # The picture, in units of a pixel
