@@ -4,10 +4,10 @@
     bench/compare_files.py PROGRAM DIR [--size BYTES] [--turns N]
 
 Makes two equal files in DIR of records of 1,920 x 1,080: each of BYTES (with K, M or G for powers of 1,024), or of a third of the memory that is
-available, and of 4,096 records at most, which is 12.7 GB. They are read once, so that both stand in memory, and removed at the end. Then in turn, N
-times (5): the memcmp program (bench/src/memcmp_files.c), and the program. Prints the least wall time of each, from start to end of the process, and
-their ratio; and for information the time of a second memcmp over maps that are touched already. Exit status 1: the program takes more than twice
-memcmp's time.
+available, and of 4,096 records at most, which is 12.7 GB. They are read once, so that both stand in memory, and removed at the end; a DIR such as
+/dev/shm keeps them there. Then in turn, N times (5): the memcmp program (bench/src/memcmp_files.c), and the program. Prints the least wall time of
+each, from start to end of the process, and their ratio; and for information the time of a second memcmp over maps that are touched already. Turns in
+which pages had to be read from a disk do not count. Exit status 1: the program takes more than twice memcmp's time.
 """
 import os
 import subprocess
@@ -22,6 +22,7 @@ import files
 
 W, H = 1920, 1080
 MOST = 2.0  # times memcmp's time
+FAULTS = 20  # pages that a run may read from the disk: its own program's, and no more
 
 
 def available():
@@ -77,12 +78,16 @@ def read_once(place):
 
 
 def timed(words):
+    """Seconds from start to end of a process, whether it had to read from a disk, and what it wrote."""
     start = time.monotonic()
-    done = subprocess.run(words, stdout=subprocess.PIPE)
+    child = subprocess.Popen(words, stdout=subprocess.PIPE)
+    text = child.stdout.read()
+    _, status, usage = os.wait4(child.pid, 0)
     taken = time.monotonic() - start
-    if done.returncode != 0:
-        sys.exit(f'bench/compare_files.py: {words[0]} ended with {done.returncode}')
-    return taken, done.stdout
+    child.returncode = os.waitstatus_to_exitcode(status)
+    if child.returncode != 0:
+        sys.exit(f'bench/compare_files.py: {words[0]} ended with {child.returncode}')
+    return taken, usage.ru_majflt > FAULTS, text
 
 
 def main():
@@ -101,21 +106,27 @@ def main():
             read_once(one)
         length = both[0].stat().st_size
         print(f'two equal files of {count} records of {W} x {H}, {length} bytes each; {turns} turns', flush=True)
-        times = {'memcmp': [], 'compare': []}
+        times, read = {'memcmp': [], 'compare': []}, {'memcmp': 0, 'compare': 0}
         for _ in range(turns):
-            times['memcmp'].append(timed([measure, *both])[0])
-            taken, text = timed([program, 'compare', *both])
-            times['compare'].append(taken)
-            if f'the same in both: {count}\n'.encode() not in text:
-                sys.exit(f'bench/compare_files.py: compare says {text!r}')
-        again = float(timed([measure, '--again', *both])[1])
+            for name, words in (('memcmp', [measure, *both]), ('compare', [program, 'compare', *both])):
+                taken, from_disk, text = timed(words)
+                if from_disk:
+                    read[name] += 1
+                else:
+                    times[name].append(taken)
+                if name == 'compare' and f'the same in both: {count}\n'.encode() not in text:
+                    sys.exit(f'bench/compare_files.py: compare says {text!r}')
+        if not all(times.values()):
+            sys.exit('bench/compare_files.py: the files do not stay in memory: name a smaller --size, or a folder in memory')
+        again = float(timed([measure, '--again', *both])[2])
     finally:
         for one in (*both, measure):
             one.unlink(missing_ok=True)
     least = {name: min(taken) for name, taken in times.items()}
     for name, taken in times.items():
-        rate, turns_ = 2 * length / least[name] / 1e9, ', '.join(f'{1000 * one:.1f}' for one in taken)
-        print(f'{name:8} {1000 * least[name]:8.1f} ms, {rate:5.1f} GB/s; all turns: {turns_}')
+        rate, every = 2 * length / least[name] / 1e9, ', '.join(f'{1000 * one:.1f}' for one in taken)
+        left = f'; {read[name]} turns that read from a disk left out' if read[name] else ''
+        print(f'{name:8} {1000 * least[name]:8.1f} ms, {rate:5.1f} GB/s; all turns: {every}{left}')
     ratio = least['compare'] / least['memcmp']
     print(f'ratio    {ratio:.2f}; a second memcmp over touched maps {1000 * again:.1f} ms')
     if ratio > MOST:
