@@ -299,6 +299,65 @@ def unreadable():
         closed.chmod(0o755)
 
 
+# ---- how input comes
+
+def pieces_of_input():
+    """Pictures that come a byte at a time, many in one stream, and from many files with few descriptors."""
+    for form, data, rgb in forms(5, 3, 16):
+        taken = fed_slowly(['convert', '-', '-f', '-o', path('out.yuv')], [data[k:k + 1] for k in range(len(data))], 0, False)
+        check(f'{form}, a byte at a time', (*taken, path('out.yuv').read_bytes()), (b'', 0, planes(5, 3, rgb)))
+    n = numbers(17)
+    pixels = [n.randbytes(3) for _ in range(50)]
+    made = 10 * b''.join(planes(1, 1, one) for one in pixels)
+    stream = 10 * b''.join(files.ppm(1, 1, one) for one in pixels)
+    makes('500 pictures in a stream', fresh('out.y4m'), files.y4m_file(1, 1, 0, made), 'convert', '-', '-o', path('out.y4m'), feed=stream)
+    makes('500 pictures in a file', fresh('out.y4m'), files.y4m_file(1, 1, 0, made), 'convert', write('stream', stream), '-o', path('out.y4m'))
+    names_ = [write(f'one-{k}.ppm', files.ppm(1, 1, one)) for k, one in enumerate(4 * pixels)]
+    few = {'preexec_fn': lambda: resource.setrlimit(resource.RLIMIT_NOFILE, (24, 24))}
+    makes('200 files with 24 descriptors', fresh('out.yuv'), made[:600], 'convert', *names_, '-o', path('out.yuv'), **few)
+    for one in names_:
+        one.unlink()
+
+
+def pipes_for_files():
+    """Where a file is needed as a whole a pipe is an error that says so, and one that nothing writes to is not waited for."""
+    day, y4m = some_file(numbers(18), 3, 4, True), files.y4m_file(4, 2, 0, bytes(12))
+    kept = write('day.shift', day)
+    for words, data in ((['shift', 'list', '-'], day), (['shift', 'find', '-', '1'], day), (['shift', 'summary', '-', '-o', '-'], day),
+                        (['shift', 'move', '-', '-o', fresh('moved.shift'), '--to=plain'], day), (['compare', '-', kept], day),
+                        (['digest', '-'], y4m), (['digest', '--from=shift', '-'], day), (['shift', 'append', kept, '-', '--crossing=1'], y4m)):
+        fails(f'{words[:2]} of a pipe', *words, feed=data, says=['file'], keeps=[kept, path('moved.shift')])
+    with open(write('one.y4m', y4m), 'rb') as file:
+        does('digest of a Y4M file as standard input', 'digest', '-', stdin=file, out=f'{sha(bytes(12))}  -#0\n'.encode())
+    with open(path('one.y4m'), 'rb') as file:
+        does('append of a Y4M file as standard input', 'shift', 'append', kept, '-', '--crossing=1', stdin=file)
+    fifo = fresh('pipe')
+    os.mkfifo(fifo)
+    for words in (['shift', 'list', fifo], ['shift', 'find', fifo, '1'], ['shift', 'summary', fifo], ['compare', fifo, kept], ['compare', kept, fifo],
+                  ['shift', 'move', fifo, '-o', fresh('moved.shift'), '--to=plain'], ['shift', 'append', fifo, kept]):
+        child = subprocess.Popen([given['program'], *words], stdin=subprocess.PIPE, stdout=subprocess.DEVNULL, stderr=subprocess.PIPE)
+        err, status = ended(child, 5)
+        holds(f'{words[:2]} of a pipe that nothing writes to: 2 and a line', status == 2 and err.startswith(b'segvartin '), (err, status))
+    fifo.unlink()
+
+
+def memory():
+    """Of a picture that comes by a pipe the planes are in memory, and a few bands of rows; the RGB frame is never there whole."""
+    w, h = 8192, 2048
+    size = files.picture_size(w, h, 0)
+    most, rgb, grey = size + (24 << 20), files.ppm(w, h, bytes(3 * w * h)), files.pgm(w, h, bytes(w * h))
+    for words, data in ((['--to=yuv'], rgb), (['--to=y4m'], rgb), (['--to=shift', '--crossing=1'], rgb), (['--to=yuv'], grey)):
+        name = f'{data[:2].decode()} {words[0]}'
+        child = feeding(['convert', '-', *words, '-f', '-o', path('out.data')], data[:-1])
+        waited(lambda: struct.unpack('i', fcntl.ioctl(child.stdin, termios.FIONREAD, bytes(4))) == (0,))
+        time.sleep(0.1)
+        [taken] = re.findall(r'VmHWM:\s+(\d+) kB', Path(f'/proc/{child.pid}/status').read_text())
+        child.stdin.write(data[-1:])
+        check(f'{name}: how it ends', ended(child), (b'', 0))
+        holds(f'{name}: in memory at most {most >> 10} KiB; planes are {size >> 10}, RGB {3 * w * h >> 10}', int(taken) <= most >> 10, taken)
+    fresh('out.data')
+
+
 # ---- writes that are interrupted
 
 def feeding(words, data, **more):
@@ -371,6 +430,23 @@ def interruptions():
     waited(lambda: child.poll() is not None)
     check('SIGTERM before the first byte', (*ended(child), path('out.yuv').read_bytes(), parts()), (b'', -signal.SIGTERM, OLD, []))
     signals_ignored()
+    stopped()
+
+
+def stopped():
+    """Stopped and continued in the midst, as by Ctrl-Z and fg."""
+    w, h = 1500, 1000
+    data = files.ppm(w, h, bytes(3 * w * h))
+    child = feeding(['convert', '-', '-f', '-o', path('out.yuv')], data[:2000000])
+    for number in (signal.SIGSTOP, signal.SIGCONT, signal.SIGWINCH, signal.SIGSTOP, signal.SIGCONT):
+        time.sleep(0.05)
+        child.send_signal(number)
+    try:
+        child.stdin.write(data[2000000:])
+    except BrokenPipeError:
+        pass
+    black = b'\x10' * (w * h) + b'\x80' * (w * h // 2)
+    check('stopped and continued', (*ended(child), sha(path('out.yuv').read_bytes())), (b'', 0, sha(black)))
 
 
 def signals_ignored():
@@ -389,6 +465,32 @@ def signals_ignored():
     except BrokenPipeError:
         pass
     check('SIGHUP that is ignored, as under nohup', ended(child), (b'', 0))
+
+
+def synced():
+    """A new file is on the disk before it takes its name."""
+    if shutil.which('strace') is None:
+        return left_out('files on the disk before they take their names', 'strace is not here')
+    data = moved_forward(some_file(numbers(19), 3, 5, False))
+    day, picture = write('day.shift', data), write('picture.ppm', files.ppm(3, 2, bytes(18)))
+    write('day.shift.summary', files.summary(data))
+    crossing = str(files.read_shift(data)[1][0].crossing)
+    for count, words in ((1, ['convert', picture, '-f', '-o', path('out.yuv')]),
+                         (1, ['convert', picture, '-f', '-o', path('out.y4m')]),
+                         (1, ['convert', picture, '--crossing=1', '-f', '-o', path('out.shift')]),
+                         (1, ['shift', 'find', day, crossing, '-f', '-o', path('found.yuv')]),
+                         (2, ['shift', 'append', day, picture, '--crossing=1']),
+                         (1, ['shift', 'summary', day]),
+                         (1, ['shift', 'move', write('other.shift', data), '-f', '-o', path('moved.shift'), '--to=plain'])):
+        log, calls = fresh('strace.log'), 'fsync,fdatasync,rename,renameat,renameat2'
+        watched = ['strace', '-f', '-o', log, '-e', f'trace={calls}', given['program'], *words]
+        subprocess.run(watched, stdout=subprocess.DEVNULL, stdin=subprocess.DEVNULL, check=True)
+        made = re.findall(r'(sync|rename)(?:at2?)?\(', log.read_text())
+        name = ' '.join(map(str, words[:2]))
+        check(f'{name}: so many files take a name', made.count('rename'), count)
+        before = [made[:k].count('sync') for k, call in enumerate(made) if call == 'rename']
+        holds(f'{name}: each is synced before', all(synced_ > k for k, synced_ in enumerate(before)), made)
+    fresh('day.shift.summary')
 
 
 # ---- writes that fail
@@ -781,5 +883,5 @@ def interrupted_move(big):
               -number, False, []))
 
 
-ALL = [refusals, wrong_flags, short_pictures, broken_pictures, broken_places, unreadable, interruptions, full_disks, closed_pipes, modes_and_links,
-       shorter_input, progress, names, large_files]
+ALL = [refusals, wrong_flags, short_pictures, broken_pictures, broken_places, unreadable, pieces_of_input, pipes_for_files, memory, interruptions,
+       synced, full_disks, closed_pipes, modes_and_links, shorter_input, progress, names, large_files]

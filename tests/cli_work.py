@@ -500,8 +500,10 @@ def shift_append():
         for name, words in (('a Y4M file of two pictures', [two, '--crossing=9']), ('a Y4M file without a crossing', [path('one.y4m')]),
                             ('a picture without a crossing', [picture])):
             fails(f'{name}, settings {settings}', 'shift', 'append', path('day.shift'), *words, keeps=[path('day.shift')])
-    fails('4:2:2 to a file without settings', 'shift', 'append', path('day.shift'), picture, '--crossing=1', '--sampling=422',
-          keeps=[path('day.shift')])
+    wide = write('wide.y4m', files.y4m_file(w, h, 1, bytes(files.picture_size(w, h, 1))))
+    for words in ([picture, '--sampling=422'], [wide]):
+        name = f'4:2:2 to a file without settings, {words[0].name}'
+        fails(name, 'shift', 'append', path('day.shift'), *words, '--crossing=1', keeps=[path('day.shift')])
     full = write('full.shift', some_file(n, 4096, 1, True))
     fails('one record more than 4,096', 'shift', 'append', full, picture, '--crossing=1', keeps=[full], number=15)
 
