@@ -184,9 +184,13 @@ def fails_in_json(name, words, command, says, number, expected, received, file, 
     if command:
         check(f'{name}, --json: its command', error.get('command'), command)
     check(f'{name}, --json: its number', error.get('number'), number)
-    holds(f'{name}, --json: a message', isinstance(error.get('message'), str) and error['message'] != '', error)
-    if number is not None:
+    if number is None:
+        holds(f'{name}, --json: a message', isinstance(error.get('message'), str) and error['message'] != '', error)
+    else:
+        check(f'{name}, --json: its message', error.get('message'), REFUSALS[number])
+    if number is not None or expected is not None:
         check(f'{name}, --json: expected and received', (error.get('expected'), error.get('received')), (expected or 0, received or 0))
+    if number is not None:
         holds(f'{name}, --json: what to try', isinstance(error.get('try'), str) and error['try'] != '', error)
     if file is not None:
         check(f'{name}, --json: its file', error.get('file'), str(file))

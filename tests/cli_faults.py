@@ -222,8 +222,8 @@ def broken_pictures():
         for name, data in (('P6', b'P6 1 1 %d\n' % maxval + bytes(6)), ('P5', b'P5 1 1 %d\n' % maxval + bytes(2)),
                            ('P3', b'P3 1 1 %d\n0 0 0\n' % maxval), ('P2', b'P2 1 1 %d\n0\n' % maxval),
                            ('P7', (PAM % (3, b'RGB')).replace(b'255', b'%d' % maxval))):
-            said = ['expected 255', f'received {maxval}']
-            fails(f'{name} with MAXVAL {maxval}', 'convert', write('picture', data), '-o', out, keeps=[out], says=said)
+            told = {'says': ['expected 255', f'received {maxval}'], 'expected': 255, 'received': maxval}
+            fails(f'{name} with MAXVAL {maxval}', 'convert', write('picture', data), '-o', out, keeps=[out], **told)
 
 
 def broken_places():
@@ -397,7 +397,7 @@ def interruptions():
     w, h = 2000, 1000
     head, half = b'P6\n%d %d\n255\n' % (w, h), bytes(3 * w * h // 2)
     day = some_file(numbers(6), 3, 9, True)
-    for name in ('SIGINT', 'SIGTERM', 'SIGHUP'):
+    for name in ('SIGINT', 'SIGTERM', 'SIGHUP', 'SIGQUIT', 'SIGABRT'):
         number = getattr(signal, name)
         for what, output, words in (('yuv', 'out.yuv', ['convert', '-', '-f', '-o', path('out.yuv')]),
                                     ('y4m', 'out.y4m', ['convert', '-', '-f', '-o', path('out.y4m')]),
@@ -423,6 +423,10 @@ def interruptions():
     err, status = ended(child)
     holds('an input that ends in the midst', status == 2 and b'refused 6' in err, (err, status))
     check('an input that ends in the midst: the file', (path('out.yuv').read_bytes(), parts()), (OLD, []))
+    # Of a stream to standard output the whole pictures before a broken one are written
+    small = files.ppm(3, 2, bytes(18))
+    done = run('convert', '--to=yuv', '-', '-o', '-', feed=small + small + small[:-1])
+    check('a stream that ends in the midst, to standard output', (done.out, done.status), (2 * planes(3, 2, bytes(18)), 2))
     # The signal before the first byte
     child = feeding(['convert', '-', '-f', '-o', path('out.yuv')], b'')
     time.sleep(0.1)
@@ -561,6 +565,12 @@ def full_disks():
 
     for size in (150000, 40000):
         tried(f'a limit on the size of files of {size // 1000} KB', given['folder'], {'preexec_fn': limited(size), 'restore_signals': False})
+    def signalled():
+        for limit, most in ((resource.RLIMIT_CORE, 0), (resource.RLIMIT_FSIZE, 40000)):
+            resource.setrlimit(limit, (most, most))
+
+    done = run('convert', path('large.ppm'), '-f', '-o', write('out.yuv', OLD), preexec_fn=signalled)
+    check('SIGXFSZ: how it ends, the file, nothing left over', (done.status, path('out.yuv').read_bytes(), parts()), (-signal.SIGXFSZ, OLD, []))
     with small_disk('200k') as disk:
         if disk is None:
             left_out('a full disk', 'no file system may be mounted')
@@ -799,6 +809,9 @@ def names():
         done = run('convert', '--to=yuv', '-o', out, '--', broken, cwd=folder)
         holds(f'{name!r}, not there: two lines at most', done.status == 2 and done.err.count(b'\n') <= 2, done)
         parsed(f'{name!r}, not there, --json', run('convert', '--json', '--to=yuv', '-o', out, '--', broken, cwd=folder).err)
+    long = folder / (250 * 'x')
+    for words in ([], ['-f']):
+        makes('a name of 250 bytes', long, made, 'convert', '--to=yuv', *words, folder / 'with spaces.ppm', '-o', long)
     check('names: nothing left over', [one for one in os.listdir(os.fsencode(folder)) if one.endswith(b'.part')], [])
 
 

@@ -97,7 +97,7 @@ def convert_headers():
     for text in (b'P1 3 2 100110', b'P1\n# one\n3 2\n1 0 0\n1 1 0\n', b'P1 3 2\n10\n01 10'):
         makes(f'text {text!r}', fresh('out.yuv'), black, 'convert', write('picture', text), '-o', path('out.yuv'))
     for text in (b'P7\n# one\nWIDTH 3\nHEIGHT 2\nDEPTH 3\nMAXVAL 255\n# two\nTUPLTYPE RGB\nENDHDR\n',
-                 b'P7\nHEIGHT 2\nWIDTH 3\nTUPLTYPE RGB\nMAXVAL 255\nDEPTH 3\nENDHDR\n'):
+                 b'P7\nHEIGHT 2\nWIDTH 3\nTUPLTYPE RGB\nMAXVAL 255\nDEPTH 3\nENDHDR\n', b'P7\nWIDTH 3\nHEIGHT 2\nDEPTH 3\nMAXVAL 255\nENDHDR\n'):
         makes(f'header {text!r}', fresh('out.yuv'), expected, 'convert', write('picture', text + rgb), '-o', path('out.yuv'))
 
 
@@ -192,6 +192,9 @@ def convert_several():
           says=['422'])
     done = run('convert', '--json', *names[:3], '-o', fresh('out.y4m'))
     value = parsed('convert --json', done.out)
+    does('convert --json to standard output', 'convert', '--json', names[5], '--to=yuv', '-o', '-', out=planes(w, h, several[5][2]))
+    for words in (['--crossing=1'], ['--plain'], ['--kr=0.2', '--kb=0.1']):
+        fails(f'{words} to yuv', 'convert', *words, names[5], '-o', fresh('out.yuv'), keeps=[path('out.yuv')], says=[words[0].split('=')[0]])
     size = len(files.y4m_file(w, h, 0, bytes(3 * files.picture_size(w, h, 0))))
     expected = {'pictures': 3, 'width': w, 'height': h, 'sampling': '420', 'bytes': size, 'output': str(path('out.y4m'))}
     check('convert --json: what it says', (value, done.err, done.status), (expected, b'', 0))
@@ -334,7 +337,8 @@ def digest():
             lines = [f'{sha(one)}  {shift}#{k}\n' for k, (_, one) in enumerate(records)]
             does(f'digests of a shift file, settings {settings}', 'digest', *words, shift, out=''.join(lines).encode())
             does(f'digests of a crossing, settings {settings}', 'digest', *words, '--crossing=1400', shift, out=(lines[0] + lines[2]).encode())
-            check(f'digests of a crossing that is not there, settings {settings}', run('digest', *words, '--crossing=8', shift).out, b'')
+            done = run('digest', *words, '--crossing=8', shift)
+            check(f'digests of a crossing that is not there, settings {settings}', (done.out, done.err.count(b'\n'), done.status), (b'', 1, 1))
             done = run('digest', *words, '--json', shift)
             check(f'digests in JSON, settings {settings}', parsed('digest --json', done.out),
                   [{'input': str(shift), 'picture': k, 'crossing': crossing, 'sha256': sha(one), 'width': w, 'height': h, 'sampling': '420'}
@@ -343,11 +347,15 @@ def digest():
         done = run('digest', '--planes', one)
         lines = done.out.decode().splitlines()
         expected = [f'{sha(plane)}  {name} {letter}' for plane, letter in zip(files.cut(made[0], w, h, 0), 'YUV')]
-        check(f'digests of planes of {one.name}', ([line for line in lines if line in expected], done.err, done.status), (expected, b'', 0))
+        rest = made[1:] if one == y4m else []
+        check(f'digests of planes of {one.name}', (lines[:4], len(lines), done.err, done.status),
+              ([f'{sha(made[0])}  {name}', *expected], 4 * (1 + len(rest)), b'', 0))
         value = parsed('digest --planes --json', run('digest', '--planes', '--json', one).out)
         expected = {'input': str(one), 'picture': 0, 'crossing': None, 'sha256': sha(made[0]), 'width': w, 'height': h, 'sampling': '420',
                     **{letter: sha(plane) for plane, letter in zip(files.cut(made[0], w, h, 0), 'yuv')}}
         check(f'digests of planes of {one.name} in JSON', value[0] if isinstance(value, list) and value else value, expected)
+    for one in (names[0], y4m):
+        fails(f'--crossing with {one.name}', 'digest', '--crossing=1', one)
     for name, call, answer in vectors('y4m'):
         if call[0] != 'y4m-read' or call[1] != '0':
             continue
@@ -405,8 +413,7 @@ def lists(name, data, file='list.shift'):
     if len(lines) == len(records) + 2:
         holds(f'{name}: columns that stand', columns_stand(lines[:-1]), lines[:6])
     form = 'with settings' if settings else 'without settings'
-    last = f'{len(records)} records, {form}'
-    check(f'{name}: its last line', lines[-1:] if len(records) != 1 else [line.replace('1 record,', '1 records,') for line in lines[-1:]], [last])
+    check(f'{name}: its last line', lines[-1:], [f'{len(records)} record{"s" if len(records) != 1 else ""}, {form}'])
     value = parsed(f'{name}, --json', run('shift', 'list', '--json', one).out)
     check(f'{name}, --json', value, {'file': str(one), 'form': form, 'records': [json_of(k, record) for k, record in enumerate(records)]})
 
@@ -504,6 +511,8 @@ def shift_append():
     for words in ([picture, '--sampling=422'], [wide]):
         name = f'4:2:2 to a file without settings, {words[0].name}'
         fails(name, 'shift', 'append', path('day.shift'), *words, '--crossing=1', keeps=[path('day.shift')])
+    fails('--plain for a file with settings', 'shift', 'append', write('set.shift', some_file(n, 1, 2, True)), picture, '--crossing=1', '--plain',
+          keeps=[path('set.shift')])
     full = write('full.shift', some_file(n, 4096, 1, True))
     fails('one record more than 4,096', 'shift', 'append', full, picture, '--crossing=1', keeps=[full], number=15)
 
@@ -535,51 +544,54 @@ def shift_find():
     for settings in (False, True):
         data = some_file(n, 30, 6, settings, 12)
         _, records = files.read_shift(data)
-        day = write('day.shift', data)
-        listed = [line.split() for line in run('shift', 'list', day).out.decode().splitlines()[1:-1]]
-        own = write('own.summary', files.summary(data))
-        for way in ('no summary', 'a summary beside it', 'a summary that is named'):
+        day, own = write('day.shift', data), write('own.summary', files.summary(data))
+        listed = run('shift', 'list', day).out.decode().splitlines(True)[1:-1]
+        for way, beside, words in (('no summary', False, []), ('a summary beside it', True, []), ('a named summary', False, ['--summary', own])):
             fresh('day.shift.summary')
-            if way == 'a summary beside it':
+            if beside:
                 write('day.shift.summary', files.summary(data))
-            words = ['--summary', own] if way == 'a summary that is named' else []
             for crossing in range(14):
-                of_crossing = [line for line, one in zip(listed, records) if one.crossing == crossing]
-                for every in (False, True):
-                    name = f'crossing {crossing} by {way}, settings {settings}{", all" if every else ""}'
-                    done = run('shift', 'find', day, str(crossing), *words, *(['--all'] if every else []))
-                    lines = [line.split() for line in done.out.decode().splitlines()]
-                    if of_crossing:
-                        found = [line for line in lines if line != HEADING]
-                        check(name, (found, done.err, done.status), (of_crossing if every else of_crossing[:1], b'', 0))
-                    else:
-                        check(f'{name}: status', done.status, 1)
-                        holds(f'{name}: what it says', f'no record of crossing {crossing}' in (done.out + done.err).decode(), done)
-                if of_crossing:
-                    [one, *_] = [one for one in records if one.crossing == crossing]
-                    for ending, made in (('yuv', one.planes), ('y4m', files.y4m_file(one.w, one.h, one.four[0], one.planes))):
-                        done = run('shift', 'find', day, str(crossing), *words, '-o', fresh(f'found.{ending}'))
-                        check(f'crossing {crossing} by {way} to {ending}, settings {settings}: status', (done.err, done.status), (b'', 0))
-                        check(f'crossing {crossing} by {way} to {ending}, settings {settings}', path(f'found.{ending}').read_bytes(), made)
-        value = parsed('find --json', run('shift', 'find', '--json', day, str(records[0].crossing)).out)
-        holds(f'find --json, settings {settings}', str(records[0].crossing) in json.dumps(value), value)
+                find_crossing(f'crossing {crossing} by {way}, settings {settings}', day, crossing, words, listed, records)
+        crossing = records[0].crossing
+        value = parsed('find --json', run('shift', 'find', '--json', '--all', day, str(crossing)).out)
+        found = [json_of(k, one) for k, one in enumerate(records) if one.crossing == crossing]
+        expected = {'file': str(day), 'form': 'with settings' if settings else 'without settings', 'records': found}
+        check(f'find --json, settings {settings}', value, expected)
         good = files.summary(data)
         for name, wrong in (('a byte another', good[:-1] + bytes([good[-1] ^ 1])), ('a byte less', good[:-1]), ('nothing', b'')):
             beside = write('day.shift.summary', wrong)
             fails(f'find by a summary with {name}, settings {settings}', 'shift', 'find', day, '3', number=17, says=['shift summary'],
                   keeps=[day, beside])
             fresh('day.shift.summary')
-            fails(f'find by a named summary with {name}, settings {settings}', 'shift', 'find', day, '3', '--summary', write('own.summary', wrong),
-                  number=17)
+            wrong = write('own.summary', wrong)
+            fails(f'find by a named summary with {name}, settings {settings}', 'shift', 'find', day, '3', '--summary', wrong, number=17)
     fails('find by a summary that is not there', 'shift', 'find', day, '3', '--summary', fresh('none.summary'))
     for word in ('', 'x', '-1', '4294967296', '1.5', '3x'):
         fails(f'find of crossing {word!r}', 'shift', 'find', '--', day, word)
-    crossing = files.read_shift(day.read_bytes())[1][0].crossing
     write('found.yuv', b'old')
     fails('find to a file that is there', 'shift', 'find', day, str(crossing), '-o', path('found.yuv'), says=['--force'], keeps=[path('found.yuv')])
     done = run('shift', 'find', day, str(crossing), '--force', '-o', path('found.yuv'))
-    check('find to a file that is there, by force', (done.status, path('found.yuv').read_bytes()), (0,
-          files.read_shift(day.read_bytes())[1][0].planes))
+    check('find to a file that is there, by force', (done.status, path('found.yuv').read_bytes()), (0, records[0].planes))
+
+
+def find_crossing(name, day, crossing, words, listed, records):
+    """Its first record and all of them: their lines as they are listed, and their planes in files and on standard output."""
+    of_crossing = [(line, one) for line, one in zip(listed, records) if one.crossing == crossing]
+    for every in (False, True):
+        flag, told = (['--all'], of_crossing) if every else ([], of_crossing[:1])
+        text = ''.join(line for line, _ in told) or f'no record of crossing {crossing}\n'
+        does(f'{name} {flag}', 'shift', 'find', day, str(crossing), *words, *flag, out=text.encode(), status=0 if told else 1)
+        if not told:
+            continue
+        planes_ = b''.join(one.planes for _, one in told)
+        one = told[0][1]
+        sizes = {(record.w, record.h, record.four[0]) for _, record in told}
+        outputs_ = {'yuv': planes_, 'y4m': files.y4m_file(one.w, one.h, one.four[0], planes_) if len(sizes) == 1 else None}
+        for ending, made in outputs_.items():
+            if made is not None:
+                find = ['shift', 'find', day, str(crossing), *words, *flag]
+                makes(f'{name} {flag} to {ending}', fresh(f'found.{ending}'), made, *find, '-o', path(f'found.{ending}'), out=text.encode())
+                does(f'{name} {flag} to standard output as {ending}', *find, '-o', '-', '--to', ending, out=made)
 
 
 def shift_summary():
@@ -590,18 +602,22 @@ def shift_summary():
             day, made = write('day.shift', data), files.summary(data)
             name = f'summary of {count} records, settings {settings}'
             makes(name, fresh('day.shift.summary'), made, 'shift', 'summary', day)
-            does(f'{name}, checked', 'shift', 'summary', '--check', day)
+            check(f'{name}, checked: status', run('shift', 'summary', '--check', day)[1:], (b'', 0))
             makes(f'{name}, to another file', fresh('other.summary'), made, 'shift', 'summary', day, '-o', path('other.summary'))
             does(f'{name}, to standard output', 'shift', 'summary', day, '-o', '-', out=made)
             write('day.shift.summary', b'old')
             if count:
                 done = run('shift', 'summary', '--check', day)
-                check(f'{name}: another, checked', (done.status, path('day.shift.summary').read_bytes()), (1, b'old'))
-                holds(f'{name}: another, a line', (done.out + done.err).count(b'\n') == 1, done)
+                check(f'{name}: another, checked', (done.out.count(b'\n'), done.err, done.status), (1, b'', 1))
+                check(f'{name}: another, which stays', path('day.shift.summary').read_bytes(), b'old')
+                check(f'{name}: another, checked in JSON', json.loads(run('shift', 'summary', '--check', '--json', day).out),
+                      {'file': str(day), 'summary': str(path('day.shift.summary')), 'is_summary': False})
             makes(f'{name}, in the place of another', path('day.shift.summary'), made, 'shift', 'summary', day)
-            fresh('day.shift.summary')
-            done = run('shift', 'summary', '--check', day)
-            holds(f'{name}: none to be checked', done.status in (1, 2), done)
+            check(f'{name}, checked in JSON', json.loads(run('shift', 'summary', '--check', '--json', day).out),
+                  {'file': str(day), 'summary': str(path('day.shift.summary')), 'is_summary': True})
+            check(f'{name}, in JSON', json.loads(run('shift', 'summary', '--json', day).out),
+                  {'file': str(day), 'summary': str(path('day.shift.summary')), 'records': count, 'bytes': 13 * count})
+            fails(f'{name}: none to be checked', 'shift', 'summary', '--check', day, keeps=[fresh('day.shift.summary')])
     for name, call, answer in vectors('summaries'):
         if call[0] in ('build', 'check', 'find', 'update'):
             VECTORS_OF_SUMMARIES[call[0]](f'vector {name}', [bytes_of(word) for word in call[1 + (call[0] == 'find'):]], call, [int(answer[0]),
@@ -667,6 +683,9 @@ def shift_move():
         plain, settings = write('plain.shift', old), write('settings.shift', new)
         makes(f'{count} records forward', fresh('moved.shift'), new, 'shift', 'move', plain, '-o', path('moved.shift'), '--to', 'settings')
         makes(f'{count} records back', fresh('moved.shift'), old, 'shift', 'move', settings, '-o', path('moved.shift'), '--to=plain')
+        done = run('shift', 'move', '--json', plain, '-o', fresh('moved.shift'), '--to=settings')
+        check(f'{count} records forward, in JSON', (parsed('move --json', done.out), done.status),
+              ({'file': str(plain), 'form': 'with settings', 'records': count, 'bytes': len(new)}, 0))
         fails(f'{count} records forward twice', 'shift', 'move', settings, '-o', fresh('moved.shift'), '--to=settings', number=15,
               keeps=[path('moved.shift')])
         fails(f'{count} records back twice', 'shift', 'move', plain, '-o', fresh('moved.shift'), '--to=plain', number=15, keeps=[path('moved.shift')])
@@ -728,15 +747,13 @@ def compare():
         first = None
         if kind:
             first = {'crossing': crossing, 'our_record': our, 'their_record': their, 'kind': ('', 'sizes', 'bytes')[kind]}
+        if kind == 1:
+            first.update(our_width=rest[0], our_height=rest[1], their_width=rest[2], their_height=rest[3], our_sampling=SAMPLINGS[rest[7]],
+                         their_sampling=SAMPLINGS[rest[8]])
         if kind == 2:
             first.update(plane=PLANE_NAMES[rest[4]], row=rest[5], column=rest[6])
         done = run('compare', '--json', ours, theirs)
         value = parsed(f'vector {name}', done.out)
-        if kind == 1 and value and value.get('first'):
-            sizes = value['first']
-            check(f'vector {name}: the sizes that differ', sorted(str(one) for key, one in sizes.items() if key not in first),
-                  sorted(map(str, (*rest[:4], SAMPLINGS[rest[7]], SAMPLINGS[rest[8]]))))
-            value['first'] = {key: one for key, one in sizes.items() if key in first}
         check(f'vector {name}', value, {'equal': equal, 'differing': differing, 'only_ours': only_ours, 'only_theirs': only_theirs, 'first': first})
         check(f'vector {name}: status', (done.err, done.status), (b'', 1 if differing or only_ours or only_theirs else 0))
         done = run('compare', '--pairs-only', ours, theirs)
