@@ -3,23 +3,20 @@
 
     tests/noon.py NOON OUT     NOON is examples/c/noon.c, built; OUT a folder for the files
 
-The pairing below follows the request's own words, and shares no code with the rest of this repository.
+The pairing below follows the request's own words, and shares no code with the library; tests/cli.py holds the program `segvartin` to it too.
 """
 import os
 import random
-import struct
 import subprocess
 import sys
 from pathlib import Path
 
-NOON, OUT = Path(sys.argv[1]).resolve(), Path(sys.argv[2])
+sys.dont_write_bytecode = True
+import files
+from files import half
 
 
 # ---- the pairing; a record is its crossing, its size, its sampling, and its three planes as lists of rows
-
-def half(n):
-    return n // 2 + n % 2
-
 
 def rows(numbers, w, h):
     return [numbers.randbytes(w) for _ in range(h)]
@@ -34,16 +31,13 @@ def shift_file(records, settings=None):
     """Without settings; or, where numbers for them are given, with settings, of which range, matrix and transfer are any."""
     texts = []
     for crossing, (w, h, sampling), planes in records:
-        four = b''
+        data = b''.join(row for plane in planes for row in plane)
         if settings:
-            four = bytes([sampling, settings.choice((0, 1, 255)), settings.choice((0, 6, 255)), settings.choice((0, 3, 255))])
-        texts.append(struct.pack('<IHH', crossing, w, h) + four + b''.join(row for plane in planes for row in plane))
-    start = struct.pack('<II', 4294967295, len(texts)) if settings else struct.pack('<I', len(texts))
-    offset, pairs = len(start) + 12 * len(texts), b''
-    for text in texts:
-        pairs += struct.pack('<QI', offset, len(text))
-        offset += len(text)
-    return start + pairs + b''.join(texts)
+            four = sampling, settings.choice((0, 1, 255)), settings.choice((0, 6, 255)), settings.choice((0, 3, 255))
+            texts.append(files.settings_record(crossing, w, h, four, data))
+        else:
+            texts.append(files.record(crossing, w, h, data))
+    return files.settings_file(texts) if settings else files.shift_file(texts)
 
 
 def place(ours, theirs):
@@ -119,6 +113,8 @@ def changed(numbers, planes):
 
 
 def main():
+    global NOON, OUT
+    NOON, OUT = Path(sys.argv[1]).resolve(), Path(sys.argv[2])
     OUT.mkdir(parents=True, exist_ok=True)
     numbers = random.Random(18)
     for case in range(200):
@@ -162,4 +158,5 @@ def main():
     print(f'noon.py: {runs} runs: two shift files held against each other')
 
 
-main()
+if __name__ == '__main__':
+    main()

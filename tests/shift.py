@@ -4,7 +4,7 @@ of them where they are moved, and their summaries.
 
     tests/shift.py SHIFT OUT [WORDS..]     SHIFT is examples/c/shift.c, built; OUT a folder for the files; it is run under WORDS
 
-The writer below was made from the request's own words for the layout, and shares nothing with the rest of this repository.
+The writer, tests/files.py, was made from the request's own words for the layout, and shares no code with the library.
 """
 import random
 import struct
@@ -12,55 +12,17 @@ import subprocess
 import sys
 from pathlib import Path
 
+sys.dont_write_bytecode = True
+from files import pairs, plane_sizes, record, record_size, settings_file, settings_record, settings_record_size, shift_file, summary
+
 SHIFT, OUT, WORDS = Path(sys.argv[1]).resolve(), Path(sys.argv[2]), sys.argv[3:]
 
 
-# ---- the writer
+# ---- what is said of files
 
-def half(n):
-    return n // 2 + n % 2
-
-
-def record(crossing, w, h, planes):
-    return struct.pack('<IHH', crossing, w, h) + planes
-
-
-def record_size(w, h):
-    return 4 + 2 + 2 + w * h + half(w) * half(h) + half(w) * half(h)
-
-
-def pairs(sizes):
-    text, offset = struct.pack('<I', len(sizes)), 4 + (8 + 4) * len(sizes)
-    for size in sizes:
-        text += struct.pack('<QI', offset, size)
-        offset += size
-    return text
-
-
-def shift_file(records):
-    return pairs([len(one) for one in records]) + b''.join(records)
-
-
-# with settings: four bytes of 255 first; after h four bytes for sampling, range, matrix and transfer; 255 in the last three for not recorded
-
-def chroma(sampling, w, h):
-    return half(w) * (h if sampling == 1 else half(h))
-
-
-def settings_record(crossing, w, h, four, planes):
-    return struct.pack('<IHH4B', crossing, w, h, *four) + planes
-
-
-def settings_record_size(w, h, four):
-    return 4 + 2 + 2 + 4 + w * h + 2 * chroma(four[0], w, h)
-
-
-def settings_file(records):
-    text, offset = struct.pack('<II', 4294967295, len(records)), 8 + (8 + 4) * len(records)
-    for one in records:
-        text += struct.pack('<QI', offset, len(one))
-        offset += len(one)
-    return text + b''.join(records)
+def chroma(w, h, sampling):
+    width, height = plane_sizes(w, h, sampling)[1]
+    return width * height
 
 
 NAMES = (('4:2:0', '4:2:2'), ('Limited', 'Full'), ('Bt601', 'Bt709', 'Bt2020', 'Smpte240', 'Bt470_6', 'Fcc', 'Custom'),
@@ -73,21 +35,13 @@ def settings_listing(sizes):
     for k, (crossing, w, h, four) in enumerate(sizes):
         y = offset + 12
         u = y + w * h
-        v = u + chroma(four[0], w, h)
-        end = v + chroma(four[0], w, h)
+        v = u + chroma(w, h, four[0])
+        end = v + chroma(w, h, four[0])
         said = ['not recorded' if code == 255 else names[code] for code, names in zip(four, NAMES)]
         text += (f'{k}: crossing {crossing}, {w} x {h}, at {offset}, Y {y}, U {u}, V {v}, {end - offset} bytes, '
                  f'{said[0]}, range {said[1]}, matrix {said[2]}, transfer {said[3]}\n')
         offset = end
     return text
-
-
-def settings_summary(sizes, records):
-    offset, entries = 8 + 12 * len(sizes), []
-    for (crossing, w, h, _), data in zip(sizes, records):
-        entries.append((crossing, entry(crossing, offset, w, h, data[12:])))
-        offset += len(data)
-    return b''.join(data for _, data in sorted(entries, key=lambda one: one[0]))
 
 
 def listing(sizes):
@@ -96,24 +50,11 @@ def listing(sizes):
     for k, (crossing, w, h) in enumerate(sizes):
         y = offset + 8
         u = y + w * h
-        v = u + half(w) * half(h)
-        end = v + half(w) * half(h)
+        v = u + chroma(w, h, 0)
+        end = v + chroma(w, h, 0)
         text += f'{k}: crossing {crossing}, {w} x {h}, at {offset}, Y {y}, U {u}, V {v}, {end - offset} bytes\n'
         offset = end
     return text
-
-
-def entry(crossing, offset, w, h, planes):
-    return struct.pack('<IQB', crossing, offset, sum(planes[:w * h]) // (w * h))
-
-
-def summary(sizes, records):
-    """The entries by crossing number, those of one crossing by offset, which is the order of the file."""
-    offset, entries = 4 + 12 * len(sizes), []
-    for (crossing, w, h), data in zip(sizes, records):
-        entries.append((crossing, entry(crossing, offset, w, h, data[8:])))
-        offset += len(data)
-    return b''.join(data for _, data in sorted(entries, key=lambda one: one[0]))
 
 
 def found(sizes, crossing):
@@ -164,7 +105,7 @@ def sums(name, sizes, records):
     path, made, last = OUT / 'python.shift', OUT / 'made.summary', OUT / 'last.record'
     path.write_bytes(shift_file(records))
     made.unlink(missing_ok=True)
-    expect(said('sum', path, made) == '' and made.read_bytes() == summary(sizes, records), f'{name}: another summary')
+    expect(said('sum', path, made) == '' and made.read_bytes() == summary(shift_file(records)), f'{name}: another summary')
     for crossing in [0, 1, 4294967295, *[size[0] for size in sizes[:3]]]:
         expect(said('find', path, made, str(crossing)) == found(sizes, crossing), f'{name}: crossing {crossing} found otherwise')
     if made.stat().st_size:
@@ -172,7 +113,7 @@ def sums(name, sizes, records):
         expect(said('find', path, made, '0') == ('refused 17\n' if len(records) > 1 else 'none\n'), f'{name}: the summary of another file')
         expect(said('sum', path, made) == '', f'{name}: no summary of fewer records')
         last.write_bytes(records[-1])
-        expect(said('add', path, made, last) == '' and made.read_bytes() == summary(sizes, records), f'{name}: brought up to date otherwise')
+        expect(said('add', path, made, last) == '' and made.read_bytes() == summary(shift_file(records)), f'{name}: brought up to date otherwise')
     if len(records) == 4096:
         path.write_bytes(shift_file(records))
         expect(said('add', path, made, last) == 'refused 15\n', f'{name}: one record too many is not refused')
@@ -182,7 +123,7 @@ def settings_sums(name, sizes, records):
     """A summary made of a file with settings, each crossing found in it, and it brought up to date with the last record, and not with one without settings."""
     path, made, last = OUT / 'python.shift', OUT / 'made.summary', OUT / 'last.record'
     path.write_bytes(settings_file(records))
-    expect(said('sum', path, made) == '' and made.read_bytes() == settings_summary(sizes, records), f'{name}: another summary')
+    expect(said('sum', path, made) == '' and made.read_bytes() == summary(settings_file(records)), f'{name}: another summary')
     lines = {size[0]: line.split(': ', 1)[1] + '\n' for line, size in reversed(list(zip(settings_listing(sizes).splitlines(), sizes)))}
     for crossing in [0, *[size[0] for size in sizes[:3]]]:
         expect(said('find', path, made, str(crossing)) == lines.get(crossing, 'none\n'), f'{name}: crossing {crossing} found otherwise')
@@ -192,7 +133,7 @@ def settings_sums(name, sizes, records):
         last.write_bytes(record(7, 1, 1, b'123'))
         expect(said('add', path, made, last) == 'refused 15\n', f'{name}: a record without settings is not refused')
         last.write_bytes(records[-1])
-        expect(said('add', path, made, last) == '' and made.read_bytes() == settings_summary(sizes, records), f'{name}: brought up to date otherwise')
+        expect(said('add', path, made, last) == '' and made.read_bytes() == summary(settings_file(records)), f'{name}: brought up to date otherwise')
 
 
 def with_settings(numbers):

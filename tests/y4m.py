@@ -10,14 +10,16 @@ is a failure too.
 The programs of mjpegtools round the U and V of odd sides down, where we and ffmpeg round up: of a picture of 5 by 3 in 4:2:0 they take U as 2 by 1.
 So they are given sides that are even where they are halved, and that they refuse the others is a check of its own.
 """
-import os
 import random
 import shutil
-import struct
 import subprocess
 import sys
 from collections import Counter
 from pathlib import Path
+
+sys.dont_write_bytecode = True
+import files
+from packages import install
 
 STRICT = '--strict' in sys.argv
 WORDS = [word for word in sys.argv[1:] if word != '--strict']
@@ -37,19 +39,14 @@ def expect(holds, what):
         sys.exit(f'tests/y4m.py: {what}')
 
 
-# ---- the format, by the request's own words
+# ---- the format, by tests/files.py
 
-def half(n):
-    return n // 2 + n % 2
-
-
-def plane_sizes(w, h, sampling):
-    chroma = half(w), half(h) if sampling == '420' else h
-    return [(w, h), chroma, chroma]
+def code(sampling):
+    return ('420', '422').index(sampling)
 
 
 def picture_size(w, h, sampling):
-    return sum(width * height for width, height in plane_sizes(w, h, sampling))
+    return files.picture_size(w, h, code(sampling))
 
 
 def some_planes(w, h, sampling, count):
@@ -57,10 +54,7 @@ def some_planes(w, h, sampling, count):
 
 
 def file_of(w, h, sampling, planes):
-    size = picture_size(w, h, sampling)
-    name = '420jpeg' if sampling == '420' else '422'
-    pictures = (planes[at:at + size] for at in range(0, len(planes), size))
-    return f'YUV4MPEG2 W{w} H{h} F25:1 Ip C{name}\n'.encode() + b''.join(b'FRAME\n' + one for one in pictures)
+    return files.y4m_file(w, h, code(sampling), planes)
 
 
 def line_of(data):
@@ -284,17 +278,10 @@ def odd_sides():
 
 def shift_file(records, settings):
     """A record: crossing, width, height, sampling, planes."""
-    texts = []
-    for crossing, w, h, sampling, planes in records:
-        four = bytes([sampling == '422', 255, 255, 255]) if settings else b''
-        texts.append(struct.pack('<IHH', crossing, w, h) + four + planes)
-    data = struct.pack('<I', 4294967295) if settings else b''
-    data += struct.pack('<I', len(texts))
-    offset = len(data) + 12 * len(texts)
-    for text in texts:
-        data += struct.pack('<QI', offset, len(text))
-        offset += len(text)
-    return data + b''.join(texts)
+    if not settings:
+        return files.shift_file([files.record(crossing, w, h, planes) for crossing, w, h, _, planes in records])
+    return files.settings_file([files.settings_record(crossing, w, h, (code(sampling), 255, 255, 255), planes)
+                                for crossing, w, h, sampling, planes in records])
 
 
 def of_records(tools):
@@ -341,16 +328,6 @@ def missing(package):
     return [tool for tool in NEEDED[package] if shutil.which(tool) is None]
 
 
-def install(packages):
-    if shutil.which('apt-get') is None or os.geteuid() != 0:
-        return
-    print(f'y4m.py: {" and ".join(packages)} not here: apt-get install', flush=True)
-    quiet = {'env': {**os.environ, 'DEBIAN_FRONTEND': 'noninteractive'}, 'stdout': subprocess.DEVNULL, 'stderr': subprocess.DEVNULL}
-    words = ['apt-get', 'install', '-y', '--no-install-recommends', *packages]
-    if subprocess.run(words, **quiet).returncode != 0 and subprocess.run(['apt-get', 'update'], **quiet).returncode == 0:
-        subprocess.run(words, **quiet)
-
-
 def versions(tools):
     said = []
     if 'ffmpeg' in tools:
@@ -366,7 +343,7 @@ def main():
     OUT.mkdir(parents=True, exist_ok=True)
     wanted = [package for package in NEEDED if missing(package)]
     if wanted:
-        install(wanted)
+        install(wanted, 'y4m.py')
     tools = [package for package in NEEDED if not missing(package)]
     for package in NEEDED:
         if package not in tools:
