@@ -12,9 +12,9 @@ Each can be given, alone or with the others. COMMAND is a program and its argume
     --wrong N        how many wrong answers are shown in full (5)
     --patience N     seconds that one run of a program may take (600); after two that take longer it is not run again
 
-Exit status 0: all that the program offers is as it must be, and that is something. A kind of line that it answers anywhere it offers: `not offered` to
-another of that kind is wrong. So is the answer after which it writes more lines than it was asked for, or is ended by a signal. It needs Python alone,
-and the files beside it.
+Exit status 0: all that the program offers is as it must be, and that is something; 1: not so; 2: nothing could be judged. A kind of line that it
+answers anywhere it offers: `not offered` to another of that kind is wrong. So is the answer after which it writes more lines than it was asked for, or
+is ended by a signal. It needs Python alone, and the files beside it.
 """
 import functools
 import hashlib
@@ -40,6 +40,12 @@ Wrong = namedtuple('Wrong', 'vector rule what got')
 PLANE_BYTE = 'ee'  # README.md: what the planes of a large frame have before the call
 TRANSFERS = ['srgb', 'rec709', 'gamma2p2', 'gamma2p8']
 ROUNDINGS = ['truncated', 'nearest']
+
+
+def stop(why):
+    """Nothing could be judged."""
+    print(why, file=sys.stderr)
+    sys.exit(2)
 
 
 # ---- the files
@@ -128,7 +134,7 @@ class Program:
                 ended = False
                 self.timeouts += 1
             except OSError as error:
-                sys.exit(f'cannot run {self.words[0]}: {error.strerror}')
+                stop(f'cannot run {self.words[0]}: {error.strerror}')
             got.seek(0)
             return got.read(), ended
 
@@ -344,15 +350,15 @@ def report(wrong, asked):
 def arguments(words):
     options = {'--request': None, '--lines': None, '--counts': None, '--only': ','.join(FILES), '--wrong': '5', '--patience': '600'}
     if len(words) % 2 or any(word not in options for word in words[::2]):
-        sys.exit(__doc__)
+        stop(__doc__)
     options.update(zip(words[::2], words[1::2]))
     if not any(options[name] for name in ('--request', '--lines', '--counts')):
-        sys.exit(__doc__)
+        stop(__doc__)
     if not (options['--wrong'].isdigit() and options['--patience'].isdigit()):
-        sys.exit(__doc__)
+        stop(__doc__)
     unknown = [name for name in options['--only'].split(',') if name not in FILES]
     if unknown:
-        sys.exit(f'no file with vectors is called {", ".join(unknown)}')
+        stop(f'no file with vectors is called {", ".join(unknown)}')
     return options
 
 
@@ -361,7 +367,11 @@ def main():
     only = options['--only'].split(',')
 
     def program(name):
-        return Program(shlex.split(options[name]), int(options['--patience']))
+        try:
+            words = shlex.split(options[name])
+        except ValueError as error:
+            stop(f'{name} {options[name]}: {error}')
+        return Program(words, int(options['--patience'])) if words else stop(f'{name}: no program')
 
     jobs = []
     if options['--request'] and 'requests' in only:
@@ -371,6 +381,8 @@ def main():
         jobs += [(f'{name}, in lines', vectors(name), takes_lines) for name in FILES if name in only]
     if options['--counts']:
         jobs.append(('luma_counts', list(counts_vectors()), of_requests(program('--counts'))))
+    if not jobs:
+        stop('no program is given that takes these vectors')
     told = [list(answers(given)) for _, given, answers in jobs]
     offered = {kind_of(vector) for (_, given, _), answers in zip(jobs, told)
                for vector, got in zip(given, answers) if got not in (None, NOT_OFFERED)}

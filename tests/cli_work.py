@@ -157,6 +157,9 @@ def convert_raw():
               path('out.yuv'))
     fails('raw pixels without a size', 'convert', '--from', 'raw', path('picture.raw'), '-o', fresh('out.yuv'), says=['--size'],
           keeps=[path('out.yuv')])
+    for words in (['--size', '9x8'], ['--pix-fmt', 'rgb24'], ['--stride', '27']):
+        fails(f'a picture file with {words[0]}', 'convert', *words, write('picture.ppm', files.ppm(3, 2, rgb)), '-o', fresh('out.yuv'), says=words[:1],
+              keeps=[path('out.yuv')])
     # A PNM picture has a window too.
     for form, data, pixels in forms(9, 8, 6):
         for window in ((4, 3, 2, 5), (1, 8, 8, 0)):
@@ -794,6 +797,8 @@ def rules_check():
     check('rules check of a program with arguments in one word', (b'rules that are broken' in done.out, done.status), (True, 1))
     env['SEGVARTIN_CONFORMANCE'] = str(path('nowhere'))
     holds('rules check without its vectors', (done := run('rules', 'check', frame, env=env)).status == 2 and done.err, done)
+    for words in (['/no/such/program'], [frame, '--only=nothing'], [frame, '--only=bands']):
+        holds(f'rules check {words}: nothing is judged', (done := run('rules', 'check', *words)).status == 2 and done.err, done)
     fails('rules check of nothing', 'rules', 'check', as_json=False)
 
 

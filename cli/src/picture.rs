@@ -188,6 +188,7 @@ impl<'a> Pictures<'a> {
         is_raw: bool,
         settings: &'a Settings,
     ) -> Result<Pictures<'a>, Failure> {
+        settings.check_raw_flags(is_raw)?;
         let new = |source| Pictures {
             settings,
             is_raw,

@@ -24,6 +24,8 @@ pub struct Settings {
     pub size: Option<[u32; 2]>,
     pub channels: YuvSourceChannels,
     pub stride: Option<u32>,
+    /// A flag that only raw pixels take.
+    raw_flag: Option<&'static str>,
 }
 
 impl Settings {
@@ -42,7 +44,21 @@ impl Settings {
             size: numbers("size", &['x'], "1920x1080")?.map(|n| [n[0], n[1]]),
             channels: names::channels(choice("pix-fmt")),
             stride: arguments.number("stride")?,
+            raw_flag: ["size", "pix-fmt", "stride"]
+                .into_iter()
+                .find(|flag| arguments.has(flag)),
         })
+    }
+
+    /// A picture file says its size itself.
+    pub fn check_raw_flags(&self, is_raw: bool) -> Result<(), Failure> {
+        match self.raw_flag {
+            Some(flag) if !is_raw => {
+                let failure = Failure::new(&format!("--{flag}"), "raw pixels", "a picture file");
+                Err(failure.hint(format!("no --{flag}, or --from raw")))
+            }
+            _ => Ok(()),
+        }
     }
 }
 

@@ -101,7 +101,8 @@ pub fn list(arguments: &Arguments) -> Result<u8, Failure> {
         let all: Vec<_> = file.records().enumerate().collect();
         files::print(format!("{}\n", as_json(name, &file, &all)))?;
     } else {
-        let last = format!("{} records, {}", file.len(), form_name(file.form()));
+        let records = if file.len() == 1 { "record" } else { "records" };
+        let last = format!("{} {records}, {}", file.len(), form_name(file.form()));
         files::print(lines(&file).join("\n") + "\n" + &last + "\n")?;
     }
     Ok(0)
