@@ -607,6 +607,10 @@ def shift_summary():
             makes(name, fresh('day.shift.summary'), made, 'shift', 'summary', day)
             check(f'{name}, checked: status', run('shift', 'summary', '--check', day)[1:], (b'', 0))
             makes(f'{name}, to another file', fresh('other.summary'), made, 'shift', 'summary', day, '-o', path('other.summary'))
+            for other in (write('other.summary', b'old'), day):
+                fails(f'{name}, to a file that is there', 'shift', 'summary', day, '-o', other, says=['--force'], keeps=[other, day])
+            makes(f'{name}, to a file that is there, by force', path('other.summary'), made, 'shift', 'summary', day, '-f', '-o',
+                  path('other.summary'))
             does(f'{name}, to standard output', 'shift', 'summary', day, '-o', '-', out=made)
             write('day.shift.summary', b'old')
             if count:

@@ -7,7 +7,7 @@ use crate::json::Json;
 use crate::maps::{Joined, Map, MapMut};
 use crate::picture::Pictures;
 use crate::progress::Progress;
-use crate::report::Failure;
+use crate::report::{Failure, shown};
 use crate::room::{places_in, planes_at};
 use crate::settings::{Kind, Settings};
 use segvartin::{
@@ -39,10 +39,12 @@ impl Old {
         }
         match fs::metadata(name) {
             Err(error) if error.kind() == std::io::ErrorKind::NotFound => Ok(Old::none(form)?),
-            _ => Ok(Old {
-                map: Some(files::open_whole(name)?),
-                empty: vec![],
-            }),
+            _ => {
+                let map = Some(files::open_whole(name)?);
+                // The new file could take its place all the same, which is not this user's to do.
+                files::check_writable(name)?;
+                Ok(Old { map, empty: vec![] })
+            }
         }
     }
 
@@ -255,6 +257,8 @@ fn grown_summary(
 pub fn append(arguments: &Arguments) -> Result<u8, Failure> {
     let settings = Settings::of(arguments)?;
     let (name, input) = (&arguments.operands[0], &arguments.operands[1]);
+    // From before the old file is read until the new one stands there, or one of two would lose its record. Who reads a slow pipe lets others wait.
+    let _alone = files::alone_in_folder(name)?;
     let old = Old::open(name, new_form(arguments))?;
     let file = old
         .file()
@@ -266,7 +270,7 @@ pub fn append(arguments: &Arguments) -> Result<u8, Failure> {
                 .hint("no --plain"),
         );
     }
-    let output = Output::create(name, true)?;
+    let mut output = Output::create(name, true)?;
     let progress = Progress::touched(
         arguments,
         2 * old.bytes().len() + files::total_size(&arguments.operands[1..]),
@@ -280,11 +284,20 @@ pub fn append(arguments: &Arguments) -> Result<u8, Failure> {
         ("records", Json::number(new.len())),
         ("bytes", Json::number(map.len())),
     ]);
-    output.finish_map(map)?;
-    summary.map_or(Ok(()), Output::finish)?;
+    output.sync_map(map)?;
+    if let Some(summary) = &summary {
+        summary.sync()?;
+    }
+    output.take_place()?;
+    if let Some(summary) = summary {
+        let done = format!("{} has its records, but not this summary", shown(name));
+        let hint = format!("segvartin shift summary {}", shown(name));
+        let placed = summary.take_place();
+        placed.map_err(|failure| failure.after(&done).hint(hint))?;
+    }
     drop(progress);
     if arguments.json() {
-        files::print(format!("{json}\n"))?;
+        files::report(name, json.line())?;
     }
     Ok(0)
 }

@@ -47,7 +47,7 @@ pub fn run(arguments: &Arguments) -> Result<u8, Failure> {
             ("bytes", Json::number(made.bytes)),
             ("output", Json::name(name)),
         ]);
-        files::print(format!("{json}\n"))?;
+        files::report(name, json.line())?;
     }
     Ok(0)
 }

@@ -43,7 +43,7 @@ pub fn run(arguments: &Arguments) -> Result<u8, Failure> {
     }
     drop(progress);
     if let Some(list) = digests.json {
-        files::print(format!("{}\n", Json::List(list)))?;
+        files::print(Json::List(list).line())?;
     }
     match digests.crossing {
         Some(crossing) if digests.count == 0 => {

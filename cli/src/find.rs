@@ -41,7 +41,11 @@ pub fn run(arguments: &Arguments) -> Result<u8, Failure> {
     }
     // Where planes go to standard output nothing else does.
     if output != Some(OsStr::new("-")) || found.is_empty() {
-        print(arguments, &file, crossing, &found)?;
+        let text = text(arguments, &file, crossing, &found);
+        match output {
+            Some(output) if !found.is_empty() => files::report(output, text)?,
+            _ => files::print(text)?,
+        }
     }
     Ok(u8::from(found.is_empty()))
 }
@@ -62,35 +66,33 @@ fn first_of<'a>(
     };
     let map = files::open_whole(&summary)?;
     file.find_record(&map, crossing).map_err(|refusal| {
-        let hint = format!(
-            "segvartin shift summary {} -o {}",
-            shown(name),
-            shown(&summary)
-        );
+        let beside = with_ending(name, ".summary");
+        let named = if summary == beside {
+            String::new()
+        } else {
+            format!(" -f -o {}", shown(&summary))
+        };
+        let hint = format!("segvartin shift summary {}{named}", shown(name));
         Failure::from(refusal).of(&summary).hint(hint)
     })
 }
 
-fn print(
+/// What is printed.
+fn text(
     arguments: &Arguments,
     file: &ShiftFile<'_>,
     crossing: u32,
     found: &[(usize, ShiftRecord<'_>)],
-) -> Result<(), Failure> {
+) -> String {
     if arguments.json() {
-        return files::print(format!(
-            "{}\n",
-            as_json(&arguments.operands[0], file, found)
-        ));
+        return as_json(&arguments.operands[0], file, found).line();
     }
     if found.is_empty() {
-        return files::print(format!("no record of crossing {crossing}\n"));
+        return format!("no record of crossing {crossing}\n");
     }
     let lines = lines(file);
-    let text = found
-        .iter()
-        .map(|(number, _)| lines[number + 1].clone() + "\n");
-    files::print(text.collect::<String>())
+    let of_record = |(number, _): &(usize, _)| lines[number + 1].clone() + "\n";
+    found.iter().map(of_record).collect()
 }
 
 /// Y, U, V of a record, which are all that is behind its settings.

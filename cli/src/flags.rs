@@ -33,7 +33,7 @@ pub struct Command {
     pub operands: &'static [Operand],
     pub flags: &'static [&'static [Flag]],
     pub help: &'static str,
-    /// The exit status, or why nothing was done.
+    /// The exit status, or an error.
     pub run: fn(&Arguments) -> Result<u8, Failure>,
 }
 
@@ -144,12 +144,7 @@ const FROM_ANY: Flag = flag(
     Value::OneOf(&["pnm", "raw", "y4m", "shift"]),
     "what the inputs are (by their first bytes or the end of their names)",
 );
-const FORCE: Flag = short(
-    'f',
-    "force",
-    Value::Nothing,
-    "replace OUTPUT where it exists",
-);
+const FORCE: Flag = short('f', "force", Value::Nothing, "replace a file that exists");
 const OUTPUT: Flag = needed(short(
     'o',
     "output",
@@ -267,8 +262,9 @@ pub const COMMANDS: &[Command] = &[
                 'o',
                 "output",
                 Value::File("SUMMARY"),
-                "the summary (FILE.summary), or - for standard output",
+                "the summary (FILE.summary, which is replaced), or - for standard output",
             ),
+            FORCE,
             flag(
                 "check",
                 Value::Nothing,

@@ -7,7 +7,7 @@ use crate::report::Failure;
 
 const ABOUT: &str =
     "RGB pictures to planar YUV, proved to the byte; shift files, their summaries, and Y4M files";
-const STATUS: &str = "0: done. 1: the answer is no (a difference, no such record, not the summary, a rule broken). 2: nothing was done.";
+const STATUS: &str = "0: done. 1: the answer is no (a difference, no such record, not the summary, a rule broken). 2: an error; standard error says what.";
 
 pub fn run(arguments: &Arguments) -> Result<u8, Failure> {
     if arguments.has("man") {

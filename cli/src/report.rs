@@ -5,7 +5,7 @@ use segvartin::YuvError;
 use std::ffi::{OsStr, OsString};
 use std::io;
 
-/// Why nothing was done: a refusal of the library, which has a number, or something that it was not asked about.
+/// An error: a refusal of the library, which has a number, or something that it was not asked about.
 #[derive(Debug)]
 pub struct Failure {
     file: Option<OsString>,
@@ -45,6 +45,12 @@ impl Failure {
     /// With the name of the file that it is about, where none is said yet.
     pub fn of(mut self, file: &OsStr) -> Failure {
         self.file.get_or_insert_with(|| file.to_owned());
+        self
+    }
+
+    /// With what had been done before it.
+    pub fn after(mut self, done: &str) -> Failure {
+        self.message = format!("{done}: {}", self.message);
         self
     }
 
