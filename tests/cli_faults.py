@@ -149,6 +149,7 @@ def wrong_flags():
     fails('standard output without --to', 'convert', picture, '-o', '-', says=['--to'])
     fails('no output', 'convert', picture, says=['-o'])
     fails('no input', 'convert', '-o', out, keeps=[out])
+    fails('a value where there is none', 'convert', picture, '-o', out, '--force=1', keeps=[out], says=['--force'])
     fails('a flag without its value', 'convert', picture, '-o', as_json=False)
     fails('a flag without its value, at the end', 'convert', picture, '-o', out, '--sampling', keeps=[out], as_json=False)
     makes('--to before the ending', fresh('out.y4m'), black, 'convert', '--to', 'yuv', picture, '-o', path('out.y4m'))
@@ -182,6 +183,12 @@ NO_PICTURES = [
     ('P7 of depth 2', PAM % (2, b'GRAYSCALE_ALPHA')),
     ('P7 of RGB and depth 4', PAM % (4, b'RGB')),
     ('P7 without a width', (PAM % (3, b'RGB')).replace(b'WIDTH 1\n', b'')),
+    ('P7 with two numbers in a line', (PAM % (3, b'RGB')).replace(b'WIDTH 1\n', b'WIDTH 1 1\n')),
+    ('P7 with a number and letters', (PAM % (3, b'RGB')).replace(b'WIDTH 1\n', b'WIDTH 1 x\n')),
+    ('P7 with two widths', (PAM % (3, b'RGB')).replace(b'WIDTH 1\n', b'WIDTH 1\nWIDTH 1\n')),
+    ('P7 with two kinds', (PAM % (3, b'RGB')).replace(b'ENDHDR', b'TUPLTYPE RGB\nENDHDR')),
+    ('P7 with a word behind its end', (PAM % (3, b'RGB')).replace(b'ENDHDR\n', b'ENDHDR x\n')),
+    ('P7 with a width of nothing', (PAM % (3, b'RGB')).replace(b'WIDTH 1\n', b'WIDTH\n')),
     ('P7 without an end', (PAM % (3, b'RGB')).replace(b'ENDHDR\n', b'') + b'#' * 100000),
 ]
 
@@ -238,7 +245,8 @@ def broken_places():
             fails(f'{name} in {words[0]}', 'shift', *words, file=place, keeps=[moved])
     rgb = bytes(range(18))
     picture = write('picture.ppm', files.ppm(3, 2, rgb))
-    fails('an output in a folder that is not there', 'convert', picture, '--to=yuv', '-o', nowhere, file=nowhere)
+    fails('an output in a folder that is not there', 'convert', picture, '--to=yuv', '-o', nowhere, file=nowhere, says=['a folder that exists'])
+    fails('append in a folder that is not there', 'shift', 'append', nowhere, picture, '--crossing=1', file=nowhere, says=['a folder that exists'])
     fails('a folder as output', 'convert', picture, '--to=yuv', '-f', '-o', given['folder'])
     write('out.yuv', OLD)
     fails('an output that is there', 'convert', picture, '-o', out, keeps=[out], says=['--force'], file=out)
@@ -360,6 +368,9 @@ def memory():
         check(f'{name}: how it ends', ended(child), (b'', 0))
         holds(f'{name}: in memory at most {most >> 10} KiB; planes are {size >> 10}, RGB {3 * w * h >> 10}', int(taken) <= most >> 10, taken)
     fresh('out.data')
+    little = {'preexec_fn': lambda: resource.setrlimit(resource.RLIMIT_AS, (1 << 30, 1 << 30))}
+    fails('rows that there is no memory for', 'convert', '--from=raw', '--size=1x2', '--stride=4294967295', '-', '-o', fresh('out.yuv'), feed=b'123',
+          keeps=[path('out.yuv')], says=['memory'], **little)
 
 
 # ---- writes that are interrupted
@@ -553,8 +564,8 @@ def comes_meanwhile(data, made):
 
 def injected(faults, *words, **more):
     """A run in which system calls fail, as strace lets them."""
-    return run('-f', '-o', path('strace.log'), '-e', 'trace=link,linkat,rename,renameat,renameat2', '-e', f'inject={faults}', given['program'], *words,
-               program='strace', **more)
+    watched = ['-f', '-o', path('strace.log'), '-e', 'trace=link,linkat,rename,renameat,renameat2', '-e', f'inject={faults}']
+    return run(*watched, given['program'], *words, program='strace', **more)
 
 
 def failing_places():
@@ -681,7 +692,7 @@ def full_disks():
             done = run(*words, stdout=full)
         holds(f'{words[:2]} to a full device: 2 and a line', done.status == 2 and done.err.count(b'\n') in (1, 2), done)
     done = run('convert', '--to=yuv', picture, '-o', '/dev/full')
-    holds('convert -o /dev/full: 2 and a line', done.status == 2 and done.err.startswith(b'segvartin convert: '), done)
+    holds('convert -o /dev/full: 2 and a line', done.status == 2 and done.err.startswith(b'segvartin convert: ') and b'more room' in done.err, done)
     holds('/dev/full is still a device', stat.S_ISCHR(os.stat('/dev/full').st_mode), os.stat('/dev/full'))
     does('convert -o /dev/null', 'convert', '--to=yuv', picture, '-o', '/dev/null')
     holds('/dev/null is still a device', stat.S_ISCHR(os.stat('/dev/null').st_mode), os.stat('/dev/null'))

@@ -31,9 +31,8 @@ impl Read for Stream {
 /// A regular file is mapped, and `-`, standard input, where it is one; everything else is read as it comes.
 pub fn open(name: &OsStr) -> Result<Input, Failure> {
     let failed = |error| {
-        Failure::system("cannot read", "a file", &error)
-            .of(name)
-            .hint("a file that exists and that you may read")
+        let hint = "a file that exists and that you may read";
+        Failure::system("cannot read", "a file", &error, hint).of(name)
     };
     let file = if name == "-" {
         io::stdin().as_fd().try_clone_to_owned().map(File::from)
@@ -43,9 +42,7 @@ pub fn open(name: &OsStr) -> Result<Input, Failure> {
     let file = file.map_err(failed)?;
     let about = file.metadata().map_err(failed)?;
     if about.is_dir() {
-        return Err(Failure::new("cannot read", "a file", "a directory")
-            .of(name)
-            .hint("the name of a file in it"));
+        return Err(of_folder("cannot read").of(name));
     }
     // A file of no bytes may have some all the same, in /proc.
     if about.is_file() && about.len() > 0 {
@@ -71,13 +68,13 @@ pub fn open_whole(name: &OsStr) -> Result<Map, Failure> {
         .map_err(|failure| failure.of(name))
 }
 
+fn of_folder(what: &str) -> Failure {
+    Failure::new(what, "a file", "a folder", "the name of a file in it")
+}
+
 fn not_whole() -> Failure {
-    Failure::new(
-        "it is needed as a whole",
-        "a regular file",
-        "a pipe or a device",
-    )
-    .hint("write it to a file first")
+    let (what, received) = ("it is needed as a whole", "a pipe or a device");
+    Failure::new(what, "a regular file", received, "write it to a file first")
 }
 
 impl Input {
@@ -103,7 +100,8 @@ impl Input {
 /// Errors of reading, where the name is put in by who knows it.
 impl From<io::Error> for Failure {
     fn from(error: io::Error) -> Failure {
-        Failure::system("cannot read", "its bytes to the end", &error)
+        let hint = "a file that can be read to its end";
+        Failure::system("cannot read", "its bytes to the end", &error, hint)
     }
 }
 
@@ -163,9 +161,7 @@ impl Output {
         };
         match &old {
             Some(about) if about.is_dir() => {
-                return Err(Failure::new("cannot write", "a file", "a directory")
-                    .of(name)
-                    .hint("the name of a file in it"));
+                return Err(of_folder("cannot write").of(name));
             }
             Some(about) if !about.is_file() => {
                 return straight(File::options().write(true).open(name).map_err(failed)?);
@@ -182,16 +178,23 @@ impl Output {
     }
 
     fn failed(name: &OsStr, error: &io::Error) -> Failure {
-        Failure::system("cannot write", "a file that can be written", error)
-            .of(name)
-            .hint("a directory that you may write to, with room in it")
+        use io::ErrorKind::*;
+        let hint = match error.kind() {
+            NotFound => "a folder that exists",
+            PermissionDenied | ReadOnlyFilesystem => "a file and a folder that you may write to",
+            StorageFull | QuotaExceeded | FileTooLarge => "a place with more room",
+            _ => "another place for it",
+        };
+        Failure::system("cannot write", "a file that can be written", error, hint).of(name)
     }
 
     fn exists(name: &OsStr) -> Failure {
-        let expected = "a new name, or --force";
-        Failure::new("it exists", expected, "the name of a file that exists")
-            .of(name)
-            .hint("--force to replace it")
+        let (expected, received) = ("a new name, or --force", "the name of a file that exists");
+        Failure::new("it exists", expected, received, "--force to replace it").of(name)
+    }
+
+    pub fn name(&self) -> &OsStr {
+        &self.name
     }
 
     pub fn is_standard_output(&self) -> bool {

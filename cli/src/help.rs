@@ -21,10 +21,13 @@ pub fn run(arguments: &Arguments) -> Result<u8, Failure> {
         .collect();
     let name = words.join(" ");
     if !COMMANDS.iter().any(|command| is_of(command, &name)) {
-        return Err(
-            Failure::new("the command", "a command of `segvartin --help`", &name)
-                .hint("segvartin --help"),
-        );
+        let expected = "a command of `segvartin --help`";
+        return Err(Failure::new(
+            "the command",
+            expected,
+            &name,
+            "segvartin --help",
+        ));
     }
     files::print(text(&name))?;
     Ok(0)

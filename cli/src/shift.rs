@@ -110,6 +110,15 @@ pub fn list(arguments: &Arguments) -> Result<u8, Failure> {
 
 // ---- summary
 
+/// What is in a summary's file. The library takes bytes with room behind them, which such a file does not have.
+pub fn exact_summary<'a>(file: &ShiftFile<'_>, summary: &'a [u8]) -> Result<&'a [u8], YuvError> {
+    if summary.len() == file.summary_size() {
+        Ok(summary)
+    } else {
+        Err(YuvError::SummaryMismatch)
+    }
+}
+
 pub fn summary(arguments: &Arguments) -> Result<u8, Failure> {
     let name = &arguments.operands[0];
     let beside = with_ending(name, ".summary");
@@ -123,7 +132,8 @@ pub fn summary(arguments: &Arguments) -> Result<u8, Failure> {
     let progress = Progress::touched(arguments, map.len());
     if arguments.has("check") {
         let summary_map = files::open_whole(summary)?;
-        let is_right = maps::read_ahead(&[&map], || file.check_summary(&summary_map));
+        let is_right = exact_summary(&file, &summary_map)
+            .is_ok_and(|summary| maps::read_ahead(&[&map], || file.check_summary(summary)));
         drop(progress);
         return told_check(arguments, name, summary, is_right);
     }

@@ -85,8 +85,8 @@ pub fn watch(command: &str, json: bool) {
         "a mapped file",
         "its bytes to the end",
         "a file that got shorter meanwhile",
-    )
-    .hint("again, when nobody writes to it");
+        "again, when nobody writes to it",
+    );
     let _ = SHORTER.set(shorter.text(command, json)); // it is set once
     for number in [SIGHUP, SIGINT, SIGQUIT, SIGABRT, SIGPIPE, SIGTERM, SIGXFSZ] {
         // SAFETY: the handler calls only what a signal may.
