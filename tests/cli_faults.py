@@ -425,14 +425,15 @@ def interruptions():
                     place.write_bytes(day if what == 'append' else OLD)
                 before = place.read_bytes() if old else None
                 child = feeding(words, head + half)
-                waited(parts, 0.5)
+                waited(parts)
                 begun = parts()
+                check(f'{name} in the midst of {what}: it has begun', len(begun), 1)
                 child.send_signal(number)
                 waited(lambda: child.poll() is not None)
                 err, status = ended(child)
                 check(f'{name} in the midst of {what}, {"over an old file" if old else "a new file"}: how it ends', (err, status), (b'', -number))
                 check(f'{name} in the midst of {what}: the file', place.read_bytes() if place.exists() else None, before)
-                check(f'{name} in the midst of {what}: nothing left over (begun: {begun})', parts(), [])
+                check(f'{name} in the midst of {what}: nothing left over', parts(), [])
     # An input that ends in the midst
     child = feeding(['convert', '-', '-f', '-o', write('out.yuv', OLD)], head + half)
     err, status = ended(child)

@@ -3,6 +3,7 @@ import hashlib
 import json
 import os
 import random
+import re
 import shutil
 import struct
 import subprocess
@@ -837,11 +838,13 @@ FLAGS = {
     'digest': f'{CONVERSION} --planes --crossing --json',
     'shift list': '--json',
     'shift append': f'{CONVERSION} --crossing --plain --json',
-    'shift find': '--summary --output --all --force --json',
-    'shift summary': '--output --check --json',
+    'shift find': '--summary --output --to --all --force --json',
+    'shift summary': '--output --force --check --json',
     'shift move': '--output --to --force --json',
     'compare': '--pairs-only --json',
     'rules check': '--lines --counts --only',
+    'help': '--man',
+    'completion': '',
 }
 
 
@@ -857,8 +860,10 @@ def helps():
             done = run(*name.split(), flag)
             texts.append(done)
             check(f'{name} {flag}: status', (done.err, done.status), (b'', 0))
-            for one in known.split():
-                holds(f'{name} {flag}: {one} is in it', one in done.out.decode(), done.out)
+            shown = re.findall(r'^  (?:-\w, )?(--[\w-]+)', done.out.decode(), re.M)
+            check(f'{name} {flag}: its flags', sorted(shown), sorted([*known.split(), '--help']))
+            has_files = name.split()[0] not in ('rules', 'help', 'completion')
+            check(f'{name} {flag}: whether - is said', b'standard input or output' in done.out, has_files)
         check(f'{name}: -h is --help', texts[0], texts[1])
     done = run('--version')
     holds('--version', done.status == 0 and done.err == b'' and done.out.startswith(b'segvartin ') and done.out.count(b'\n') == 1, done)
@@ -911,11 +916,28 @@ def completions():
         check(f'completion {shell}: {shell} takes it', (read.stdout, read.returncode), (b'', 0))
     for words, expected in ((['con'], ['convert']), (['shift', 'app'], ['append']), (['convert', '--samp'], ['--sampling']),
                             (['convert', '--sampling', ''], ['420', '422']), (['convert', '--matrix', 'bt2'], ['bt2020']), (['compare', '--pa'],
-                             ['--pairs-only'])):
+                             ['--pairs-only']), (['convert', '--sampling', '='], ['420', '422']), (['convert', '--matrix', '=', 'bt2'], ['bt2020'])):
         read = subprocess.run(['bash', '-c', COMPLETING, 'bash', path('completion.bash'), 'segvartin', *words], stdout=subprocess.PIPE,
                               stderr=subprocess.PIPE)
         check(f'bash completes {words}', ([word.strip() for word in read.stdout.decode().split()], read.stderr), (expected, b''))
     fails('completion for another shell', 'completion', 'csh', as_json=False)
+    if shutil.which('fish'):
+        fish_completes()
+
+
+def fish_completes():
+    folder = given['folder'] / 'completed'
+    folder.mkdir(exist_ok=True)
+    (folder / 'a.ppm').write_bytes(b'')
+    for line, expected in (('con', ['convert']), ('shift ', ['append', 'find', 'list', 'move', 'summary']), ('shift app', ['append']),
+                           ('convert --sampling ', ['420', '422']), ('convert --matrix=bt2', ['--matrix=bt2020']), ('convert --size ', []),
+                           ('convert ', ['a.ppm']), ('convert a.ppm --to shift ', ['a.ppm']), ('convert a.ppm --to shift --pl', ['--plain']),
+                           ('convert a.ppm -o ', ['a.ppm']), ('digest compare --pa', []), ('compare --pa', ['--pairs-only']),
+                           ('completion ', ['bash', 'fish', 'zsh'])):
+        words = ['fish', '--no-config', '-c', 'source $argv[1]; complete -C $argv[2]', path('completion.fish'), f'segvartin {line}']
+        read = subprocess.run(words, stdout=subprocess.PIPE, stderr=subprocess.PIPE, cwd=folder)
+        offered = sorted(one.split('\t')[0] for one in read.stdout.decode().splitlines())
+        check(f'fish completes {line!r}', (offered, read.stderr), (expected, b''))
 
 
 def man_page():
@@ -933,7 +955,8 @@ def man_page():
         read = subprocess.run(['man', '--warnings', '-l', page], stdout=subprocess.PIPE, stderr=subprocess.PIPE, env=env)
         check('the man page by man, without warnings', (read.stderr, read.returncode), (b'', 0))
         text = read.stdout.decode('utf-8', 'replace')
-        for name in (*FLAGS, '--pairs-only', '--sampling', '--force'):
+        for name in (*FLAGS, '--pairs-only', '--sampling', '--force', 'standard input or output', 'ENVIRONMENT SEGVARTIN_CONFORMANCE',
+                     'EXIT STATUS'):
             holds(f'the man page has {name}', name in ' '.join(text.split()), text)
     else:
         left_out('the man page by man', 'man is not here')
