@@ -312,9 +312,10 @@ fn pam_header(input: &mut dyn BufRead) -> Result<Header, Failure> {
             word => {
                 let names = ["WIDTH", "HEIGHT", "DEPTH", "MAXVAL"];
                 let place = names.iter().position(|name| *name == word);
+                let place = &mut values[place.ok_or_else(wrong)?];
                 let mut digits = value.as_bytes();
                 let number = number(&mut digits)?.filter(|_| digits.is_empty());
-                let second = values[place.ok_or_else(wrong)?].replace(number.ok_or_else(wrong)?);
+                let second = place.replace(number.ok_or_else(wrong)?);
                 if second.is_some() {
                     return Err(wrong());
                 }
