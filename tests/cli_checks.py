@@ -114,7 +114,7 @@ def parsed(name, text):
     return value
 
 
-# ---- errors: standard error has two lines at most, which begin with the program's name and its subcommand
+# ---- errors: standard error has two lines: one that begins with the program's name and its subcommand, and what to try
 
 # Each refusal's words
 REFUSALS = {
@@ -153,11 +153,11 @@ def fails(name, *words, says=(), number=None, expected=None, received=None, file
     text = done.err.decode('utf-8', 'surrogateescape')
     lines = text.splitlines()
     start = f'segvartin {command}: ' if command else 'segvartin'
-    holds(f'{name}: one line or two, the first of which begins with {start!r}', 1 <= len(lines) <= 2 and lines[0].startswith(start), text)
+    holds(f'{name}: a line that begins with {start!r}', bool(lines) and lines[0].startswith(start), text)
+    holds(f'{name}: a second line that says what to try', len(lines) == 2 and lines[1].startswith('  try: ') and len(lines[1]) > 8, text)
     if number is not None:
         end = f'refused {number}, {REFUSALS[number]}: expected {expected or 0}, received {received or 0}'
         holds(f'{name}: a first line that ends in {end!r}', bool(lines) and lines[0].endswith(end), text)
-        holds(f'{name}: a second line that says what to try', len(lines) == 2 and lines[1].startswith('  try: '), text)
     else:
         holds(f'{name}: no refusal of the library', 'refused' not in text, text)
     for said in says:
@@ -190,8 +190,7 @@ def fails_in_json(name, words, command, says, number, expected, received, file, 
         check(f'{name}, --json: its message', error.get('message'), REFUSALS[number])
     if number is not None or expected is not None:
         check(f'{name}, --json: expected and received', (error.get('expected'), error.get('received')), (expected or 0, received or 0))
-    if number is not None:
-        holds(f'{name}, --json: what to try', isinstance(error.get('try'), str) and error['try'] != '', error)
+    holds(f'{name}, --json: what to try', isinstance(error.get('try'), str) and error['try'] != '', error)
     if file is not None:
         check(f'{name}, --json: its file', error.get('file'), str(file))
 

@@ -149,6 +149,7 @@ def wrong_flags():
     fails('standard output without --to', 'convert', picture, '-o', '-', says=['--to'])
     fails('no output', 'convert', picture, says=['-o'])
     fails('no input', 'convert', '-o', out, keeps=[out])
+    fails('a value where there is none', 'convert', picture, '-o', out, '--force=1', keeps=[out], says=['--force'])
     fails('a flag without its value', 'convert', picture, '-o', as_json=False)
     fails('a flag without its value, at the end', 'convert', picture, '-o', out, '--sampling', keeps=[out], as_json=False)
     makes('--to before the ending', fresh('out.y4m'), black, 'convert', '--to', 'yuv', picture, '-o', path('out.y4m'))
@@ -182,6 +183,12 @@ NO_PICTURES = [
     ('P7 of depth 2', PAM % (2, b'GRAYSCALE_ALPHA')),
     ('P7 of RGB and depth 4', PAM % (4, b'RGB')),
     ('P7 without a width', (PAM % (3, b'RGB')).replace(b'WIDTH 1\n', b'')),
+    ('P7 with two numbers in a line', (PAM % (3, b'RGB')).replace(b'WIDTH 1\n', b'WIDTH 1 1\n')),
+    ('P7 with a number and letters', (PAM % (3, b'RGB')).replace(b'WIDTH 1\n', b'WIDTH 1 x\n')),
+    ('P7 with two widths', (PAM % (3, b'RGB')).replace(b'WIDTH 1\n', b'WIDTH 1\nWIDTH 1\n')),
+    ('P7 with two kinds', (PAM % (3, b'RGB')).replace(b'ENDHDR', b'TUPLTYPE RGB\nENDHDR')),
+    ('P7 with a word behind its end', (PAM % (3, b'RGB')).replace(b'ENDHDR\n', b'ENDHDR x\n')),
+    ('P7 with a width of nothing', (PAM % (3, b'RGB')).replace(b'WIDTH 1\n', b'WIDTH\n')),
     ('P7 without an end', (PAM % (3, b'RGB')).replace(b'ENDHDR\n', b'') + b'#' * 100000),
 ]
 
@@ -238,7 +245,8 @@ def broken_places():
             fails(f'{name} in {words[0]}', 'shift', *words, file=place, keeps=[moved])
     rgb = bytes(range(18))
     picture = write('picture.ppm', files.ppm(3, 2, rgb))
-    fails('an output in a folder that is not there', 'convert', picture, '--to=yuv', '-o', nowhere, file=nowhere)
+    fails('an output in a folder that is not there', 'convert', picture, '--to=yuv', '-o', nowhere, file=nowhere, says=['a folder that exists'])
+    fails('append in a folder that is not there', 'shift', 'append', nowhere, picture, '--crossing=1', file=nowhere, says=['a folder that exists'])
     fails('a folder as output', 'convert', picture, '--to=yuv', '-f', '-o', given['folder'])
     write('out.yuv', OLD)
     fails('an output that is there', 'convert', picture, '-o', out, keeps=[out], says=['--force'], file=out)
@@ -297,6 +305,10 @@ def unreadable():
         fails('a folder that may not be written', 'convert', shown, '-f', '-o', closed / 'out.yuv', says=['ermission'], **words)
         check('a folder that may not be written: the old file', (closed / 'out.yuv').read_bytes(), OLD)
         closed.chmod(0o755)
+        kept = folder / 'kept.shift'
+        kept.write_bytes(files.shift_file([]))
+        kept.chmod(0o444)
+        fails('append to a file that may not be written', 'shift', 'append', kept, shown, '--crossing=1', says=['ermission'], keeps=[kept], **words)
 
 
 # ---- how input comes
@@ -356,6 +368,9 @@ def memory():
         check(f'{name}: how it ends', ended(child), (b'', 0))
         holds(f'{name}: in memory at most {most >> 10} KiB; planes are {size >> 10}, RGB {3 * w * h >> 10}', int(taken) <= most >> 10, taken)
     fresh('out.data')
+    little = {'preexec_fn': lambda: resource.setrlimit(resource.RLIMIT_AS, (1 << 30, 1 << 30))}
+    fails('rows that there is no memory for', 'convert', '--from=raw', '--size=1x2', '--stride=4294967295', '-', '-o', fresh('out.yuv'), feed=b'123',
+          keeps=[path('out.yuv')], says=['memory'], **little)
 
 
 # ---- writes that are interrupted
@@ -410,14 +425,15 @@ def interruptions():
                     place.write_bytes(day if what == 'append' else OLD)
                 before = place.read_bytes() if old else None
                 child = feeding(words, head + half)
-                waited(parts, 0.5)
+                waited(parts)
                 begun = parts()
+                check(f'{name} in the midst of {what}: it has begun', len(begun), 1)
                 child.send_signal(number)
                 waited(lambda: child.poll() is not None)
                 err, status = ended(child)
                 check(f'{name} in the midst of {what}, {"over an old file" if old else "a new file"}: how it ends', (err, status), (b'', -number))
                 check(f'{name} in the midst of {what}: the file', place.read_bytes() if place.exists() else None, before)
-                check(f'{name} in the midst of {what}: nothing left over (begun: {begun})', parts(), [])
+                check(f'{name} in the midst of {what}: nothing left over', parts(), [])
     # An input that ends in the midst
     child = feeding(['convert', '-', '-f', '-o', write('out.yuv', OLD)], head + half)
     err, status = ended(child)
@@ -493,8 +509,100 @@ def synced():
         name = ' '.join(map(str, words[:2]))
         check(f'{name}: so many files take a name', made.count('rename'), count)
         before = [made[:k].count('sync') for k, call in enumerate(made) if call == 'rename']
-        holds(f'{name}: each is synced before', all(synced_ > k for k, synced_ in enumerate(before)), made)
+        holds(f'{name}: all are synced before the first of them does', before[:1] == [count], made)
     fresh('day.shift.summary')
+
+
+# ---- two runs at once, and what comes meanwhile
+
+def together():
+    """Runs that write one file at once; new files of other runs beside it; a file that comes while another is written."""
+    rgb = numbers(20).randbytes(18)
+    picture, made = write('picture.ppm', files.ppm(3, 2, rgb)), planes(3, 2, rgb)
+    for name in ('day.shift', 'd' * 230):
+        day = fresh(name)
+        fresh(f'{name}.summary')
+        for start in (0, 8):
+            children = [subprocess.Popen([given['program'], 'shift', 'append', day, picture, f'--crossing={start + k}'], stderr=subprocess.PIPE)
+                        for k in range(8)]
+            check(f'eight appends at once to {name[:9]}: how they end', [(child.communicate()[1], child.returncode) for child in children],
+                  8 * [(b'', 0)])
+            records = files.read_shift(day.read_bytes())[1]
+            check(f'eight appends at once to {name[:9]}: the records', sorted((one.crossing, one.planes) for one in records),
+                  [(k, made) for k in range(start + 8)])
+            if start == 0:
+                does(f'a summary of {name[:9]}', 'shift', 'summary', day)
+        check(f'eight appends at once to {name[:9]}: the summary', path(f'{name}.summary').read_bytes(), files.summary(day.read_bytes()))
+        check(f'eight appends at once to {name[:9]}: nothing left over', parts(), [])
+        fresh(name, f'{name}.summary')
+    # Names that a new file would have, of another machine's run with the same number, say
+    others = 'for end in part 0.part 1.part; do printf other > ".$0.$$.$end"; done; exec "$@"'
+    for words in (['-f'], []):
+        fresh('out.yuv')
+        done = run('-c', others, 'out.yuv', given['program'], 'convert', *words, picture, '-o', 'out.yuv', program='sh', cwd=given['folder'])
+        check(f'new files of another run {words}: the run', done, Run(b'', b'', 0))
+        left = [path(one) for one in parts()]
+        check(f'new files of another run {words}: they stay', [one.read_bytes() for one in left], 3 * [b'other'])
+        check(f'new files of another run {words}: the file', path('out.yuv').read_bytes(), made)
+        for one in left:
+            one.unlink()
+    comes_meanwhile(files.ppm(3, 2, rgb), made)
+
+
+def comes_meanwhile(data, made):
+    for words, kept in (([], True), (['-f'], False)):
+        child = feeding(['convert', '-', *words, '-o', fresh('out.yuv')], data[:-1])
+        waited(parts)
+        write('out.yuv', OLD)
+        child.stdin.write(data[-1:])
+        err, status = ended(child)
+        if kept:
+            holds('a file that came meanwhile: 2 and a line that says so', status == 2 and b'--force' in err, (err, status))
+        else:
+            check('a file that came meanwhile, by force', (err, status), (b'', 0))
+        check(f'a file that came meanwhile {words}: it', (path('out.yuv').read_bytes(), parts()), (OLD if kept else made, []))
+
+
+def injected(faults, *words, **more):
+    """A run in which system calls fail, as strace lets them."""
+    watched = ['-f', '-o', path('strace.log'), '-e', 'trace=link,linkat,rename,renameat,renameat2', '-e', f'inject={faults}']
+    return run(*watched, given['program'], *words, program='strace', **more)
+
+
+def failing_places():
+    """A new file that is complete and cannot take its place, and a report that cannot be printed behind one that did."""
+    rgb = numbers(21).randbytes(18)
+    picture, made = write('picture.ppm', files.ppm(3, 2, rgb)), planes(3, 2, rgb)
+    if shutil.which('strace') is None:
+        left_out('files that cannot take their places', 'strace is not here')
+    else:
+        for error in ('EPERM', 'EOPNOTSUPP'):
+            done = injected(f'link,linkat:error={error}', 'convert', picture, '-o', fresh('out.yuv'))
+            check(f'no hard links ({error})', (done, path('out.yuv').read_bytes(), parts()), (Run(b'', b'', 0), made, []))
+        done = injected('link,linkat:error=EIO', 'convert', picture, '-o', fresh('out.yuv'))
+        check('a place that cannot be taken', (done.out, done.status, path('out.yuv').exists(), parts()), (b'', 2, False, []))
+        data = some_file(numbers(22), 3, 5, True)
+        for which, day_grows in ((1, False), (2, True)):
+            day, beside = write('day.shift', data), write('day.shift.summary', files.summary(data))
+            done = injected(f'rename,renameat,renameat2:error=EIO:when={which}', 'shift', 'append', day, picture, '--crossing=1')
+            check(f'append, name {which} fails: status', (done.out, done.status), (b'', 2))
+            check(f'append, name {which} fails: the record is there', len(files.read_shift(day.read_bytes())[1]), 4 if day_grows else 3)
+            check(f'append, name {which} fails: the summary, nothing left over', (beside.read_bytes(), parts()), (files.summary(data), []))
+            told = f'{day} has its records'.encode(), f'try: segvartin shift summary {day}\n'.encode()
+            check(f'append, name {which} fails: whether it is said that the record is there', [one in done.err for one in told], 2 * [day_grows])
+        fresh('day.shift.summary', 'strace.log')
+    for words, output in ((['convert', '--json', picture, '-o', fresh('out.yuv')], path('out.yuv')),
+                          (['shift', 'append', '--json', fresh('new.shift'), picture, '--crossing=7'], path('new.shift')),
+                          (['shift', 'summary', '--json', path('new.shift')], path('new.shift.summary')),
+                          (['shift', 'find', path('new.shift'), '7', '-o', fresh('found.yuv')], path('found.yuv')),
+                          (['shift', 'move', '--json', path('plain.shift'), '--to=settings', '-o', fresh('moved.shift')], path('moved.shift'))):
+        write('plain.shift', files.shift_file([]))
+        with open('/dev/full', 'wb') as full:
+            done = run(*words, stdout=full)
+        check(f'{words[:2]}, a report that cannot be printed: the file', (output.exists(), done.status), (True, 2))
+        holds(f'{words[:2]}, a report that cannot be printed: what is said', b'is written' in done.err and os.fsencode(output.name) in done.err, done)
+        output.unlink() if output.name != 'new.shift' else None
+    fresh('new.shift')
 
 
 # ---- writes that fail
@@ -536,7 +644,7 @@ def failing_writes(folder):
     yield 'append of a file', day, ['shift', 'append', day, path('large.shift')]
     yield 'move', folder / 'moved.shift', ['shift', 'move', path('large.shift'), '-f', '-o', folder / 'moved.shift', '--to=settings']
     yield 'find', folder / 'found.yuv', ['shift', 'find', path('large.shift'), '5', '-f', '-o', folder / 'found.yuv']
-    yield 'summary', folder / 'made.summary', ['shift', 'summary', path('many.shift'), '-o', folder / 'made.summary']
+    yield 'summary', folder / 'made.summary', ['shift', 'summary', path('many.shift'), '-f', '-o', folder / 'made.summary']
 
 
 def full_disks():
@@ -585,7 +693,7 @@ def full_disks():
             done = run(*words, stdout=full)
         holds(f'{words[:2]} to a full device: 2 and a line', done.status == 2 and done.err.count(b'\n') in (1, 2), done)
     done = run('convert', '--to=yuv', picture, '-o', '/dev/full')
-    holds('convert -o /dev/full: 2 and a line', done.status == 2 and done.err.startswith(b'segvartin convert: '), done)
+    holds('convert -o /dev/full: 2 and a line', done.status == 2 and done.err.startswith(b'segvartin convert: ') and b'more room' in done.err, done)
     holds('/dev/full is still a device', stat.S_ISCHR(os.stat('/dev/full').st_mode), os.stat('/dev/full'))
     does('convert -o /dev/null', 'convert', '--to=yuv', picture, '-o', '/dev/null')
     holds('/dev/null is still a device', stat.S_ISCHR(os.stat('/dev/null').st_mode), os.stat('/dev/null'))
@@ -639,6 +747,20 @@ def modes_and_links():
         does(name, *words)
         check(f'{name}: modes', [stat.S_IMODE(one.stat().st_mode) for one in (day, beside)], [0o640, 0o640])
         fresh('day.shift', 'day.shift.summary')
+    if os.geteuid() == 0:
+        for owner in ((1234, 4321), (0, 0)):
+            out = write('out.yuv', OLD)
+            os.chown(out, *owner)
+            out.chmod(0o4750)
+            makes(f'over a file of {owner}', out, made, 'convert', '-f', picture, '-o', out)
+            about = out.stat()
+            check(f'over a file of {owner}: owner, group and mode', (about.st_uid, about.st_gid, stat.S_IMODE(about.st_mode)), (*owner, 0o4750))
+    out = write('out.yuv', OLD)
+    out.chmod(0o640)
+    child = feeding(['convert', '-', '-f', '-o', out], picture.read_bytes()[:-1])
+    waited(parts)
+    holds('a new file may be read by no more people than the old one', all(not path(one).stat().st_mode & 0o27 for one in parts()), parts())
+    ended(child)
     # links
     folder = given['folder'] / 'linked'
     folder.mkdir(exist_ok=True)
@@ -897,4 +1019,4 @@ def interrupted_move(big):
 
 
 ALL = [refusals, wrong_flags, short_pictures, broken_pictures, broken_places, unreadable, pieces_of_input, pipes_for_files, memory, interruptions,
-       synced, full_disks, closed_pipes, modes_and_links, shorter_input, progress, names, large_files]
+       synced, together, failing_places, full_disks, closed_pipes, modes_and_links, shorter_input, progress, names, large_files]

@@ -3,6 +3,7 @@ import hashlib
 import json
 import os
 import random
+import re
 import shutil
 import struct
 import subprocess
@@ -318,8 +319,10 @@ def digest():
     text = ''.join(f'{sha(one)}  {name}\n' for one, name in zip(made, names)).encode()
     does('digests of pictures', 'digest', *names, out=text)
     does('digest of a pipe', 'digest', '-', out=f'{sha(made[0])}  -\n'.encode(), feed=names[0].read_bytes())
-    does('digests of several pictures in one file', 'digest', write('stream', b''.join(one.read_bytes() for one in names)),
-         out=''.join(f'{sha(one)}  {path("stream")}\n' for one in made).encode())
+    stream = write('stream', b''.join(one.read_bytes() for one in names))
+    for name, more in ((stream, {}), ('-', {'feed': stream.read_bytes()})):
+        does(f'digests of several pictures in {name}', 'digest', name, **more, out=''.join(f'{sha(one)}  {name}#{k}\n' for k,
+             one in enumerate(made)).encode())
     words = flags(1, 1, 1, 1)
     does('digest with flags', 'digest', *words, '--window=3x2+2+1', names[0],
          out=f'{sha(planes(3, 2, files.rectangle(pictures[0], w, 3, 2, 2, 1), 1, 1, 1, 1))}  {names[0]}\n'.encode())
@@ -359,6 +362,14 @@ def digest():
         check(f'digests of planes of {one.name} in JSON', value[0] if isinstance(value, list) and value else value, expected)
     for one in (names[0], y4m):
         fails(f'--crossing with {one.name}', 'digest', '--crossing=1', one)
+    # Planes in a file are not converted: flags that say how want a picture among the inputs.
+    for word in ('--sampling=422', '--range=full', '--matrix=bt709', '--transfer=rec709', '--tables=nearest', '--window=1x1+0+0', '--size=6x5'):
+        for some in ([y4m], [other], [path('d.shift')], [y4m, path('d.shift')]):
+            fails(f'{word} with {[one.name for one in some]}', 'digest', word, *some, says=[word.split('=')[0]], as_json=len(some) > 1)
+    does('flags with a picture and a Y4M file', 'digest', '--sampling=422', y4m, names[0],
+         out=''.join([*(f'{sha(one)}  {y4m}#{k}\n' for k, one in enumerate(made)), f'{sha(planes(w, h, pictures[0], 1))}  {names[0]}\n']).encode())
+    for command in (['digest'], ['convert', '--to=yuv', '-o', fresh('out.yuv')]):
+        fails(f'{command[0]} - -', *command, '-', '-', feed=names[0].read_bytes(), says=['standard input', 'once'], keeps=[path('out.yuv')])
     for name, call, answer in vectors('y4m'):
         if call[0] != 'y4m-read' or call[1] != '0':
             continue
@@ -510,6 +521,10 @@ def shift_append():
         for name, words in (('a Y4M file of two pictures', [two, '--crossing=9']), ('a Y4M file without a crossing', [path('one.y4m')]),
                             ('a picture without a crossing', [picture])):
             fails(f'{name}, settings {settings}', 'shift', 'append', path('day.shift'), *words, keeps=[path('day.shift')])
+    for word in ('--sampling=420', '--range=full', '--window=1x1+0+0', '--stride=15'):
+        for words in ([path('one.y4m'), '--crossing=1'], [path('other.shift')]):
+            fails(f'{word} with {words[0].name}', 'shift', 'append', path('day.shift'), word, *words, keeps=[path('day.shift')],
+                  says=[word.split('=')[0]])
     wide = write('wide.y4m', files.y4m_file(w, h, 1, bytes(files.picture_size(w, h, 1))))
     for words in ([picture, '--sampling=422'], [wide]):
         name = f'4:2:2 to a file without settings, {words[0].name}'
@@ -517,7 +532,8 @@ def shift_append():
     fails('--plain for a file with settings', 'shift', 'append', write('set.shift', some_file(n, 1, 2, True)), picture, '--crossing=1', '--plain',
           keeps=[path('set.shift')])
     full = write('full.shift', some_file(n, 4096, 1, True))
-    fails('one record more than 4,096', 'shift', 'append', full, picture, '--crossing=1', keeps=[full], number=15)
+    for words in ([picture, '--crossing=1'], [full]):
+        fails(f'{words[0].name}, more than 4,096 records', 'shift', 'append', full, *words, keeps=[full], number=15, file=full, says=['4096 records'])
 
 
 def shift_append_summary():
@@ -534,8 +550,8 @@ def shift_append_summary():
         count = len(files.read_shift(day.read_bytes())[1])
         check(f'so many records now, settings {settings}', count, 6 + 1 + 4)
         good = beside.read_bytes()
-        for name, wrong in (('a byte another', good[:-1] + bytes([good[-1] ^ 1])), ('a byte less', good[:-1]), ('nothing', b''),
-                            ('entries exchanged', good[13:26] + good[:13] + good[26:])):
+        for name, wrong in (('a byte another', good[:-1] + bytes([good[-1] ^ 1])), ('a byte less', good[:-1]), ('a byte more', good + b'\0'),
+                            ('an entry more', good + good[-13:]), ('nothing', b''), ('entries exchanged', good[13:26] + good[:13] + good[26:])):
             beside.write_bytes(wrong)
             for what, words in (('a picture', [picture, '--crossing=1']), ('a shift file', [path('other.shift')])):
                 fails(f'a summary with {name}, {what}, settings {settings}', 'shift', 'append', day, *words, number=17, keeps=[day, beside])
@@ -561,7 +577,8 @@ def shift_find():
         expected = {'file': str(day), 'form': 'with settings' if settings else 'without settings', 'records': found}
         check(f'find --json, settings {settings}', value, expected)
         good = files.summary(data)
-        for name, wrong in (('a byte another', good[:-1] + bytes([good[-1] ^ 1])), ('a byte less', good[:-1]), ('nothing', b'')):
+        for name, wrong in (('a byte another', good[:-1] + bytes([good[-1] ^ 1])), ('a byte less', good[:-1]), ('a byte more', good + b'\0'),
+                            ('nothing', b'')):
             beside = write('day.shift.summary', wrong)
             fails(f'find by a summary with {name}, settings {settings}', 'shift', 'find', day, '3', number=17, says=['shift summary'],
                   keeps=[day, beside])
@@ -607,7 +624,14 @@ def shift_summary():
             makes(name, fresh('day.shift.summary'), made, 'shift', 'summary', day)
             check(f'{name}, checked: status', run('shift', 'summary', '--check', day)[1:], (b'', 0))
             makes(f'{name}, to another file', fresh('other.summary'), made, 'shift', 'summary', day, '-o', path('other.summary'))
+            for other in (write('other.summary', b'old'), day):
+                fails(f'{name}, to a file that is there', 'shift', 'summary', day, '-o', other, says=['--force'], keeps=[other, day])
+            makes(f'{name}, to a file that is there, by force', path('other.summary'), made, 'shift', 'summary', day, '-f', '-o',
+                  path('other.summary'))
             does(f'{name}, to standard output', 'shift', 'summary', day, '-o', '-', out=made)
+            for more in (b'\0', bytes(13)):
+                write('day.shift.summary', made + more)
+                check(f'{name} with {len(more)} bytes more, checked: status', run('shift', 'summary', '--check', day)[1:], (b'', 1))
             write('day.shift.summary', b'old')
             if count:
                 done = run('shift', 'summary', '--check', day)
@@ -642,13 +666,15 @@ def check_vector(name, given_bytes, _, answer):
         fails(name, 'shift', 'summary', '--check', day, '-o', own, number=15, file=day, keeps=[own], as_json=False)
     else:
         done = run('shift', 'summary', '--check', day, '-o', own)
-        check(name, (done.status, own.read_bytes()), (0 if answer[1] == '1' else 1, given_bytes[1]))
+        is_exact = len(given_bytes[1]) == len(files.summary(given_bytes[0]))
+        check(name, (done.status, own.read_bytes()), (0 if answer[1] == '1' and is_exact else 1, given_bytes[1]))
 
 
 def find_vector(name, given_bytes, call, answer):
     day, own = write('vector.shift', given_bytes[0]), write('vector.summary', given_bytes[1])
-    if answer[0]:
-        fails(name, 'shift', 'find', day, call[1], '--summary', own, number=answer[0], as_json=False)
+    is_long = answer[0] == 0 and len(given_bytes[1]) > len(files.summary(given_bytes[0]))
+    if answer[0] or is_long:
+        fails(name, 'shift', 'find', day, call[1], '--summary', own, number=answer[0] or 17, as_json=False)
     else:
         done = run('shift', 'find', day, call[1], '--summary', own)
         if answer[1] == '0':
@@ -800,6 +826,10 @@ def rules_check():
     for words in (['/no/such/program'], [frame, '--only=nothing'], [frame, '--only=bands']):
         holds(f'rules check {words}: nothing is judged', (done := run('rules', 'check', *words)).status == 2 and done.err, done)
     fails('rules check of nothing', 'rules', 'check', as_json=False)
+    for words in (['rules', 'check', frame], ['help'], ['completion', 'bash']):
+        done = run(*words, '--json')
+        error = parsed(f'{words[0]} --json', done.err)
+        check(f'{words[0]} --json: an unknown flag', (done.out, 'an unknown flag' in str(error), done.status), (b'', True, 2))
 
 
 CONVERSION = '--from --size --pix-fmt --stride --window --sampling --range --matrix --kr --kb --transfer --tables'
@@ -808,11 +838,13 @@ FLAGS = {
     'digest': f'{CONVERSION} --planes --crossing --json',
     'shift list': '--json',
     'shift append': f'{CONVERSION} --crossing --plain --json',
-    'shift find': '--summary --output --all --force --json',
-    'shift summary': '--output --check --json',
+    'shift find': '--summary --output --to --all --force --json',
+    'shift summary': '--output --force --check --json',
     'shift move': '--output --to --force --json',
     'compare': '--pairs-only --json',
     'rules check': '--lines --counts --only',
+    'help': '--man',
+    'completion': '',
 }
 
 
@@ -828,15 +860,23 @@ def helps():
             done = run(*name.split(), flag)
             texts.append(done)
             check(f'{name} {flag}: status', (done.err, done.status), (b'', 0))
-            for one in known.split():
-                holds(f'{name} {flag}: {one} is in it', one in done.out.decode(), done.out)
+            shown = re.findall(r'^  (?:-\w, )?(--[\w-]+)', done.out.decode(), re.M)
+            check(f'{name} {flag}: its flags', sorted(shown), sorted([*known.split(), '--help']))
+            has_files = name.split()[0] not in ('rules', 'help', 'completion')
+            check(f'{name} {flag}: whether - is said', b'standard input or output' in done.out, has_files)
         check(f'{name}: -h is --help', texts[0], texts[1])
     done = run('--version')
     holds('--version', done.status == 0 and done.err == b'' and done.out.startswith(b'segvartin ') and done.out.count(b'\n') == 1, done)
     done = run()
     check('no words: status', done.status, 2)
-    for words in (['conver'], ['shift', 'lst'], ['shift'], ['--nothing'], ['rules']):
+    for words in (['conver'], ['shift', 'lst'], ['--nothing']):
         fails(f'{words}', *words, as_json=False)
+    for group in ('shift', 'rules'):
+        fails(group, group, as_json=False, says=[f'try: segvartin {group} --help'])
+        for words in ([group, '--help'], [group, '-h'], ['help', group]):
+            done = run(*words)
+            listed = [name for name in FLAGS if f'  {name} ' in done.out.decode()]
+            check(f'{words}: its commands', (listed, done.err, done.status), ([name for name in FLAGS if name.startswith(f'{group} ')], b'', 0))
     for name, flag, near in (('convert', '--samplng', '--sampling'), ('convert', '--widow', '--window'), ('convert', '--forse', '--force'),
                              ('compare', '--pair-only', '--pairs-only'), ('digest', '--plane', '--planes'), ('shift find', '--sumary', '--summary'),
                              ('shift move', '--jsn', '--json')):
@@ -876,11 +916,28 @@ def completions():
         check(f'completion {shell}: {shell} takes it', (read.stdout, read.returncode), (b'', 0))
     for words, expected in ((['con'], ['convert']), (['shift', 'app'], ['append']), (['convert', '--samp'], ['--sampling']),
                             (['convert', '--sampling', ''], ['420', '422']), (['convert', '--matrix', 'bt2'], ['bt2020']), (['compare', '--pa'],
-                             ['--pairs-only'])):
+                             ['--pairs-only']), (['convert', '--sampling', '='], ['420', '422']), (['convert', '--matrix', '=', 'bt2'], ['bt2020'])):
         read = subprocess.run(['bash', '-c', COMPLETING, 'bash', path('completion.bash'), 'segvartin', *words], stdout=subprocess.PIPE,
                               stderr=subprocess.PIPE)
         check(f'bash completes {words}', ([word.strip() for word in read.stdout.decode().split()], read.stderr), (expected, b''))
     fails('completion for another shell', 'completion', 'csh', as_json=False)
+    if shutil.which('fish'):
+        fish_completes()
+
+
+def fish_completes():
+    folder = given['folder'] / 'completed'
+    folder.mkdir(exist_ok=True)
+    (folder / 'a.ppm').write_bytes(b'')
+    for line, expected in (('con', ['convert']), ('shift ', ['append', 'find', 'list', 'move', 'summary']), ('shift app', ['append']),
+                           ('convert --sampling ', ['420', '422']), ('convert --matrix=bt2', ['--matrix=bt2020']), ('convert --size ', []),
+                           ('convert ', ['a.ppm']), ('convert a.ppm --to shift ', ['a.ppm']), ('convert a.ppm --to shift --pl', ['--plain']),
+                           ('convert a.ppm -o ', ['a.ppm']), ('digest compare --pa', []), ('compare --pa', ['--pairs-only']),
+                           ('completion ', ['bash', 'fish', 'zsh'])):
+        words = ['fish', '--no-config', '-c', 'source $argv[1]; complete -C $argv[2]', path('completion.fish'), f'segvartin {line}']
+        read = subprocess.run(words, stdout=subprocess.PIPE, stderr=subprocess.PIPE, cwd=folder)
+        offered = sorted(one.split('\t')[0] for one in read.stdout.decode().splitlines())
+        check(f'fish completes {line!r}', (offered, read.stderr), (expected, b''))
 
 
 def man_page():
@@ -898,7 +955,8 @@ def man_page():
         read = subprocess.run(['man', '--warnings', '-l', page], stdout=subprocess.PIPE, stderr=subprocess.PIPE, env=env)
         check('the man page by man, without warnings', (read.stderr, read.returncode), (b'', 0))
         text = read.stdout.decode('utf-8', 'replace')
-        for name in (*FLAGS, '--pairs-only', '--sampling', '--force'):
+        for name in (*FLAGS, '--pairs-only', '--sampling', '--force', 'standard input or output', 'ENVIRONMENT SEGVARTIN_CONFORMANCE',
+                     'EXIT STATUS'):
             holds(f'the man page has {name}', name in ' '.join(text.split()), text)
     else:
         left_out('the man page by man', 'man is not here')

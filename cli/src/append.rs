@@ -7,9 +7,10 @@ use crate::json::Json;
 use crate::maps::{Joined, Map, MapMut};
 use crate::picture::Pictures;
 use crate::progress::Progress;
-use crate::report::Failure;
+use crate::report::{Failure, shown};
 use crate::room::{places_in, planes_at};
 use crate::settings::{Kind, Settings};
+use crate::shift::exact_summary;
 use segvartin::{
     RecordSettings, SUMMARY_ENTRY, ShiftFile, ShiftForm, Y4mFile, YuvChromaSubsampling, YuvError,
     YuvPlanarImageMut, settings_file_size, settings_record, settings_record_size, shift_file_size,
@@ -33,16 +34,21 @@ impl Old {
 
     fn open(name: &OsStr, form: ShiftForm) -> Result<Old, Failure> {
         if name == "-" {
-            return Err(
-                Failure::new("the file that grows", "a name", "-").hint("the name of a file")
-            );
+            return Err(Failure::new(
+                "the file that grows",
+                "a name",
+                "-",
+                "the name of a file",
+            ));
         }
         match fs::metadata(name) {
             Err(error) if error.kind() == std::io::ErrorKind::NotFound => Ok(Old::none(form)?),
-            _ => Ok(Old {
-                map: Some(files::open_whole(name)?),
-                empty: vec![],
-            }),
+            _ => {
+                let map = Some(files::open_whole(name)?);
+                // The new file could take its place all the same, which is not this user's to do.
+                files::check_writable(name)?;
+                Ok(Old { map, empty: vec![] })
+            }
         }
     }
 
@@ -82,7 +88,15 @@ fn grow(
     // The records stand at the end of the file.
     let first = joined.len() - room - file.records_as_bytes().len();
     let records = &joined[first..];
-    let mut map = output.map(file_size(file.form(), records)?)?;
+    // Records that are right are refused together where they are too many.
+    let size = file_size(file.form(), records).map_err(|refusal| {
+        let hint = format!(
+            "another FILE, since this one has {} records and 4096 are the most",
+            file.len()
+        );
+        Failure::from(refusal).of(output.name()).hint(hint)
+    })?;
+    let mut map = output.map(size)?;
     write_file(file.form(), records, &mut map)?;
     Ok(map)
 }
@@ -123,10 +137,13 @@ fn add_record(
     let (form, count) = (old.file()?.form(), old.file()?.len());
     if form == ShiftForm::WithoutSettings && blank.settings.sampling != YuvChromaSubsampling::Yuv420
     {
-        return Err(
-            Failure::new("a shift file without settings", "--sampling 420", "422")
-                .hint("--sampling 420, or a file with settings"),
-        );
+        let hint = "--sampling 420, or a file with settings";
+        return Err(Failure::new(
+            "a shift file without settings",
+            "--sampling 420",
+            "422",
+            hint,
+        ));
     }
     let put = |joined: &mut Joined| {
         blank.put(form, joined.room())?;
@@ -153,7 +170,7 @@ pub fn add_picture(
 ) -> Result<MapMut, Failure> {
     let mut pictures = Pictures::of(input, is_raw, settings)?;
     let Some(picture) = pictures.next()? else {
-        return Err(Failure::of_sizes("pictures", 1, 0));
+        return Err(Failure::of_sizes("pictures", 1, 0, "one picture"));
     };
     let frame = picture.frame;
     let settings = RecordSettings::of(&frame.description);
@@ -171,8 +188,13 @@ pub fn add_picture(
 fn add_y4m(old: &Old, bytes: &[u8], crossing: u32, output: &Output) -> Result<MapMut, Failure> {
     let file = Y4mFile::open(bytes)?;
     let (Some(picture), 1) = (file.picture(0), file.len()) else {
-        return Err(Failure::of_sizes("pictures of the Y4M file", 1, file.len())
-            .hint("a Y4M file of one picture"));
+        let hint = "a Y4M file of one picture";
+        return Err(Failure::of_sizes(
+            "pictures of the Y4M file",
+            1,
+            file.len(),
+            hint,
+        ));
     };
     let image = YuvPlanarImageMut::alloc(file.width(), file.height(), file.sampling());
     let blank = Blank {
@@ -194,12 +216,14 @@ fn add_records(old: &Old, bytes: &[u8], output: &Output) -> Result<MapMut, Failu
     let file = ShiftFile::open_any(bytes)?;
     let form = old.file()?.form();
     if file.form() != form {
-        let failure = Failure::new(
+        let hint = "segvartin shift move, which writes it in the other form";
+        let [expected, received] = [form, file.form()].map(form_name);
+        return Err(Failure::new(
             "the form of the shift file",
-            form_name(form),
-            form_name(file.form()),
-        );
-        return Err(failure.hint("segvartin shift move, which writes it in the other form"));
+            expected,
+            received,
+            hint,
+        ));
     }
     let records = file.records_as_bytes();
     let put = |joined: &mut Joined| {
@@ -236,8 +260,8 @@ fn grown_summary(
     new: &ShiftFile<'_>,
     summary: &[u8],
 ) -> Result<Vec<u8>, YuvError> {
-    let mut grown = summary.to_vec();
-    grown.resize(new.summary_size().max(summary.len()), 0);
+    let mut grown = exact_summary(old, summary)?.to_vec();
+    grown.resize(new.summary_size(), 0);
     match new.records().nth(old.len()) {
         Some(record) if new.summary_size() == old.summary_size() + SUMMARY_ENTRY => {
             old.update_summary(record.bytes, &mut grown)?;
@@ -248,25 +272,24 @@ fn grown_summary(
         }
         _ => return Err(YuvError::SummaryMismatch),
     }
-    grown.truncate(new.summary_size());
     Ok(grown)
 }
 
 pub fn append(arguments: &Arguments) -> Result<u8, Failure> {
     let settings = Settings::of(arguments)?;
     let (name, input) = (&arguments.operands[0], &arguments.operands[1]);
+    settings.check_conversion_flags(&arguments.operands[1..])?;
+    // From before the old file is read until the new one stands there, or one of two would lose its record. Who reads a slow pipe lets others wait.
+    let _alone = files::alone_in_folder(name)?;
     let old = Old::open(name, new_form(arguments))?;
     let file = old
         .file()
         .map_err(|refusal| Failure::from(refusal).of(name))?;
     if arguments.has("plain") && file.form() == ShiftForm::WithSettings {
-        return Err(
-            Failure::new("--plain", "a file without settings", "one with settings")
-                .of(name)
-                .hint("no --plain"),
-        );
+        let (expected, received) = ("a file without settings", "one with settings");
+        return Err(Failure::new("--plain", expected, received, "no --plain").of(name));
     }
-    let output = Output::create(name, true)?;
+    let mut output = Output::create(name, true)?;
     let progress = Progress::touched(
         arguments,
         2 * old.bytes().len() + files::total_size(&arguments.operands[1..]),
@@ -280,11 +303,20 @@ pub fn append(arguments: &Arguments) -> Result<u8, Failure> {
         ("records", Json::number(new.len())),
         ("bytes", Json::number(map.len())),
     ]);
-    output.finish_map(map)?;
-    summary.map_or(Ok(()), Output::finish)?;
+    output.sync_map(map)?;
+    if let Some(summary) = &summary {
+        summary.sync()?;
+    }
+    output.take_place()?;
+    if let Some(summary) = summary {
+        let done = format!("{} has its records, but not this summary", shown(name));
+        let hint = format!("segvartin shift summary {}", shown(name));
+        let placed = summary.take_place();
+        placed.map_err(|failure| failure.after(&done).hint(hint))?;
+    }
     drop(progress);
     if arguments.json() {
-        files::print(format!("{json}\n"))?;
+        files::report(name, json.line())?;
     }
     Ok(0)
 }
@@ -299,10 +331,8 @@ fn add_input(
     let (mut input, kind) = settings.open(name)?;
     match kind {
         Kind::Shift if arguments.has("crossing") => {
-            Err(
-                Failure::new("--crossing", "none, since the records have theirs", "one")
-                    .hint("no --crossing"),
-            )
+            let expected = "none, since the records have theirs";
+            Err(Failure::new("--crossing", expected, "one", "no --crossing"))
         }
         Kind::Shift => add_records(old, &input.whole()?, output),
         Kind::Y4m => add_y4m(old, &input.whole()?, needed_crossing(arguments)?, output),

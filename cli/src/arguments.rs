@@ -1,6 +1,6 @@
 //! The command line, read by the table of flags.rs.
 
-use crate::flags::{COMMANDS, Command, Flag, Value};
+use crate::flags::{COMMANDS, Command, Flag, Operand, Value};
 use crate::report::Failure;
 use std::ffi::{OsStr, OsString};
 use std::os::unix::ffi::OsStrExt;
@@ -48,8 +48,8 @@ impl Arguments {
         };
         let unknown = || {
             let expected = format!("--{name}, or a name that ends in .{}", words.join(" or ."));
-            let failure = Failure::new("what to write", &expected, "another name").of(file);
-            failure.hint(format!("--{name} {}", listed(words)))
+            let hint = format!("--{name} {}", listed(words));
+            Failure::new("what to write", &expected, "another name", hint).of(file)
         };
         words
             .iter()
@@ -66,8 +66,7 @@ impl Arguments {
     pub fn needed(&self, name: &str) -> Result<&OsStr, Failure> {
         let flag = self.command.flags().find(|flag| flag.name == name);
         let usage = flag.map(Flag::usage).unwrap_or_default();
-        let missing =
-            || Failure::new("a flag is missing", &format!("--{name}"), "none").hint(usage);
+        let missing = || Failure::new("a flag is missing", &format!("--{name}"), "none", usage);
         self.value(name).ok_or_else(missing)
     }
 
@@ -84,20 +83,21 @@ impl Arguments {
         beside: Option<&[u8]>,
         words: &mut impl Iterator<Item = OsString>,
     ) -> Result<(), Failure> {
+        let wrong = |expected: &str, received: &str| {
+            Failure::new(
+                &format!("--{}", flag.name),
+                expected,
+                received,
+                flag.usage(),
+            )
+        };
         let value = match (&flag.value, beside) {
             (Value::Nothing, None) => OsString::new(),
             (Value::Nothing, Some(value)) => {
-                let value = String::from_utf8_lossy(value);
-                return Err(Failure::new(
-                    &format!("--{}", flag.name),
-                    "no value",
-                    &value,
-                ));
+                return Err(wrong("no value", &String::from_utf8_lossy(value)));
             }
             (_, Some(value)) => OsStr::from_bytes(value).to_owned(),
-            (value, None) => words
-                .next()
-                .ok_or_else(|| Failure::new(&format!("--{}", flag.name), &value.usage(), "none"))?,
+            (value, None) => words.next().ok_or_else(|| wrong(&value.usage(), "none"))?,
         };
         check(&format!("--{}", flag.name), &flag.value, &value)?;
         self.values.push((flag, value));
@@ -126,7 +126,14 @@ impl Arguments {
                 &expected
             };
             let hint = format!("segvartin {} --help", self.command.name);
-            return Err(Failure::new("operands", expected, &received).hint(hint));
+            return Err(Failure::new("operands", expected, &received, hint));
+        }
+        let is_file = |operand: &Operand| matches!(operand.value, Value::File(_));
+        let inputs = self.operands.iter().filter(|word| *word == "-").count();
+        if operands.iter().all(is_file) && inputs > 1 {
+            let hint = "one -, and names for the others";
+            let received = format!("{inputs} times");
+            return Err(Failure::new("-, standard input", "once", &received, hint));
         }
         let mut pairs = operands.iter().zip(&self.operands);
         pairs.try_for_each(|(operand, word)| check(operand.name, &operand.value, word))
@@ -138,8 +145,8 @@ fn check(name: &str, value: &Value, word: &OsStr) -> Result<(), Failure> {
     match value {
         Value::OneOf(words) if !words.iter().any(|one| word == *one) => {
             let received = word.to_string_lossy();
-            let hint = nearest(&received, words.iter().copied());
-            Err(Failure::new(name, &listed(words), &received).hint(format!("{name} {hint}")))
+            let hint = format!("{name} {}", nearest(&received, words.iter().copied()));
+            Err(Failure::new(name, &listed(words), &received, hint))
         }
         _ => Ok(()),
     }
@@ -158,12 +165,9 @@ pub fn number(name: &str, word: &OsStr) -> Result<u32, Failure> {
         .to_str()
         .filter(|word| word.bytes().all(|byte| byte.is_ascii_digit()));
     let wrong = || {
-        Failure::new(
-            name,
-            "a number from 0 to 4294967295",
-            &word.to_string_lossy(),
-        )
-        .hint(format!("{name} 1400"))
+        let expected = "a number from 0 to 4294967295";
+        let received = word.to_string_lossy();
+        Failure::new(name, expected, &received, format!("{name} 1400"))
     };
     digits
         .and_then(|digits| digits.parse().ok())
@@ -195,7 +199,7 @@ pub fn parse(words: Vec<OsString>) -> Result<Asked, (&'static str, Failure)> {
         Some((group, _)) => match words.next() {
             Some(word) if is_help(&word) => return Ok(Asked::Help(group)),
             Some(word) => [first, word].join(OsStr::new(" ")),
-            None => first,
+            None => return Err(("", no_command(group))),
         },
     };
     let command = COMMANDS.iter().find(|command| name == command.name);
@@ -203,14 +207,26 @@ pub fn parse(words: Vec<OsString>) -> Result<Asked, (&'static str, Failure)> {
     parse_for(command, words).map_err(|failure| (command.name, failure))
 }
 
+/// Of all commands, or of a group of them.
+fn no_command(group: &str) -> Failure {
+    let help = ["segvartin", group, "--help"].join(" ").replace("  ", " ");
+    let expected = format!("a command of `{help}`");
+    Failure::new("the command", &expected, "none", help)
+}
+
 fn unknown_command(name: &OsStr) -> Failure {
-    let expected = "a command of `segvartin --help`";
     if name.is_empty() {
-        return Failure::new("the command", expected, "none").hint("segvartin --help");
+        return no_command("");
     }
     let received = name.to_string_lossy();
     let near = nearest(&received, COMMANDS.iter().map(|command| command.name));
-    Failure::new("the command", expected, &received).hint(format!("segvartin {near}"))
+    let expected = "a command of `segvartin --help`";
+    Failure::new(
+        "the command",
+        expected,
+        &received,
+        format!("segvartin {near}"),
+    )
 }
 
 fn parse_for(
@@ -279,7 +295,7 @@ fn unknown_flag(command: &Command, word: &[u8]) -> Failure {
         .unwrap_or_default();
     let near = nearest(name, command.flags().map(|flag| flag.name));
     let expected = format!("a flag of `segvartin {} --help`", command.name);
-    Failure::new("an unknown flag", &expected, &received).hint(format!("--{near}"))
+    Failure::new("an unknown flag", &expected, &received, format!("--{near}"))
 }
 
 /// The word that the fewest letters put in, left out or replaced make of this one.

@@ -23,7 +23,7 @@ pub fn run(arguments: &Arguments) -> Result<u8, Failure> {
         Failure::from(refused.error).of(&arguments.operands[side])
     })?;
     if arguments.json() {
-        files::print(format!("{}\n", as_json(&report)))?;
+        files::print(as_json(&report).line())?;
     } else {
         files::print(lines(&report))?;
     }

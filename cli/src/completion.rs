@@ -51,6 +51,8 @@ fn groups() -> Vec<(&'static str, String)> {
 const BASH_START: &str = r#"# bash completion of segvartin
 _segvartin() {
     local current=${COMP_WORDS[COMP_CWORD]} previous=${COMP_WORDS[COMP_CWORD-1]} command=${COMP_WORDS[1]} flags= first=2
+    # `--flag=value` is three words here.
+    if [[ $current == = ]]; then current=; elif [[ $previous == = ]]; then previous=${COMP_WORDS[COMP_CWORD-2]}; fi
 "#;
 
 const BASH_FLAGS: &str = r#"    esac
@@ -182,7 +184,13 @@ fn zsh_flag(flag: &Flag) -> String {
     let short = flag
         .short
         .map_or(String::new(), |short| format!(" '-{short}{about}'"));
-    format!("{short} '--{}{about}'", flag.name)
+    // The value is behind `=`, or the next word.
+    let equals = if matches!(flag.value, Value::Nothing) {
+        ""
+    } else {
+        "="
+    };
+    format!("{short} '--{}{equals}{about}'", flag.name)
 }
 
 fn zsh_operand(operand: &Operand) -> String {
@@ -201,41 +209,44 @@ fn zsh_value(value: &Value) -> String {
 
 // ---- fish
 
+const FISH_START: &str = r#"# fish completion of segvartin
+# Whether the words behind the program's name, before the cursor, begin with these
+function __segvartin_is
+    set -l words (commandline -opc)
+    set -l last (math (count $argv) + 1)
+    test "$words[2..$last]" = "$argv"
+end
+# Whether they are so many
+function __segvartin_has
+    test (count (commandline -opc)) -eq (math $argv + 1)
+end
+complete -c segvartin -f
+"#;
+
 fn fish() -> String {
-    let mut text = "# fish completion of segvartin\ncomplete -c segvartin -f\n".to_owned();
+    let mut text = FISH_START.to_owned();
     for (word, help) in first_words() {
         text += &format!(
-            "complete -c segvartin -n __fish_use_subcommand -a {word} -d '{}'\n",
+            "complete -c segvartin -n '__segvartin_has 0' -a {word} -d '{}'\n",
             fish_quoted(help)
         );
     }
     for (group, seconds) in groups() {
-        let seen = format!("{}; and not {}", fish_seen(group), fish_seen(&seconds));
-        text += &format!("complete -c segvartin -n '{seen}' -a '{seconds}'\n");
+        text += &format!(
+            "complete -c segvartin -n '__segvartin_is {group}; and __segvartin_has 1' -a '{seconds}'\n"
+        );
     }
     for command in COMMANDS {
-        let seen: Vec<_> = command.name.split(' ').map(fish_seen).collect();
-        let start = format!("complete -c segvartin -n '{}'", seen.join("; and "));
-        text.extend(
-            command
-                .flags()
-                .map(|flag| format!("{start}{}\n", fish_flag(flag))),
-        );
+        let start = format!("complete -c segvartin -n '__segvartin_is {}'", command.name);
+        let flags = command.flags().map(fish_flag);
         let operands = command
             .operands
             .iter()
             .map(|operand| fish_value(&operand.value));
-        text.extend(
-            operands
-                .filter(|value| !value.is_empty())
-                .map(|value| format!("{start}{value}\n")),
-        );
+        let offered = flags.chain(operands).filter(|one| !one.is_empty());
+        text.extend(offered.map(|one| format!("{start}{one}\n")));
     }
     text
-}
-
-fn fish_seen(words: &str) -> String {
-    format!("__fish_seen_subcommand_from {words}")
 }
 
 fn fish_quoted(text: &str) -> String {
@@ -246,10 +257,10 @@ fn fish_flag(flag: &Flag) -> String {
     let short = flag
         .short
         .map_or(String::new(), |short| format!(" -s {short}"));
-    let takes = if matches!(flag.value, Value::Nothing) {
-        ""
-    } else {
-        " -r"
+    let takes = match flag.value {
+        Value::Nothing => "",
+        Value::File(_) => " -r",
+        _ => " -x",
     };
     let value = fish_value(&flag.value);
     format!(

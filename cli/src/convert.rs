@@ -5,10 +5,10 @@ use crate::arguments::Arguments;
 use crate::files::{self, Output};
 use crate::json::Json;
 use crate::names;
-use crate::picture::{Frame, Picture, Pictures};
+use crate::picture::{Picture, Pictures};
 use crate::progress::{self, Progress};
 use crate::report::Failure;
-use crate::room::Room;
+use crate::room::Rooms;
 use crate::settings::Settings;
 use segvartin::{ShiftFile, YuvError};
 use std::ffi::OsStr;
@@ -47,7 +47,7 @@ pub fn run(arguments: &Arguments) -> Result<u8, Failure> {
             ("bytes", Json::number(made.bytes)),
             ("output", Json::name(name)),
         ]);
-        files::print(format!("{json}\n"))?;
+        files::report(name, json.line())?;
     }
     Ok(0)
 }
@@ -56,8 +56,13 @@ pub fn run(arguments: &Arguments) -> Result<u8, Failure> {
 fn check_flags(arguments: &Arguments, to: &str) -> Result<(), Failure> {
     for flag in ["crossing", "plain"] {
         if to != "shift" && arguments.has(flag) {
-            let failure = Failure::new(&format!("--{flag}"), "--to shift", "another output");
-            return Err(failure.hint("--to shift"));
+            let what = format!("--{flag}");
+            return Err(Failure::new(
+                &what,
+                "--to shift",
+                "another output",
+                "--to shift",
+            ));
         }
     }
     Ok(())
@@ -70,9 +75,8 @@ fn to_frames(
     output: Output,
 ) -> Result<Made, Failure> {
     let mut frames = Frames {
-        is_y4m,
         output,
-        room: None,
+        rooms: Rooms::new(is_y4m),
         made: Made::default(),
     };
     for name in &arguments.operands {
@@ -86,9 +90,8 @@ fn to_frames(
 
 /// One frame behind the other, all through the same room.
 struct Frames {
-    is_y4m: bool,
     output: Output,
-    room: Option<Room>,
+    rooms: Rooms,
     made: Made,
 }
 
@@ -105,7 +108,7 @@ impl Frames {
     }
 
     fn take(&mut self, picture: Picture<'_>) -> Result<(), Failure> {
-        let mut room = self.room_for(&picture.frame)?;
+        let room = self.rooms.next(&picture.frame)?;
         picture.convert(room.planes())?;
         let written = if self.made.pictures == 0 {
             &room.bytes[..]
@@ -118,28 +121,7 @@ impl Frames {
         }
         self.made.pictures += 1;
         self.made.bytes += written.len();
-        self.room = Some(room);
         Ok(())
-    }
-
-    /// That of the picture before, where it has the same size.
-    fn room_for(&mut self, frame: &Frame) -> Result<Room, Failure> {
-        let size = (frame.description.width, frame.description.height);
-        match self.room.take() {
-            Some(room) if room.size == size => Ok(room),
-            Some(room) if self.is_y4m => {
-                let [expected, received] =
-                    [room.size, size].map(|(width, height)| format!("{width}x{height}"));
-                Err(Failure::new(
-                    "pictures of one Y4M file have one size",
-                    &expected,
-                    &received,
-                )
-                .hint("--window, or a file for each size"))
-            }
-            _ if self.is_y4m => Ok(Room::of_y4m(frame)?),
-            _ => Ok(Room::of_planes(frame)),
-        }
     }
 }
 
@@ -148,12 +130,12 @@ fn to_shift(arguments: &Arguments, settings: &Settings, output: Output) -> Resul
     let crossing = append::needed_crossing(arguments)?;
     let form = append::new_form(arguments);
     let [name] = &arguments.operands[..] else {
-        let failure = Failure::of_sizes(
+        let (what, count) = (
             "inputs of a shift file of one record",
-            1,
             arguments.operands.len(),
         );
-        return Err(failure.hint("segvartin shift append FILE INPUT for each of the others"));
+        let hint = "segvartin shift append FILE INPUT for each of the others";
+        return Err(Failure::of_sizes(what, 1, count, hint));
     };
     let old = append::Old::none(form)?;
     let mut input = files::open(name)?;

@@ -7,7 +7,7 @@ use crate::names::sampling_name;
 use crate::picture::Pictures;
 use crate::progress::{self, Progress};
 use crate::report::Failure;
-use crate::room::Room;
+use crate::room::Rooms;
 use crate::settings::{Kind, Settings};
 use crate::sha256::digest_of;
 use segvartin::{FrameDescription, ShiftFile, Y4mFile, YuvChromaSubsampling};
@@ -29,6 +29,7 @@ struct Planes<'a> {
 
 pub fn run(arguments: &Arguments) -> Result<u8, Failure> {
     let settings = Settings::of(arguments)?;
+    settings.check_conversion_flags(&arguments.operands)?;
     let progress = Progress::counted(arguments, files::total_size(&arguments.operands));
     let mut digests = Digests {
         crossing: arguments.number("crossing")?,
@@ -43,7 +44,7 @@ pub fn run(arguments: &Arguments) -> Result<u8, Failure> {
     }
     drop(progress);
     if let Some(list) = digests.json {
-        files::print(format!("{}\n", Json::List(list)))?;
+        files::print(Json::List(list).line())?;
     }
     match digests.crossing {
         Some(crossing) if digests.count == 0 => {
@@ -73,8 +74,13 @@ impl Digests {
         match kind {
             Kind::Shift => self.take_shift(name, &input.whole()?),
             _ if self.crossing.is_some() => {
-                Err(Failure::new("--crossing", "a shift file", "another input")
-                    .hint("--from shift"))
+                let (expected, received) = ("a shift file", "another input");
+                Err(Failure::new(
+                    "--crossing",
+                    expected,
+                    received,
+                    "--from shift",
+                ))
             }
             Kind::Y4m => self.take_y4m(name, &input.whole()?),
             _ => self.take_pictures(name, &mut input, kind == Kind::Raw, settings),
@@ -127,8 +133,8 @@ impl Digests {
         settings: &Settings,
     ) -> Result<(), Failure> {
         let mut pictures = Pictures::of(input, is_raw, settings)?;
+        let mut rooms = Rooms::new(false);
         let mut number = 0;
-        let mut last: Option<Room> = None;
         while let Some(picture) = pictures.next()? {
             let bytes = picture.mapped_bytes();
             let frame = picture.frame;
@@ -138,17 +144,16 @@ impl Digests {
                 sampling,
                 ..
             } = frame.description;
-            let mut room = match last.take() {
-                Some(room) if room.size == (width, height) => room,
-                _ => Room::of_planes(&frame),
-            };
+            let room = rooms.next(&frame)?;
             picture.convert(room.planes())?;
+            // One picture alone has no number.
+            let is_numbered = number > 0 || !pictures.is_at_end()?;
             let planes = room.planes().map(|plane| &*plane);
             self.put(
                 name,
                 &Planes {
                     number,
-                    is_numbered: false,
+                    is_numbered,
                     crossing: None,
                     size: (width, height),
                     sampling,
@@ -156,7 +161,6 @@ impl Digests {
                 },
             )?;
             progress::add(bytes);
-            last = Some(room);
             number += 1;
         }
         Ok(())

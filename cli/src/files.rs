@@ -2,14 +2,14 @@
 
 use crate::maps::{Map, MapMut};
 use crate::progress;
-use crate::report::Failure;
+use crate::report::{Failure, shown};
 use crate::signals;
 use std::ffi::{OsStr, OsString};
-use std::fs::{self, File, Permissions};
+use std::fs::{self, File, Metadata};
 use std::io::{self, BufRead, BufReader, Read, Write};
 use std::os::fd::AsFd;
 use std::os::unix::ffi::OsStrExt;
-use std::os::unix::fs::FileTypeExt;
+use std::os::unix::fs::{FileTypeExt, MetadataExt, OpenOptionsExt, fchown};
 use std::path::{Path, PathBuf};
 
 pub enum Input {
@@ -31,9 +31,8 @@ impl Read for Stream {
 /// A regular file is mapped, and `-`, standard input, where it is one; everything else is read as it comes.
 pub fn open(name: &OsStr) -> Result<Input, Failure> {
     let failed = |error| {
-        Failure::system("cannot read", "a file", &error)
-            .of(name)
-            .hint("a file that exists and that you may read")
+        let hint = "a file that exists and that you may read";
+        Failure::system("cannot read", "a file", &error, hint).of(name)
     };
     let file = if name == "-" {
         io::stdin().as_fd().try_clone_to_owned().map(File::from)
@@ -43,9 +42,7 @@ pub fn open(name: &OsStr) -> Result<Input, Failure> {
     let file = file.map_err(failed)?;
     let about = file.metadata().map_err(failed)?;
     if about.is_dir() {
-        return Err(Failure::new("cannot read", "a file", "a directory")
-            .of(name)
-            .hint("the name of a file in it"));
+        return Err(of_folder("cannot read").of(name));
     }
     // A file of no bytes may have some all the same, in /proc.
     if about.is_file() && about.len() > 0 {
@@ -71,13 +68,13 @@ pub fn open_whole(name: &OsStr) -> Result<Map, Failure> {
         .map_err(|failure| failure.of(name))
 }
 
+fn of_folder(what: &str) -> Failure {
+    Failure::new(what, "a file", "a folder", "the name of a file in it")
+}
+
 fn not_whole() -> Failure {
-    Failure::new(
-        "it is needed as a whole",
-        "a regular file",
-        "a pipe or a device",
-    )
-    .hint("write it to a file first")
+    let (what, received) = ("it is needed as a whole", "a pipe or a device");
+    Failure::new(what, "a regular file", received, "write it to a file first")
 }
 
 impl Input {
@@ -103,7 +100,8 @@ impl Input {
 /// Errors of reading, where the name is put in by who knows it.
 impl From<io::Error> for Failure {
     fn from(error: io::Error) -> Failure {
-        Failure::system("cannot read", "its bytes to the end", &error)
+        let hint = "a file that can be read to its end";
+        Failure::system("cannot read", "its bytes to the end", &error, hint)
     }
 }
 
@@ -163,25 +161,15 @@ impl Output {
         };
         match &old {
             Some(about) if about.is_dir() => {
-                return Err(Failure::new("cannot write", "a file", "a directory")
-                    .of(name)
-                    .hint("the name of a file in it"));
+                return Err(of_folder("cannot write").of(name));
             }
             Some(about) if !about.is_file() => {
                 return straight(File::options().write(true).open(name).map_err(failed)?);
             }
-            Some(_) if !replace => {
-                let failure = Failure::new(
-                    "it exists",
-                    "a new name, or --force",
-                    "the name of a file that exists",
-                );
-                return Err(failure.of(name).hint("--force to replace it"));
-            }
+            Some(_) if !replace => return Err(Output::exists(name)),
             _ => (),
         }
-        let (file, part) =
-            Part::create(&target_of(name), old.map(|about| about.permissions())).map_err(failed)?;
+        let (file, part) = Part::create(target_of(name), old, replace).map_err(failed)?;
         Ok(Output {
             name: name.to_owned(),
             file,
@@ -190,9 +178,23 @@ impl Output {
     }
 
     fn failed(name: &OsStr, error: &io::Error) -> Failure {
-        Failure::system("cannot write", "a file that can be written", error)
-            .of(name)
-            .hint("a directory that you may write to, with room in it")
+        use io::ErrorKind::*;
+        let hint = match error.kind() {
+            NotFound => "a folder that exists",
+            PermissionDenied | ReadOnlyFilesystem => "a file and a folder that you may write to",
+            StorageFull | QuotaExceeded | FileTooLarge => "a place with more room",
+            _ => "another place for it",
+        };
+        Failure::system("cannot write", "a file that can be written", error, hint).of(name)
+    }
+
+    fn exists(name: &OsStr) -> Failure {
+        let (expected, received) = ("a new name, or --force", "the name of a file that exists");
+        Failure::new("it exists", expected, received, "--force to replace it").of(name)
+    }
+
+    pub fn name(&self) -> &OsStr {
+        &self.name
     }
 
     pub fn is_standard_output(&self) -> bool {
@@ -216,28 +218,66 @@ impl Output {
     }
 
     pub fn finish_map(mut self, map: MapMut) -> Result<(), Failure> {
+        self.sync_map(map)?;
+        self.take_place()
+    }
+
+    pub fn finish(self) -> Result<(), Failure> {
+        self.sync()?;
+        self.take_place()
+    }
+
+    pub fn sync_map(&mut self, map: MapMut) -> Result<(), Failure> {
         if self.part.is_none() {
             self.write(&map)?;
         }
         drop(map);
-        self.finish()
+        self.sync()
     }
 
-    /// The new file, on the disk, takes its place.
-    pub fn finish(self) -> Result<(), Failure> {
-        let Some(part) = self.part else {
-            return Ok(());
-        };
-        self.file
-            .sync_all()
-            .and_then(|()| part.rename())
-            .map_err(|error| Output::failed(&self.name, &error))
+    /// The new file is on the disk; where it takes its place after this, no crash can leave a part of it there.
+    pub fn sync(&self) -> Result<(), Failure> {
+        let synced = self.part.as_ref().map_or(Ok(()), |_| self.file.sync_all());
+        synced.map_err(|error| Output::failed(&self.name, &error))
+    }
+
+    pub fn take_place(self) -> Result<(), Failure> {
+        let placed = self.part.map_or(Ok(()), Part::take_place);
+        placed.map_err(|error| match error.kind() {
+            io::ErrorKind::AlreadyExists => Output::exists(&self.name),
+            _ => Output::failed(&self.name, &error),
+        })
     }
 }
 
 /// Prints on standard output; an error of it is told, as it would not be by `print!`.
 pub fn print(text: impl AsRef<[u8]>) -> Result<(), Failure> {
     Output::create(OsStr::new("-"), true)?.write(text.as_ref())
+}
+
+/// The same of a file that stands in its place, which is said where this cannot be printed.
+pub fn report(written: &OsStr, text: impl AsRef<[u8]>) -> Result<(), Failure> {
+    let done = format!("{} is written; its report could not be", shown(written));
+    print(text).map_err(|failure| failure.after(&done))
+}
+
+/// A regular file that this user may write.
+pub fn check_writable(name: &OsStr) -> Result<(), Failure> {
+    let opened = File::options().write(true).open(name);
+    opened
+        .map(drop)
+        .map_err(|error| Output::failed(name, &error))
+}
+
+/// While what this returns lives, another run that asks for the folder of this file, or of what it links to, waits.
+pub fn alone_in_folder(name: &OsStr) -> Result<File, Failure> {
+    let target = target_of(name);
+    let folder = target.parent().filter(|folder| *folder != Path::new(""));
+    let locked = File::open(folder.unwrap_or(Path::new("."))).and_then(|folder| {
+        folder.lock()?;
+        Ok(folder)
+    });
+    locked.map_err(|error| Output::failed(name, &error))
 }
 
 /// Where the links of a name lead, also to a name that does not exist.
@@ -257,45 +297,80 @@ fn target_of(name: &OsStr) -> PathBuf {
 struct Part {
     path: PathBuf,
     target: PathBuf,
-    slot: usize,
+    /// Whether a file may stand where it takes its place.
+    replace: bool,
+    is_renamed: bool,
+    slot: Option<usize>,
 }
 
 impl Part {
-    fn create(target: &Path, permissions: Option<Permissions>) -> io::Result<(File, Part)> {
-        const LONGEST: usize = 200; // of a name's 255 bytes; the rest is for the number and the ending
-        let name = target
-            .file_name()
-            .ok_or(io::ErrorKind::InvalidFilename)?
-            .as_bytes();
-        let mut part = OsString::from(".");
-        part.push(OsStr::from_bytes(&name[..name.len().min(LONGEST)]));
-        part.push(format!(".{}.part", std::process::id()));
-        let path = target.with_file_name(part);
-        let slot = signals::remember(&path)?;
+    /// With mode and owner of the old file, as far as this user may give them.
+    fn create(target: PathBuf, old: Option<Metadata>, replace: bool) -> io::Result<(File, Part)> {
+        // Until it has the old one's mode nobody else may read it.
+        let mode = if old.is_some() { 0o600 } else { 0o666 };
+        let mut options = File::options();
+        options.read(true).write(true).create_new(true).mode(mode);
+        let mut number = 0;
+        let (file, path) = loop {
+            let path = part_name(&target, number)?;
+            match options.open(&path) {
+                // Of another run, or left by a crash: it is not ours to take away.
+                Err(error) if error.kind() == io::ErrorKind::AlreadyExists => number += 1,
+                file => break (file?, path),
+            }
+        };
+        let slot = signals::remember(&path);
         let part = Part {
             path,
-            target: target.to_owned(),
+            target,
+            replace,
+            is_renamed: false,
             slot,
         };
-        let file = File::options()
-            .read(true)
-            .write(true)
-            .create_new(true)
-            .open(&part.path)?;
-        if let Some(permissions) = permissions {
-            file.set_permissions(permissions)?;
+        if let Some(old) = old {
+            let _ = fchown(&file, None, Some(old.gid())); // the group first, which may be allowed alone
+            let _ = fchown(&file, Some(old.uid()), None);
+            file.set_permissions(old.permissions())?;
         }
         Ok((file, part))
     }
 
-    fn rename(self) -> io::Result<()> {
-        fs::rename(&self.path, &self.target)
+    fn take_place(mut self) -> io::Result<()> {
+        // A link is an error where a file came meanwhile; a file system without links has but the other way.
+        if !self.replace {
+            match fs::hard_link(&self.path, &self.target) {
+                Err(error) if has_no_links(&error) => (),
+                linked => return linked,
+            }
+        }
+        fs::rename(&self.path, &self.target)?;
+        self.is_renamed = true;
+        Ok(())
     }
+}
+
+fn part_name(target: &Path, number: usize) -> io::Result<PathBuf> {
+    const LONGEST: usize = 200; // of a name's 255 bytes; the rest is for the numbers and the ending
+    let name = target.file_name().ok_or(io::ErrorKind::InvalidFilename)?;
+    let name = name.as_bytes();
+    let mut part = OsString::from(".");
+    part.push(OsStr::from_bytes(&name[..name.len().min(LONGEST)]));
+    part.push(format!(".{}.{number}.part", std::process::id()));
+    Ok(target.with_file_name(part))
+}
+
+fn has_no_links(error: &io::Error) -> bool {
+    use io::ErrorKind::{PermissionDenied, Unsupported};
+    matches!(error.kind(), PermissionDenied | Unsupported)
 }
 
 impl Drop for Part {
     fn drop(&mut self) {
-        let _ = fs::remove_file(&self.path); // it is there no more where it took its place
-        signals::forget(self.slot);
+        if !self.is_renamed {
+            let _ = fs::remove_file(&self.path); // there is nothing else to do about it
+        }
+        if let Some(slot) = self.slot {
+            signals::forget(slot);
+        }
     }
 }

@@ -6,8 +6,8 @@ use crate::maps;
 use crate::names::sampling_name;
 use crate::progress::Progress;
 use crate::report::{Failure, shown};
-use crate::shift::{as_json, lines, opened};
-use segvartin::{ShiftFile, ShiftRecord, write_y4m, y4m_size};
+use crate::shift::{as_json, exact_summary, lines, opened};
+use segvartin::{ShiftFile, ShiftRecord, YuvError, write_y4m, y4m_size};
 use std::ffi::OsStr;
 use std::fs;
 
@@ -41,7 +41,11 @@ pub fn run(arguments: &Arguments) -> Result<u8, Failure> {
     }
     // Where planes go to standard output nothing else does.
     if output != Some(OsStr::new("-")) || found.is_empty() {
-        print(arguments, &file, crossing, &found)?;
+        let text = text(arguments, &file, crossing, &found);
+        match output {
+            Some(output) if !found.is_empty() => files::report(output, text)?,
+            _ => files::print(text)?,
+        }
     }
     Ok(u8::from(found.is_empty()))
 }
@@ -61,36 +65,35 @@ fn first_of<'a>(
         return Ok(file.find_record(&built, crossing)?);
     };
     let map = files::open_whole(&summary)?;
-    file.find_record(&map, crossing).map_err(|refusal| {
-        let hint = format!(
-            "segvartin shift summary {} -o {}",
-            shown(name),
-            shown(&summary)
-        );
+    let found = exact_summary(file, &map).and_then(|map| file.find_record(map, crossing));
+    found.map_err(|refusal| {
+        let beside = with_ending(name, ".summary");
+        let named = if summary == beside {
+            String::new()
+        } else {
+            format!(" -f -o {}", shown(&summary))
+        };
+        let hint = format!("segvartin shift summary {}{named}", shown(name));
         Failure::from(refusal).of(&summary).hint(hint)
     })
 }
 
-fn print(
+/// What is printed.
+fn text(
     arguments: &Arguments,
     file: &ShiftFile<'_>,
     crossing: u32,
     found: &[(usize, ShiftRecord<'_>)],
-) -> Result<(), Failure> {
+) -> String {
     if arguments.json() {
-        return files::print(format!(
-            "{}\n",
-            as_json(&arguments.operands[0], file, found)
-        ));
+        return as_json(&arguments.operands[0], file, found).line();
     }
     if found.is_empty() {
-        return files::print(format!("no record of crossing {crossing}\n"));
+        return format!("no record of crossing {crossing}\n");
     }
     let lines = lines(file);
-    let text = found
-        .iter()
-        .map(|(number, _)| lines[number + 1].clone() + "\n");
-    files::print(text.collect::<String>())
+    let of_record = |(number, _): &(usize, _)| lines[number + 1].clone() + "\n";
+    found.iter().map(of_record).collect()
 }
 
 /// Y, U, V of a record, which are all that is behind its settings.
@@ -114,26 +117,32 @@ fn write(
         if !is_y4m {
             output.write(planes_of(record))?;
         } else if size(record) == first {
-            output.write(&y4m_of(record, k == 0)?)?;
+            let [line, frame] = y4m_lines(record)?;
+            output.write(if k == 0 { &line } else { &[] })?;
+            output.write(&frame)?;
+            output.write(planes_of(record))?;
         } else {
-            let failure = Failure::new(
+            let (what, hint) = (
                 "pictures of one Y4M file have one size",
-                &first,
-                &size(record),
+                "--to yuv, or no --all",
             );
-            return Err(failure.hint("--to yuv, or no --all"));
+            return Err(Failure::new(what, &first, &size(record), hint));
         }
     }
     output.finish()
 }
 
-/// A Y4M file of the record, or of it what comes behind the line.
-fn y4m_of(record: &ShiftRecord<'_>, with_line: bool) -> Result<Vec<u8>, Failure> {
-    let (width, height, sampling) = (record.width, record.height, record.settings.sampling);
-    let mut file = vec![0; y4m_size(width, height, sampling, planes_of(record))?];
-    write_y4m(width, height, sampling, planes_of(record), &mut file)?;
-    if !with_line {
-        file.drain(..y4m_size(width, height, sampling, &[])?);
-    }
-    Ok(file)
+/// What stands before the pictures of a Y4M file, and before the planes of each, so that these are written where they are in the map.
+fn y4m_lines(record: &ShiftRecord<'_>) -> Result<[Vec<u8>; 2], YuvError> {
+    let of = |width, height, planes: &[u8]| {
+        let sampling = record.settings.sampling;
+        let mut file = vec![0; y4m_size(width, height, sampling, planes)?];
+        write_y4m(width, height, sampling, planes, &mut file)?;
+        Ok::<_, YuvError>(file)
+    };
+    // The line before a picture is the same for all: that of a pixel.
+    let pixel = [0; 3];
+    let frame = of(1, 1, &pixel)?.split_off(of(1, 1, &[])?.len());
+    let frame = frame[..frame.len() - pixel.len()].to_vec();
+    Ok([of(record.width, record.height, &[])?, frame])
 }

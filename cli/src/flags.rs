@@ -33,7 +33,7 @@ pub struct Command {
     pub operands: &'static [Operand],
     pub flags: &'static [&'static [Flag]],
     pub help: &'static str,
-    /// The exit status, or why nothing was done.
+    /// The exit status, or an error.
     pub run: fn(&Arguments) -> Result<u8, Failure>,
 }
 
@@ -79,12 +79,10 @@ const fn files(name: &'static str) -> Operand {
     }
 }
 
-const EVERYWHERE: &[Flag] = &[
-    flag("json", Value::Nothing, "results and errors as JSON"),
-    short('h', "help", Value::Nothing, "this text"),
-];
+const HELP: &[Flag] = &[short('h', "help", Value::Nothing, "this text")];
+const JSON: &[Flag] = &[flag("json", Value::Nothing, "results and errors as JSON")];
 
-const CONVERSION: &[Flag] = &[
+pub const CONVERSION: &[Flag] = &[
     flag(
         "size",
         Value::Word("WxH"),
@@ -144,12 +142,7 @@ const FROM_ANY: Flag = flag(
     Value::OneOf(&["pnm", "raw", "y4m", "shift"]),
     "what the inputs are (by their first bytes or the end of their names)",
 );
-const FORCE: Flag = short(
-    'f',
-    "force",
-    Value::Nothing,
-    "replace OUTPUT where it exists",
-);
+const FORCE: Flag = short('f', "force", Value::Nothing, "replace a file that exists");
 const OUTPUT: Flag = needed(short(
     'o',
     "output",
@@ -185,6 +178,7 @@ pub const COMMANDS: &[Command] = &[
                 FROM_PICTURE,
             ],
             CONVERSION,
+            JSON,
         ],
         help: "Converts pictures (PNM, PAM, raw pixels) to Y, U, V planes: a YUV file, a Y4M file, or a shift file of one record.",
         run: convert::run,
@@ -203,6 +197,7 @@ pub const COMMANDS: &[Command] = &[
                 FROM_ANY,
             ],
             CONVERSION,
+            JSON,
         ],
         help: "Prints the SHA-256 of Y, U, V of each picture: of pictures converted, Y4M files and shift files.",
         run: digest::run,
@@ -210,14 +205,14 @@ pub const COMMANDS: &[Command] = &[
     Command {
         name: "shift list",
         operands: &[file("FILE")],
-        flags: &[],
+        flags: &[JSON],
         help: "Lists the records of a shift file.",
         run: shift::list,
     },
     Command {
         name: "shift append",
         operands: &[file("FILE"), file("INPUT")],
-        flags: &[&[CROSSING, PLAIN, FROM_ANY], CONVERSION],
+        flags: &[&[CROSSING, PLAIN, FROM_ANY], CONVERSION, JSON],
         help: "Puts a picture, a Y4M picture or the records of another shift file at the end of FILE, and brings FILE.summary up to date.",
         run: append::append,
     },
@@ -232,75 +227,88 @@ pub const COMMANDS: &[Command] = &[
                 many: false,
             },
         ],
-        flags: &[&[
-            flag(
-                "summary",
-                Value::File("SUMMARY"),
-                "the file's summary (FILE.summary where it exists)",
-            ),
-            short(
-                'o',
-                "output",
-                Value::File("OUTPUT"),
-                "write its planes there too, as .yuv or .y4m",
-            ),
-            flag(
-                "to",
-                Value::OneOf(&["yuv", "y4m"]),
-                "what to write (by the end of OUTPUT's name)",
-            ),
-            FORCE,
-            flag(
-                "all",
-                Value::Nothing,
-                "every record of the crossing, and not the first alone",
-            ),
-        ]],
+        flags: &[
+            &[
+                flag(
+                    "summary",
+                    Value::File("SUMMARY"),
+                    "the file's summary (FILE.summary where it exists)",
+                ),
+                short(
+                    'o',
+                    "output",
+                    Value::File("OUTPUT"),
+                    "write its planes there too, as .yuv or .y4m",
+                ),
+                flag(
+                    "to",
+                    Value::OneOf(&["yuv", "y4m"]),
+                    "what to write (by the end of OUTPUT's name)",
+                ),
+                FORCE,
+                flag(
+                    "all",
+                    Value::Nothing,
+                    "every record of the crossing, and not the first alone",
+                ),
+            ],
+            JSON,
+        ],
         help: "Finds the record of a crossing; status 1 where there is none.",
         run: find::run,
     },
     Command {
         name: "shift summary",
         operands: &[file("FILE")],
-        flags: &[&[
-            short(
-                'o',
-                "output",
-                Value::File("SUMMARY"),
-                "the summary (FILE.summary), or - for standard output",
-            ),
-            flag(
-                "check",
-                Value::Nothing,
-                "write nothing; status 1 where it is not the file's summary",
-            ),
-        ]],
+        flags: &[
+            &[
+                short(
+                    'o',
+                    "output",
+                    Value::File("SUMMARY"),
+                    "the summary (FILE.summary, which is replaced), or - for standard output",
+                ),
+                FORCE,
+                flag(
+                    "check",
+                    Value::Nothing,
+                    "write nothing; status 1 where it is not the file's summary",
+                ),
+            ],
+            JSON,
+        ],
         help: "Writes the summary of a shift file, by which records are found.",
         run: shift::summary,
     },
     Command {
         name: "shift move",
         operands: &[file("FILE")],
-        flags: &[&[
-            OUTPUT,
-            needed(flag(
-                "to",
-                Value::OneOf(&["settings", "plain"]),
-                "the form to write, with settings or without",
-            )),
-            FORCE,
-        ]],
+        flags: &[
+            &[
+                OUTPUT,
+                needed(flag(
+                    "to",
+                    Value::OneOf(&["settings", "plain"]),
+                    "the form to write, with settings or without",
+                )),
+                FORCE,
+            ],
+            JSON,
+        ],
         help: "Writes a shift file in the other form.",
         run: shift::move_file,
     },
     Command {
         name: "compare",
         operands: &[file("OURS"), file("THEIRS")],
-        flags: &[&[flag(
-            "pairs-only",
-            Value::Nothing,
-            "records that only one file has do not count",
-        )]],
+        flags: &[
+            &[flag(
+                "pairs-only",
+                Value::Nothing,
+                "records that only one file has do not count",
+            )],
+            JSON,
+        ],
         help: "Holds two shift files against each other; status 0 where every record has an equal pair, 1 where not.",
         run: compare::run,
     },
@@ -360,7 +368,7 @@ pub const COMMANDS: &[Command] = &[
 
 impl Command {
     pub fn flags(&self) -> impl Iterator<Item = &'static Flag> {
-        self.flags.iter().copied().flatten().chain(EVERYWHERE)
+        self.flags.iter().copied().flatten().chain(HELP)
     }
 
     /// The names and words behind the flags.

@@ -2,12 +2,17 @@
 
 use crate::arguments::Arguments;
 use crate::files;
-use crate::flags::{COMMANDS, Command, Flag};
+use crate::flags::{COMMANDS, Command, Flag, Operand, Value};
 use crate::report::Failure;
 
 const ABOUT: &str =
     "RGB pictures to planar YUV, proved to the byte; shift files, their summaries, and Y4M files";
-const STATUS: &str = "0: done. 1: the answer is no (a difference, no such record, not the summary, a rule broken). 2: nothing was done.";
+const STATUS: &str = "0: done. 1: the answer is no (a difference, no such record, not the summary, a rule broken). \
+                      2: an error; standard error says what.";
+const DASH: &str = "`-` in the place of a file is standard input or output; `--` ends the flags.";
+const ENVIRONMENT: &str = "SEGVARTIN_CONFORMANCE";
+const ENVIRONMENT_IS: &str = "the folder of run.py and the conformance vectors, for rules check \
+                              (that which was installed, or of the tree that the program was built in).";
 
 pub fn run(arguments: &Arguments) -> Result<u8, Failure> {
     if arguments.has("man") {
@@ -21,10 +26,13 @@ pub fn run(arguments: &Arguments) -> Result<u8, Failure> {
         .collect();
     let name = words.join(" ");
     if !COMMANDS.iter().any(|command| is_of(command, &name)) {
-        return Err(
-            Failure::new("the command", "a command of `segvartin --help`", &name)
-                .hint("segvartin --help"),
-        );
+        let expected = "a command of `segvartin --help`";
+        return Err(Failure::new(
+            "the command",
+            expected,
+            &name,
+            "segvartin --help",
+        ));
     }
     files::print(text(&name))?;
     Ok(0)
@@ -40,13 +48,20 @@ fn is_of(command: &Command, name: &str) -> bool {
 pub fn text(name: &str) -> String {
     if let Some(command) = COMMANDS.iter().find(|command| command.name == name) {
         let flags = columns(command.flags().map(|flag| (names(flag), flag.help)));
-        return format!("usage: {}\n\n{}\n\n{flags}", usage(command), command.help);
+        let is_file = |operand: &Operand| matches!(operand.value, Value::File(_));
+        let dash = if command.operands.iter().any(is_file) {
+            format!("\n{DASH}\n")
+        } else {
+            String::new()
+        };
+        let usage = usage(command);
+        return format!("usage: {usage}\n\n{}\n\n{flags}{dash}", command.help);
     }
     let commands = COMMANDS.iter().filter(|command| is_of(command, name));
     let commands = columns(commands.map(|command| (command.name.to_owned(), command.help)));
     let name = format!("segvartin {name}").trim_end().to_owned();
     format!(
-        "{name}: {ABOUT}\n\n{commands}\n`segvartin COMMAND --help` has the flags of a command.\nStatus {STATUS}\n"
+        "{name}: {ABOUT}\n\n{commands}\n`segvartin COMMAND --help` has the flags of a command.\n{DASH}\nStatus {STATUS}\n"
     )
 }
 
@@ -100,13 +115,17 @@ fn manual() -> String {
         .iter()
         .map(|command| format!(".B {}\n.br\n", roff(&usage(command))))
         .collect::<String>();
-    page += ".SH COMMANDS\n";
+    page += &format!(".SH DESCRIPTION\n{}\n.SH COMMANDS\n", roff(DASH));
     for command in COMMANDS {
         page += &format!(".SS {}\n{}\n", roff(command.name), roff(command.help));
         for flag in command.flags() {
             page += &format!(".TP\n.B {}\n{}\n", roff(&names(flag)), roff(flag.help));
         }
     }
+    page += &format!(
+        ".SH ENVIRONMENT\n.TP\n.B {ENVIRONMENT}\n{}\n",
+        roff(ENVIRONMENT_IS)
+    );
     page + ".SH EXIT STATUS\n" + &roff(STATUS) + "\n"
 }
 

@@ -21,6 +21,11 @@ impl Json {
     pub fn name(name: &OsStr) -> Json {
         Json::Text(name.to_string_lossy().into_owned())
     }
+
+    /// As it is printed.
+    pub fn line(&self) -> String {
+        format!("{self}\n")
+    }
 }
 
 impl From<&str> for Json {

@@ -32,7 +32,7 @@ use std::process::ExitCode;
 
 const VERSION: &str = concat!("segvartin ", env!("CARGO_PKG_VERSION"), "\n");
 
-/// Nothing was done.
+/// An error, which standard error has.
 const FAILED: u8 = 2;
 
 fn main() -> ExitCode {

@@ -1,6 +1,7 @@
 //! The pictures of an input, lent from a map or read in bands of rows, and their conversion by the library.
 
 use crate::files::Input;
+use crate::maps::MapMut;
 use crate::pnm::{self, Header, Pixels};
 use crate::progress;
 use crate::report::Failure;
@@ -81,10 +82,10 @@ impl Frame {
     }
 
     /// What the library says to a source of so many bytes, which are not the picture's.
-    fn refuse(&self, length: usize) -> Result<(), YuvError> {
+    fn refuse(&self, length: usize) -> Result<(), Failure> {
         let mut image = self.blank();
         let planes = [&mut image.y_plane, &mut image.u_plane, &mut image.v_plane];
-        self.convert(&vec![0; length], planes.map(|plane| plane.borrow_mut()))
+        Ok(self.convert(&zeros(length)?, planes.map(|plane| plane.borrow_mut()))?)
     }
 }
 
@@ -119,6 +120,19 @@ impl Picture<'_> {
     }
 }
 
+/// Rows as long as a flag says: an error where there is no memory for them, and no abort.
+fn zeros(length: usize) -> Result<MapMut, Failure> {
+    MapMut::zeros(length).map_err(|error| {
+        let (what, expected) = ("memory for rows", format!("{length} bytes"));
+        Failure::system(
+            what,
+            &expected,
+            &error,
+            "a smaller --stride, or a file, which is mapped",
+        )
+    })
+}
+
 /// Reads a picture in bands of rows, those of the window being converted.
 fn convert_bands(
     header: &Header,
@@ -129,7 +143,7 @@ fn convert_bands(
     let stride = header.stride as usize;
     let height = header.height as usize;
     let at_once = (MOST_BAND / stride).clamp(1, height);
-    let mut rows = vec![0; at_once * stride];
+    let mut rows = zeros(at_once * stride)?;
     let mut carried = vec![0; 3 * frame.description.width as usize];
     let top = frame.options.window.top as usize;
     let bottom = top + frame.description.height as usize;
@@ -139,7 +153,7 @@ fn convert_bands(
         let rows = &mut rows[..(last - first) * stride];
         let read = header.read_rows(input, rows)?;
         if read < rows.len() {
-            return Ok(frame.refuse(first * stride + read)?);
+            return frame.refuse(first * stride + read);
         }
         let (from, to) = (top.max(first), bottom.min(last));
         if from < to {
@@ -160,11 +174,15 @@ fn convert_bands(
 fn check_end(input: &mut dyn BufRead) -> Result<(), Failure> {
     match pnm::unblank_byte(input)? {
         None => Ok(()),
-        Some(byte) => Err(Failure::new(
-            "behind the picture",
-            "its end",
-            &pnm::said(byte),
-        )),
+        Some(byte) => {
+            let (received, hint) = (pnm::said(byte), "a file of one picture, since it is text");
+            Err(Failure::new(
+                "behind the picture",
+                "its end",
+                &received,
+                hint,
+            ))
+        }
     }
 }
 
@@ -205,22 +223,32 @@ impl<'a> Pictures<'a> {
         }
     }
 
-    /// The next one; none behind the last.
-    pub fn next(&mut self) -> Result<Option<Picture<'_>>, Failure> {
-        let is_first = std::mem::replace(&mut self.is_first, false);
-        let input: &mut dyn BufRead = match &mut self.source {
+    fn input(&mut self) -> &mut dyn BufRead {
+        match &mut self.source {
             Source::Map(bytes) => bytes,
             Source::Stream(stream) => *stream,
-        };
-        if !is_first && pnm::peek(input)?.is_empty() {
+        }
+    }
+
+    /// Whether nothing stands behind what was read.
+    pub fn is_at_end(&mut self) -> Result<bool, Failure> {
+        Ok(pnm::peek(self.input())?.is_empty())
+    }
+
+    /// The next one; none behind the last.
+    pub fn next(&mut self) -> Result<Option<Picture<'_>>, Failure> {
+        if !std::mem::replace(&mut self.is_first, false) && self.is_at_end()? {
             return Ok(None);
         }
-        let header = if self.is_raw {
-            raw_header(self.settings)?
+        let settings = self.settings;
+        let is_raw = self.is_raw;
+        let input = self.input();
+        let header = if is_raw {
+            raw_header(settings)?
         } else {
             pnm::header(input)?
         };
-        let frame = Frame::new(self.settings, &header);
+        let frame = Frame::new(settings, &header);
         frame.open()?;
         if header.stride < header.pixel_row() {
             // Such rows are no pictures: the library is told of all that comes.
@@ -246,13 +274,13 @@ impl<'a> Pictures<'a> {
     pub fn check_end(&mut self) -> Result<(), Failure> {
         match self.next()? {
             None => Ok(()),
-            Some(_) => Err(Failure::new("pictures", "1", "more").hint("one picture")),
+            Some(_) => Err(Failure::new("pictures", "1", "more", "one picture")),
         }
     }
 }
 
 fn raw_header(settings: &Settings) -> Result<Header, Failure> {
-    let missing = || Failure::new("raw pixels", "--size WxH", "none").hint("--size 1920x1080");
+    let missing = || Failure::new("raw pixels", "--size WxH", "none", "--size 1920x1080");
     let [width, height] = settings.size.ok_or_else(missing)?;
     let header = Header::new(width, height, Pixels::Channels(settings.channels));
     Ok(Header {

@@ -4,6 +4,10 @@ use crate::report::Failure;
 use segvartin::YuvSourceChannels;
 use std::io::{self, BufRead, Read};
 
+// What to do about a picture that is none
+const EIGHT_BITS: &str = "a picture of 8 bits a sample, as pamdepth 255 makes it";
+const WHOLE: &str = "a whole PNM or PAM picture, as netpbm writes it";
+
 /// How the pixels of a picture stand in its bytes.
 #[derive(Clone, Copy, PartialEq, Eq, Debug)]
 pub enum Pixels {
@@ -132,7 +136,8 @@ fn take_while(
 }
 
 fn text_sample(input: &mut dyn BufRead) -> Result<Option<u8>, Failure> {
-    let too_large = |number: u32| Failure::new("a sample", "0 to 255", &number.to_string());
+    let too_large =
+        |number: u32| Failure::new("a sample", "0 to 255", &number.to_string(), EIGHT_BITS);
     let number = number(input)?;
     number
         .map(|number| u8::try_from(number).map_err(|_| too_large(number)))
@@ -144,7 +149,7 @@ fn text_bit(input: &mut dyn BufRead) -> Result<Option<u8>, Failure> {
         None => Ok(None),
         Some(b'0') => Ok(Some(255)),
         Some(b'1') => Ok(Some(0)),
-        Some(other) => Err(Failure::new("a bit", "0 or 1", &said(other))),
+        Some(other) => Err(Failure::new("a bit", "0 or 1", &said(other), WHOLE)),
     }
 }
 
@@ -225,11 +230,10 @@ fn number(input: &mut dyn BufRead) -> Result<Option<u32>, Failure> {
         next = text_byte(input)?;
     }
     match next {
-        Some(byte) if digits == 0 || !is_blank(byte) => Err(Failure::new(
-            "the text of the picture",
-            "a decimal number",
-            &said(byte),
-        )),
+        Some(byte) if digits == 0 || !is_blank(byte) => {
+            let (what, expected) = ("the text of the picture", "a decimal number");
+            Err(Failure::new(what, expected, &said(byte), WHOLE))
+        }
         _ => Ok(Some(number)),
     }
 }
@@ -251,10 +255,13 @@ pub fn header(input: &mut dyn BufRead) -> Result<Header, Failure> {
             } else {
                 received.join(" ")
             };
-            return Err(
-                Failure::new("the start of a picture", "P1 to P7", &received)
-                    .hint("--from raw --size WxH for raw pixels"),
-            );
+            let hint = "--from raw --size WxH for raw pixels; digest and shift append also take --from y4m and --from shift";
+            return Err(Failure::new(
+                "the start of a picture",
+                "P1 to P7",
+                &received,
+                hint,
+            ));
         }
     };
     let mut next = || number(input)?.ok_or_else(|| ends_early("width, height and MAXVAL"));
@@ -266,16 +273,18 @@ pub fn header(input: &mut dyn BufRead) -> Result<Header, Failure> {
 }
 
 fn ends_early(expected: &str) -> Failure {
-    Failure::new("the header of the picture", expected, "its end")
+    Failure::new("the header of the picture", expected, "its end", WHOLE)
 }
 
 fn check_maximum(maximum: u32) -> Result<(), Failure> {
     match maximum {
         255 => Ok(()),
-        _ => Err(
-            Failure::of_sizes("MAXVAL of the picture", 255, maximum as usize)
-                .hint("a picture of 8 bits a sample, as pamdepth 255 makes it"),
-        ),
+        _ => Err(Failure::of_sizes(
+            "MAXVAL of the picture",
+            255,
+            maximum as usize,
+            EIGHT_BITS,
+        )),
     }
 }
 
@@ -291,21 +300,25 @@ fn pam_header(input: &mut dyn BufRead) -> Result<Header, Failure> {
             return Err(ends_early("ENDHDR"));
         }
         let line = String::from_utf8_lossy(&line);
-        let (word, value) = line
-            .trim()
-            .split_once(char::is_whitespace)
-            .unwrap_or((line.trim(), ""));
+        let line = line.trim();
+        let wrong = || Failure::new("the header of the picture", "a line of PAM", line, WHOLE);
+        let (word, value) = line.split_once(char::is_whitespace).unwrap_or((line, ""));
         let value = value.trim();
         match word {
-            "ENDHDR" => break,
-            "TUPLTYPE" => kind = value.to_owned(),
+            "ENDHDR" if value.is_empty() => break,
+            // Those of several lines are one, as PAM has it.
+            "TUPLTYPE" => kind = format!("{kind} {value}").trim().to_owned(),
             word if word.is_empty() || word.starts_with('#') => (),
             word => {
-                let place = ["WIDTH", "HEIGHT", "DEPTH", "MAXVAL"]
-                    .iter()
-                    .position(|name| *name == word);
-                let wrong = || Failure::new("the header of the picture", "a line of PAM", word);
-                values[place.ok_or_else(wrong)?] = number(&mut value.as_bytes())?;
+                let names = ["WIDTH", "HEIGHT", "DEPTH", "MAXVAL"];
+                let place = names.iter().position(|name| *name == word);
+                let place = &mut values[place.ok_or_else(wrong)?];
+                let mut digits = value.as_bytes();
+                let number = number(&mut digits)?.filter(|_| digits.is_empty());
+                let second = place.replace(number.ok_or_else(wrong)?);
+                if second.is_some() {
+                    return Err(wrong());
+                }
             }
         }
     }
@@ -320,11 +333,8 @@ fn pam_header(input: &mut dyn BufRead) -> Result<Header, Failure> {
         _ => {
             let received = format!("{depth} {kind}");
             let expected = "1 GRAYSCALE, 3 RGB or 4 RGB_ALPHA";
-            return Err(Failure::new(
-                "DEPTH and TUPLTYPE of the picture",
-                expected,
-                received.trim(),
-            ));
+            let what = "DEPTH and TUPLTYPE of the picture";
+            return Err(Failure::new(what, expected, received.trim(), WHOLE));
         }
     };
     Ok(Header::new(width, height, pixels))

@@ -5,7 +5,7 @@ use segvartin::YuvError;
 use std::ffi::{OsStr, OsString};
 use std::io;
 
-/// Why nothing was done: a refusal of the library, which has a number, or something that it was not asked about.
+/// An error: a refusal of the library, which has a number, or something that it was not asked about.
 #[derive(Debug)]
 pub struct Failure {
     file: Option<OsString>,
@@ -13,33 +13,38 @@ pub struct Failure {
     message: String,
     /// Expected and received, where they are numbers.
     sizes: Option<(usize, usize)>,
-    hint: Option<String>,
+    hint: String,
 }
 
 impl Failure {
-    /// What is said is `what: expected .., received ..`.
-    pub fn new(what: &str, expected: &str, received: &str) -> Failure {
+    /// What is said is `what: expected .., received ..`, and what to do.
+    pub fn new(what: &str, expected: &str, received: &str, hint: impl Into<String>) -> Failure {
         Failure {
             file: None,
             number: None,
             message: format!("{what}: expected {expected}, received {received}"),
             sizes: None,
-            hint: None,
+            hint: hint.into(),
         }
     }
 
-    pub fn of_sizes(what: &str, expected: usize, received: usize) -> Failure {
+    pub fn of_sizes(
+        what: &str,
+        expected: usize,
+        received: usize,
+        hint: impl Into<String>,
+    ) -> Failure {
         Failure {
             message: what.to_owned(),
             sizes: Some((expected, received)),
-            ..Failure::new("", "", "")
+            ..Failure::new("", "", "", hint)
         }
     }
 
-    pub fn system(what: &str, expected: &str, error: &io::Error) -> Failure {
+    pub fn system(what: &str, expected: &str, error: &io::Error, hint: &str) -> Failure {
         let text = error.to_string();
         let said = text.split(" (os error").next().unwrap_or_default();
-        Failure::new(what, expected, said)
+        Failure::new(what, expected, said, hint)
     }
 
     /// With the name of the file that it is about, where none is said yet.
@@ -48,13 +53,19 @@ impl Failure {
         self
     }
 
-    /// With what to do, in place of what is said without it.
-    pub fn hint(mut self, hint: impl Into<String>) -> Failure {
-        self.hint = Some(hint.into());
+    /// With what had been done before it.
+    pub fn after(mut self, done: &str) -> Failure {
+        self.message = format!("{done}: {}", self.message);
         self
     }
 
-    /// Two lines at most; as JSON one.
+    /// With something else to do.
+    pub fn hint(mut self, hint: impl Into<String>) -> Failure {
+        self.hint = hint.into();
+        self
+    }
+
+    /// Two lines; as JSON one.
     pub fn text(&self, command: &str, json: bool) -> String {
         if json {
             return format!("{}\n", self.as_json(command));
@@ -70,10 +81,7 @@ impl Failure {
         if let Some((expected, received)) = self.sizes {
             text += &format!(": expected {expected}, received {received}");
         }
-        if let Some(hint) = &self.hint {
-            text += &format!("\n  try: {}", escaped(hint));
-        }
-        text + "\n"
+        text + "\n  try: " + &escaped(&self.hint) + "\n"
     }
 
     fn as_json(&self, command: &str) -> Json {
@@ -93,7 +101,7 @@ impl Failure {
                     "received",
                     size(|sizes| sizes.1).map_or(Json::Null, Json::number),
                 ),
-                ("try", Json::from(self.hint.as_deref())),
+                ("try", Json::from(&*self.hint)),
             ]),
         )])
     }
@@ -110,8 +118,7 @@ impl From<YuvError> for Failure {
             .map_or((0, 0), |size| (size.expected, size.received));
         Failure {
             number: Some(error.number()),
-            hint: Some(advice(&error).to_owned()),
-            ..Failure::of_sizes(words, sizes.0, sizes.1)
+            ..Failure::of_sizes(words, sizes.0, sizes.1, advice(&error))
         }
     }
 }

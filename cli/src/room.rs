@@ -1,6 +1,7 @@
 //! Bytes that the library lays out, and the places in them where a picture's planes are converted to.
 
 use crate::picture::Frame;
+use crate::report::Failure;
 use segvartin::{FrameDescription, Y4mFile, YuvError, write_y4m, y4m_size};
 use std::ops::Range;
 
@@ -33,7 +34,7 @@ pub struct Room {
 
 impl Room {
     /// Y, U, V.
-    pub fn of_planes(frame: &Frame) -> Room {
+    fn of_planes(frame: &Frame) -> Room {
         let image = frame.blank();
         let [y, u, v] =
             [&image.y_plane, &image.u_plane, &image.v_plane].map(|plane| plane.borrow().len());
@@ -47,7 +48,7 @@ impl Room {
     }
 
     /// A Y4M file.
-    pub fn of_y4m(frame: &Frame) -> Result<Room, YuvError> {
+    fn of_y4m(frame: &Frame) -> Result<Room, YuvError> {
         let FrameDescription {
             width,
             height,
@@ -72,5 +73,35 @@ impl Room {
 
     pub fn planes(&mut self) -> [&mut [u8]; 3] {
         planes_at(&mut self.bytes, self.places.clone())
+    }
+}
+
+/// The room of one picture after another.
+pub struct Rooms {
+    is_y4m: bool,
+    last: Option<Room>,
+}
+
+impl Rooms {
+    pub fn new(is_y4m: bool) -> Rooms {
+        Rooms { is_y4m, last: None }
+    }
+
+    /// That of the picture before, where it has the same size.
+    pub fn next(&mut self, frame: &Frame) -> Result<&mut Room, Failure> {
+        let size = (frame.description.width, frame.description.height);
+        let room = match self.last.take() {
+            Some(room) if room.size == size => room,
+            Some(room) if self.is_y4m => {
+                let [expected, received] =
+                    [room.size, size].map(|(width, height)| format!("{width}x{height}"));
+                let what = "pictures of one Y4M file have one size";
+                let hint = "--window, or a file for each size";
+                return Err(Failure::new(what, &expected, &received, hint));
+            }
+            _ if self.is_y4m => Room::of_y4m(frame)?,
+            _ => Room::of_planes(frame),
+        };
+        Ok(self.last.insert(room))
     }
 }

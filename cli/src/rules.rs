@@ -19,8 +19,8 @@ pub fn check(arguments: &Arguments) -> Result<u8, Failure> {
     ];
     if programs.iter().all(Option::is_none) {
         let expected = "PROGRAM, --lines PROGRAM or --counts PROGRAM";
-        return Err(Failure::new("a program to check", expected, "none")
-            .hint("segvartin rules check target/bin/frame"));
+        let hint = "segvartin rules check target/bin/frame";
+        return Err(Failure::new("a program to check", expected, "none", hint));
     }
     let mut python = Command::new("python3");
     python.arg(directory()?.join("run.py"));
@@ -32,8 +32,8 @@ pub fn check(arguments: &Arguments) -> Result<u8, Failure> {
         python.arg(name).arg(value);
     }
     let status = python.status().map_err(|error| {
-        Failure::system("cannot run python3", "python3 on the PATH", &error)
-            .hint("install Python 3")
+        let (what, expected) = ("cannot run python3", "python3 on the PATH");
+        Failure::system(what, expected, &error, "install Python 3")
     })?;
     Ok(match status.code() {
         Some(0) => 0,
@@ -60,8 +60,6 @@ fn has_runner(directory: &Path) -> Result<PathBuf, Failure> {
     if directory.join("run.py").is_file() {
         return Ok(directory.to_owned());
     }
-    let failure = Failure::new("the conformance vectors", "a directory with run.py", "none");
-    Err(failure
-        .of(directory.as_os_str())
-        .hint("SEGVARTIN_CONFORMANCE=DIRECTORY"))
+    let (what, hint) = ("the conformance vectors", "SEGVARTIN_CONFORMANCE=FOLDER");
+    Err(Failure::new(what, "a folder with run.py", "none", hint).of(directory.as_os_str()))
 }

@@ -99,7 +99,7 @@ pub fn list(arguments: &Arguments) -> Result<u8, Failure> {
     let file = opened(name, &map)?;
     if arguments.json() {
         let all: Vec<_> = file.records().enumerate().collect();
-        files::print(format!("{}\n", as_json(name, &file, &all)))?;
+        files::print(as_json(name, &file, &all).line())?;
     } else {
         let records = if file.len() == 1 { "record" } else { "records" };
         let last = format!("{} {records}, {}", file.len(), form_name(file.form()));
@@ -109,6 +109,15 @@ pub fn list(arguments: &Arguments) -> Result<u8, Failure> {
 }
 
 // ---- summary
+
+/// What is in a summary's file. The library takes bytes with room behind them, which such a file does not have.
+pub fn exact_summary<'a>(file: &ShiftFile<'_>, summary: &'a [u8]) -> Result<&'a [u8], YuvError> {
+    if summary.len() == file.summary_size() {
+        Ok(summary)
+    } else {
+        Err(YuvError::SummaryMismatch)
+    }
+}
 
 pub fn summary(arguments: &Arguments) -> Result<u8, Failure> {
     let name = &arguments.operands[0];
@@ -123,11 +132,14 @@ pub fn summary(arguments: &Arguments) -> Result<u8, Failure> {
     let progress = Progress::touched(arguments, map.len());
     if arguments.has("check") {
         let summary_map = files::open_whole(summary)?;
-        let is_right = maps::read_ahead(&[&map], || file.check_summary(&summary_map));
+        let is_right = exact_summary(&file, &summary_map)
+            .is_ok_and(|summary| maps::read_ahead(&[&map], || file.check_summary(summary)));
         drop(progress);
         return told_check(arguments, name, summary, is_right);
     }
-    let output = Output::create(summary, true)?;
+    // The one beside the file is its own, and out of date.
+    let is_named = arguments.has("output");
+    let output = Output::create(summary, !is_named || arguments.has("force"))?;
     let is_printed = arguments.json() && !output.is_standard_output();
     let mut bytes = output.map(file.summary_size())?;
     maps::read_ahead(&[&map], || file.build_summary(&mut bytes))?;
@@ -140,7 +152,7 @@ pub fn summary(arguments: &Arguments) -> Result<u8, Failure> {
             ("records", Json::number(file.len())),
             ("bytes", Json::number(file.summary_size())),
         ]);
-        files::print(format!("{json}\n"))?;
+        files::report(summary, json.line())?;
     }
     Ok(0)
 }
@@ -157,7 +169,7 @@ fn told_check(
             ("summary", Json::name(summary)),
             ("is_summary", Json::Bool(is_right)),
         ]);
-        files::print(format!("{json}\n"))?;
+        files::print(json.line())?;
     } else if !is_right {
         files::print(format!(
             "{} is not the summary of {}\n",
@@ -172,14 +184,14 @@ fn told_check(
 
 pub fn move_file(arguments: &Arguments) -> Result<u8, Failure> {
     let name = &arguments.operands[0];
-    let output = arguments.needed("output")?;
+    let output_name = arguments.needed("output")?;
     let to = match arguments.needed("to")?.to_str() {
         Some("settings") => ShiftForm::WithSettings,
         _ => ShiftForm::WithoutSettings,
     };
     let map = files::open_whole(name)?;
     let file = opened(name, &map)?;
-    let output = Output::create(output, arguments.has("force"))?;
+    let output = Output::create(output_name, arguments.has("force"))?;
     let is_printed = arguments.json() && !output.is_standard_output();
     let progress = Progress::touched(arguments, 2 * map.len());
     let moved = moved(&map, to, &output).map_err(|failure| {
@@ -203,7 +215,7 @@ pub fn move_file(arguments: &Arguments) -> Result<u8, Failure> {
             ("records", Json::number(file.len())),
             ("bytes", Json::number(bytes)),
         ]);
-        files::print(format!("{json}\n"))?;
+        files::report(output_name, json.line())?;
     }
     Ok(0)
 }

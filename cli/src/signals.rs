@@ -2,7 +2,6 @@
 
 use crate::report::Failure;
 use std::ffi::{CString, c_char, c_int, c_void};
-use std::io;
 use std::os::unix::ffi::OsStrExt;
 use std::path::Path;
 use std::ptr::null_mut;
@@ -35,13 +34,13 @@ static PARTS: [AtomicPtr<c_char>; 2] = [const { AtomicPtr::new(null_mut()) }; 2]
 /// What is said where a mapped file gets shorter.
 static SHORTER: OnceLock<String> = OnceLock::new();
 
-pub fn remember(path: &Path) -> io::Result<usize> {
-    let name = CString::new(path.as_os_str().as_bytes())?.into_raw();
-    let free = PARTS.iter().position(|part| {
+/// The place of a file's name among them.
+pub fn remember(path: &Path) -> Option<usize> {
+    let name = CString::new(path.as_os_str().as_bytes()).ok()?.into_raw();
+    PARTS.iter().position(|part| {
         part.compare_exchange(null_mut(), name, Ordering::SeqCst, Ordering::SeqCst)
             .is_ok()
-    });
-    free.ok_or_else(|| io::Error::other("too many new files"))
+    })
 }
 
 /// The name stays in memory: a signal may be reading it.
@@ -86,8 +85,8 @@ pub fn watch(command: &str, json: bool) {
         "a mapped file",
         "its bytes to the end",
         "a file that got shorter meanwhile",
-    )
-    .hint("again, when nobody writes to it");
+        "again, when nobody writes to it",
+    );
     let _ = SHORTER.set(shorter.text(command, json)); // it is set once
     for number in [SIGHUP, SIGINT, SIGQUIT, SIGABRT, SIGPIPE, SIGTERM, SIGXFSZ] {
         // SAFETY: the handler calls only what a signal may.
