@@ -10,6 +10,7 @@ zsh, fish, man, groff and strace are installed where they are missing and apt-ge
 with --strict that is a failure. Exit status 0: all passed.
 """
 import shutil
+import signal
 import sys
 import time
 from pathlib import Path
@@ -46,6 +47,8 @@ def main():
             sys.exit(f'tests/cli.py: {one} is not here')
     if missing := [package for program, package in READERS.items() if shutil.which(program) is None]:
         install(missing, 'tests/cli.py')
+    for number in (signal.SIGINT, signal.SIGQUIT, signal.SIGHUP):  # which a job in the background ignores, and what it starts too
+        signal.signal(number, signal.SIG_DFL)
     given['folder'].mkdir(parents=True, exist_ok=True)
     for one in given['folder'].glob('.*.part'):  # of a run that was ended
         one.unlink()
