@@ -54,7 +54,7 @@ def row(slope, end, scale, up, down):
 def curves():
     """Each transfer's row."""
     found = {}
-    for name, terms, up, down in re.findall(r'^curveOf (\w+) = row ((?:\([^)]*\) ){3})(\d+) (\d+)$',
+    for name, terms, up, down in re.findall(r'^curve_of (\w+) = row ((?:\([^)]*\) ){3})(\d+) (\d+)$',
                                             DEFINITION.read_text(), re.MULTILINE):
         found[name] = row(*(number(term) for term in re.findall(r'\(([^)]*)\)', terms)), int(up), int(down))
     if list(found) != TRANSFERS:
