@@ -1,6 +1,8 @@
 // The functions that C links: numbers and lent bytes, no enum and no struct. A caller's numbers come in a slice, so that a later setting is one
 // number more and no signature changes; how many there are says which call is meant. Each is one call of the crate that has its work.
-// include/segvartin.h declares these functions, and has calls with structs over them.
+// segvartin_c exports these functions under their names, and include/segvartin.h declares them and has calls with structs over them.
+#![tactic(auto)]
+
 ghost use Rattle.frame_calls.specs.Calls.{exported_frame, FrameKept, exported_opening, OpenKept, exported_band, BandKept};
 ghost use Rattle.frame_calls.specs.Counts.{exported_counts, CountsKept};
 ghost use Rattle.convoy.specs.Run.{planes_of};
@@ -19,8 +21,7 @@ use shift_file::ShiftForm;
 
 // Converts a whole frame (0), or answers the number of one refusal and writes no byte of a plane: 1 for numbers without a meaning, else 2, 3, 4,
 // 14 or 6 to 12. numbers: the source's stride, then the description. told: expected and received.
-#[unsafe(no_mangle)]
-pub extern "C" fn segvartin_call_frame(
+pub fn segvartin_call_frame(
     numbers: &[u32],
     custom: &[f32; 2],
     source: &[u8],
@@ -41,8 +42,7 @@ pub extern "C" fn segvartin_call_frame(
 // were. numbers: for each frame its source's stride, then the description with rounding and window. customs: for each frame kr and kb. parts: for
 // each frame offset and length in the source, in Y, in U and in V. told: expected, received, and how many frames are finished, which is the
 // place of the refused one.
-#[unsafe(no_mangle)]
-pub extern "C" fn segvartin_call_convoy(
+pub fn segvartin_call_convoy(
     count: usize,
     numbers: &[u32],
     customs: &[f32],
@@ -68,8 +68,7 @@ pub extern "C" fn segvartin_call_convoy(
 // Opens a frame for a camera (0), or answers the number of one refusal and changes nothing at the desk: 21 for a camera above 31, 23 for one that has a
 // frame, 18 where a part reaches outside its buffer or overlaps an open frame's, 1 for numbers without a meaning, else 2, 3, 4 or 14. described: the
 // description. frame_parts: offset and length in Y, U, V and in the carried rows. lengths: of these buffers. told: expected and received.
-#[unsafe(no_mangle)]
-pub extern "C" fn segvartin_call_desk_open(
+pub fn segvartin_call_desk_open(
     camera: u32,
     described: &[u32],
     custom: &[f32; 2],
@@ -100,8 +99,7 @@ pub extern "C" fn segvartin_call_desk_open(
 // Takes a camera's next band to wait (0), or answers the number of one refusal and changes nothing at the desk: 21 for a camera above 31 or without a
 // frame, 22 where a band of it waits, 18 where the band reaches outside the source. band: its rows and stride. place: its offset and length in the
 // source, and how long the source is.
-#[unsafe(no_mangle)]
-pub extern "C" fn segvartin_call_desk_offer(
+pub fn segvartin_call_desk_offer(
     camera: u32,
     band: &[u32; 2],
     place: &[u64; 3],
@@ -119,8 +117,7 @@ pub extern "C" fn segvartin_call_desk_offer(
 // Serves the next camera with a band waiting, and answers 0 where its band was converted or none waited, else the number of one refusal, with which no
 // byte is written: 18 where a part reaches outside the buffers now lent, else the band call's. The band is used up either way. told: expected,
 // received, 1 where a camera was served or refused and 0 where none waited, and its number.
-#[unsafe(no_mangle)]
-pub extern "C" fn segvartin_call_desk_step(
+pub fn segvartin_call_desk_step(
     source: &[u8],
     y: &mut [u8],
     u: &mut [u8],
@@ -141,12 +138,7 @@ pub extern "C" fn segvartin_call_desk_step(
 
 // Opens a frame that comes in bands (0), or answers the number of one refusal: 1 for numbers without a meaning, else 2, 3, 4 or 14.
 // numbers: the description. told: expected, received, and the rows done, 0.
-#[unsafe(no_mangle)]
-pub extern "C" fn segvartin_call_open(
-    numbers: &[u32],
-    custom: &[f32; 2],
-    told: &mut [usize; 3],
-) -> u32
+pub fn segvartin_call_open(numbers: &[u32], custom: &[f32; 2], told: &mut [usize; 3]) -> u32
     ensures { OpenKept (exported_opening numbers.now custom.now result told.new) }
 {
     frame_calls::call_open(numbers, custom, told)
@@ -155,8 +147,7 @@ pub extern "C" fn segvartin_call_open(
 // Converts the next rows of a frame (0), or answers the number of one refusal, writes no byte of a plane or of the carried row and leaves the rows
 // done as they are: 1 for numbers without a meaning, else 2 to 14. numbers: the rows done, the rows of the band, the source's stride, then the
 // description. told: expected, received, and the rows done.
-#[unsafe(no_mangle)]
-pub extern "C" fn segvartin_call_band(
+pub fn segvartin_call_band(
     numbers: &[u32],
     custom: &[f32; 2],
     source: &[u8],
@@ -175,8 +166,7 @@ pub extern "C" fn segvartin_call_band(
 
 // Counts how many of the 16,777,216 colours have each luma (0), or answers the number of one refusal and writes no count: 1 for numbers without a
 // meaning, else 4. numbers: range, matrix. told: expected and received.
-#[unsafe(no_mangle)]
-pub extern "C" fn segvartin_call_luma_counts(
+pub fn segvartin_call_luma_counts(
     numbers: &[u32],
     custom: &[f32; 2],
     counts: &mut [u32; 256],
@@ -191,8 +181,7 @@ pub extern "C" fn segvartin_call_luma_counts(
 // How many records a shift file has (0), or 15 where these bytes are none, with nothing written. Eleven numbers go to `entries` for each record from
 // `first` on that has room: crossing, width, height, then offset and length of the record, of Y, of U and of V. told: the count, and how many
 // records were told of.
-#[unsafe(no_mangle)]
-pub extern "C" fn segvartin_call_shift_records(
+pub fn segvartin_call_shift_records(
     file: &[u8],
     first: usize,
     entries: &mut [u64],
@@ -206,8 +195,7 @@ pub extern "C" fn segvartin_call_shift_records(
 // As `segvartin_call_shift_records`, of a file of either form, with fifteen numbers an entry: the eleven, then the codes of sampling, range, matrix
 // and transfer, 255 in the last three for not recorded; of a record without settings 0, 255, 255 and 255. told: the count, how many records were
 // told of, and 1 for a file with settings, else 0.
-#[unsafe(no_mangle)]
-pub extern "C" fn segvartin_call_shift_records_any(
+pub fn segvartin_call_shift_records_any(
     file: &[u8],
     first: usize,
     entries: &mut [u64],
@@ -220,20 +208,14 @@ pub extern "C" fn segvartin_call_shift_records_any(
 
 // Writes the shift file of records back to back (0); or answers 15 where they are no list of records that has a file, 16 where `file` is shorter than
 // it, and writes nothing. told: the file's size, after 16 too.
-#[unsafe(no_mangle)]
-pub extern "C" fn segvartin_call_shift_write(
-    records: &[u8],
-    file: &mut [u8],
-    told: &mut [usize; 1],
-) -> u32
+pub fn segvartin_call_shift_write(records: &[u8], file: &mut [u8], told: &mut [usize; 1]) -> u32
     ensures { WritingKept ShiftForm.WithoutSettings (exported_writing records.now file.old result told.new file.new) }
 {
     shift_calls::call_shift_write(records, file, told)
 }
 
 // As `segvartin_call_shift_write`, of records and a file with settings.
-#[unsafe(no_mangle)]
-pub extern "C" fn segvartin_call_shift_write_settings(
+pub fn segvartin_call_shift_write_settings(
     records: &[u8],
     file: &mut [u8],
     told: &mut [usize; 1],
@@ -245,12 +227,7 @@ pub extern "C" fn segvartin_call_shift_write_settings(
 
 // Writes a shift file without settings as one with them, 4:2:0 and nothing recorded, at the front of `output` (0); or answers 15 where these bytes are
 // no shift file without settings, 16 where `output` is shorter than the moved file, and writes nothing. told: the moved file's size, after 16 too.
-#[unsafe(no_mangle)]
-pub extern "C" fn segvartin_call_shift_forward(
-    file: &[u8],
-    output: &mut [u8],
-    told: &mut [usize; 1],
-) -> u32
+pub fn segvartin_call_shift_forward(file: &[u8], output: &mut [u8], told: &mut [usize; 1]) -> u32
     ensures { MoveKept ShiftForm.WithoutSettings (exported_move file.now output.old result told.new output.new) }
 {
     shift_calls::call_shift_forward(file, output, told)
@@ -259,12 +236,7 @@ pub extern "C" fn segvartin_call_shift_forward(
 // Writes a shift file with settings as one without them at the front of `output` (0); or answers 15 where these bytes are no shift file with settings,
 // 20 where a record has 4:2:2 or a recorded setting, 16 where `output` is shorter than the moved file, and writes nothing. told: the moved file's
 // size, after 16 too.
-#[unsafe(no_mangle)]
-pub extern "C" fn segvartin_call_shift_back(
-    file: &[u8],
-    output: &mut [u8],
-    told: &mut [usize; 1],
-) -> u32
+pub fn segvartin_call_shift_back(file: &[u8], output: &mut [u8], told: &mut [usize; 1]) -> u32
     ensures { MoveKept ShiftForm.WithSettings (exported_move file.now output.old result told.new output.new) }
 {
     shift_calls::call_shift_back(file, output, told)
@@ -273,8 +245,7 @@ pub extern "C" fn segvartin_call_shift_back(
 // Makes one record of planes of 4:2:0 as a frame call leaves them (0); or answers 15 where a side is not 1 to 16,384, 8 to 12 as a frame call does, 16
 // where `record` is shorter than it, and writes nothing. numbers: crossing, width, height, the strides of Y, U and V. told: expected, received,
 // and the record's size, after 16 too.
-#[unsafe(no_mangle)]
-pub extern "C" fn segvartin_call_shift_record(
+pub fn segvartin_call_shift_record(
     numbers: &[u32; 6],
     y: &[u8],
     u: &[u8],
@@ -291,8 +262,7 @@ pub extern "C" fn segvartin_call_shift_record(
 // As `segvartin_call_shift_record`, with settings, and of planes of the sampling among them; 15 also where a setting has no such code. numbers:
 // crossing, width, height, the strides of Y, U and V, then the codes of sampling, range, matrix (6 for Custom) and transfer, 255 in the last three for
 // not recorded.
-#[unsafe(no_mangle)]
-pub extern "C" fn segvartin_call_shift_record_settings(
+pub fn segvartin_call_shift_record_settings(
     numbers: &[u32; 10],
     y: &[u8],
     u: &[u8],
@@ -308,20 +278,14 @@ pub extern "C" fn segvartin_call_shift_record_settings(
 
 // Writes a shift file's summary, 13 bytes a record, at the start of `summary` (0); or answers 15 where these bytes are no file, 17 where `summary` is
 // shorter, and writes nothing.
-#[unsafe(no_mangle)]
-pub extern "C" fn segvartin_call_summary_build(file: &[u8], summary: &mut [u8]) -> u32
+pub fn segvartin_call_summary_build(file: &[u8], summary: &mut [u8]) -> u32
     ensures { BuildKept (exported_build file.now summary.old result summary.new) }
 {
     shift_calls::call_summary_build(file, summary)
 }
 
 // Whether `summary` starts with a summary of a shift file (0), or 15 where these bytes are no file. told: 1 for yes, 0 for no.
-#[unsafe(no_mangle)]
-pub extern "C" fn segvartin_call_summary_check(
-    file: &[u8],
-    summary: &[u8],
-    told: &mut [usize; 1],
-) -> u32
+pub fn segvartin_call_summary_check(file: &[u8], summary: &[u8], told: &mut [usize; 1]) -> u32
     ensures { CheckKept (exported_check file.now summary.now result told.new) }
 {
     shift_calls::call_summary_check(file, summary, told)
@@ -329,8 +293,7 @@ pub extern "C" fn segvartin_call_summary_check(
 
 // The record of a crossing, the first by offset if several (0); or answers 15 where these bytes are no file, 17 where `summary` does not start with
 // its summary. told: how many were found, 1 or 0, and the number of that record, from 0.
-#[unsafe(no_mangle)]
-pub extern "C" fn segvartin_call_summary_find(
+pub fn segvartin_call_summary_find(
     file: &[u8],
     summary: &[u8],
     crossing: u32,
@@ -343,12 +306,7 @@ pub extern "C" fn segvartin_call_summary_find(
 
 // Rewrites a shift file's summary as that of the file with the record `added` at its end (0), in 13 bytes more; or answers 15 where these bytes are no
 // file, no record, or a file that may not grow, 17 where `summary` is shorter or not the file's summary, and writes nothing.
-#[unsafe(no_mangle)]
-pub extern "C" fn segvartin_call_summary_update(
-    file: &[u8],
-    added: &[u8],
-    summary: &mut [u8],
-) -> u32
+pub fn segvartin_call_summary_update(file: &[u8], added: &[u8], summary: &mut [u8]) -> u32
     ensures { UpdateKept (exported_update file.now added.now summary.old result summary.new) }
 {
     shift_calls::call_summary_update(file, added, summary)
@@ -359,8 +317,7 @@ pub extern "C" fn segvartin_call_summary_update(
 // theirs; of the first pair that differs the kind (0 none, 1 sizes, 2 a place), its crossing, the places of its records in ours and in theirs; for
 // sizes width and height of ours and of theirs; for a place plane (0 Y, 1 U, 2 V), row and column; for sizes the codes of the samplings of ours
 // and of theirs; 0. told: the file that is none, 1 for ours, 2 for theirs, or 0.
-#[unsafe(no_mangle)]
-pub extern "C" fn segvartin_call_shift_pairs(
+pub fn segvartin_call_shift_pairs(
     ours: &[u8],
     theirs: &[u8],
     report: &mut [u64; 18],
@@ -376,8 +333,7 @@ pub extern "C" fn segvartin_call_shift_pairs(
 // What a Y4M file's header says and how many pictures follow (0), or 19 where these bytes are none, with nothing written. Six numbers go to `entries` for
 // each picture from `first` on that has room: offset and length of Y, of U and of V in the file. told: width, height, the sampling's code, the
 // count, and how many pictures were told of; each 0 after 19.
-#[unsafe(no_mangle)]
-pub extern "C" fn segvartin_call_y4m_pictures(
+pub fn segvartin_call_y4m_pictures(
     file: &[u8],
     first: usize,
     entries: &mut [u64],
@@ -391,8 +347,7 @@ pub extern "C" fn segvartin_call_y4m_pictures(
 // Writes the Y4M file of pictures, each its Y, U and V without padding, back to back, at the front of `output` (0), a file of no picture too; or answers 19
 // where a side or the sampling's code is not allowed or the bytes are not whole pictures, 16 where `output` is shorter than the file, and writes nothing.
 // numbers: width, height, the sampling's code. told: the file's size, after 16 too; 0 after 19, and where the size is no number of 64 bits.
-#[unsafe(no_mangle)]
-pub extern "C" fn segvartin_call_y4m_write(
+pub fn segvartin_call_y4m_write(
     numbers: &[u32; 3],
     pictures: &[u8],
     output: &mut [u8],
@@ -408,8 +363,7 @@ pub extern "C" fn segvartin_call_y4m_write(
 // answers 19 where a side or the sampling's code is not allowed, a stride is shorter than its plane's row, or a plane is not stride × rows bytes, 16
 // where `output` is shorter than the picture, and writes nothing. A file with such pictures after it is the file with their planes: the file of no
 // picture begins one. numbers: width, height, the sampling's code, the strides of Y, U and V. told: the picture's size, after 16 too; 0 after 19.
-#[unsafe(no_mangle)]
-pub extern "C" fn segvartin_call_y4m_picture(
+pub fn segvartin_call_y4m_picture(
     numbers: &[u32; 6],
     y: &[u8],
     u: &[u8],
