@@ -1,4 +1,6 @@
 // A request of the program `luma_counts`, from its bytes to those that answer it.
+#![tactic(auto)]
+
 ghost use Rattle.std.specs.Prelude.{◌≡◌, true, [], ◌∷◌, ℕ, ◌+◌, ◌≤◌, ◌<◌, length, get_or};
 ghost use Rattle.yuv_support.specs.Matrix.{accepted};
 ghost use Rattle.colour_counts.specs.Counts.{count_of};
@@ -89,7 +91,8 @@ fn reply_into(input: &[u8], output: &mut [u8]) -> usize
     ensures { Begins (reply input.now) output.old result output.new }
 {
     if is_malformed(input) {
-        return bytes::copy(b"refused 1\n", output);
+        output[..10].copy_from_slice(b"refused 1\n");
+        return 10;
     }
     let range = setting_codes::range_of(input[0] as u32);
     let matrix = setting_codes::matrix_of(input[1] as u32);

@@ -1,12 +1,23 @@
 // The program: reads a request on standard input, and writes its planes or `refused N` on standard output. Where a read or a
 // write fails it says so on standard error: a failed read is no request, so it has no refusal.
-ghost use Rattle.std.specs.Prelude.{◌≡◌, length};
+#![tactic(auto)]
+
+ghost use Rattle.std.specs.Prelude.{◌≡◌, ℕ, length, take, IfSome, OnOk, IsErrOf};
+ghost use Rattle.std.specs.Bool.{OnTrue};
+ghost use Rattle.std.specs.Io.KnownBytes.{Appends, Keeps};
 ghost use Rattle.frame_request.specs.Reply.{reply};
 
-use libc::STDERR_FILENO;
+use std::io::{Read, Write};
+
+// What fails beside a request that is refused.
+#[derive(Clone, Copy)]
+enum Failure {
+    CannotRead,
+    CannotWrite,
+}
 
 // One byte past the largest request, 9 + 4 × 16,384 bytes. What stands further on changes no byte of the
-// reply (`reply-enough` of frame_request).
+// reply (`reply_enough` of frame_request).
 fn input_buffer() -> [u8; 65546]
     ensures { 65546 ≡ length result }
 {
@@ -20,25 +31,48 @@ fn output_buffer() -> [u8; 49152]
     [0; 49152]
 }
 
-// Writes the reply to an input on standard output, and answers whether all of it was written. The input is there for the
-// `requires`: nothing else is written.
-fn write_reply(input: &[u8], bytes: &[u8]) -> bool
+// Writes the reply to an input, and answers whether all of it was written. The input is there for the `requires`: nothing else is
+// written.
+fn write_reply<W: Write>(writer: &mut W, input: &[u8], bytes: &[u8]) -> bool
     requires { bytes.now ≡ reply input.now }
+    ensures all { OnTrue result (Appends (W.contents writer.old) (W.contents writer.new) (reply input.now)) }
+    ensures start { (n : ℕ) × Appends (W.contents writer.old) (W.contents writer.new) (take n (reply input.now)) }
 {
-    standard_streams::write_output(bytes)
+    standard_streams::write_output(writer, bytes)
 }
 
-fn main() {
+// Reads a request to its end, and writes the reply to it: all of it, or the start of it where a write fails. Where a read fails
+// nothing is written.
+fn answer<R: Read, W: Write>(reader: &mut R, writer: &mut W) -> Result<(), Failure>
+    ensures answered { OnOk result (IfSome (R.remaining reader.old) (λ input.
+        Appends (W.contents writer.old) (W.contents writer.new) (reply input))) }
+    ensures unread { IsErrOf result Failure.CannotRead → Keeps (W.contents writer.old) (W.contents writer.new) }
+    ensures cut { IsErrOf result Failure.CannotWrite → IfSome (R.remaining reader.old) (λ input.
+        (n : ℕ) × Appends (W.contents writer.old) (W.contents writer.new) (take n (reply input))) }
+{
     let mut input = input_buffer();
     let mut output = output_buffer();
-    let read = standard_streams::read_input(&mut input);
+    let read = standard_streams::read_input(reader, &mut input);
     if !read.whole {
-        io::write_all(STDERR_FILENO, b"frame: cannot read standard input\n");
-        return;
+        return Err(Failure::CannotRead);
     }
     let size = read.size;
     let bytes = frame_request::reply_to(&input[..size], &mut output);
-    if !write_reply(&input[..size], &output[..bytes]) {
-        io::write_all(STDERR_FILENO, b"frame: cannot write standard output\n");
+    if write_reply(writer, &input[..size], &output[..bytes]) {
+        Ok(())
+    } else {
+        Err(Failure::CannotWrite)
+    }
+}
+
+fn main(rt: HostRuntime) {
+    match answer(&mut rt.stdin(), &mut rt.stdout()) {
+        Ok(()) => {}
+        Err(Failure::CannotRead) => {
+            let _ = eprintln!(rt; "frame: cannot read standard input");
+        }
+        Err(Failure::CannotWrite) => {
+            let _ = eprintln!(rt; "frame: cannot write standard output");
+        }
     }
 }

@@ -4,7 +4,7 @@ use Prim.Native.Nat.{ℕ, zero, suc, ◌+◌, ◌*◌, ◌-◌, ◌≤◌}
 use mathlib.Core.Path.{◌≡◌, refl, ap, ◌∙◌}
 use mathlib.Core.Bool.{Bool, true, false, cond, not, ◌||◌}
 use mathlib.Core.List.{List, ◌++◌}
-use native.Mathlib.Nat.{le_refl, mul-le-mul, mul-le-mul_left, mul-le-mul_right, mul-one, one-mul, mul-add}
+use native.Mathlib.Nat.{le_refl, mul-le-mul_left, mul-le-mul_right, mul-one, one-mul, mul-add}
 use native.Mathlib.Omega.{arith}
 use borrow.Author.Tests.{le-ltb, ltb-true, ltb-false, eq-eqb, ne_eqb, eqb-false}
 use lib.Dec.{ltb, eqb}
@@ -14,7 +14,7 @@ use Rattle.yuv_support.specs.declared.YuvStandardMatrix.TheVariants.{Bt601}
 use Rattle.yuv_support.specs.Matrix.{accepted}
 use Rattle.yuv_error.specs.declared.LentBuffer.{LentBuffer}
 use Rattle.yuv_error.specs.Numbers.{Numbers, numbers}
-use Rattle.yuv_error.specs.Rules.{Rule, first_numbers, matrix_rules, least_of, whole_of, too_short, too_narrow, not_whole, buffer_rules as Rules·bufferRules}
+use Rattle.yuv_error.specs.Rules.{first_numbers, matrix_rules, least_of, whole_of, too_short, too_narrow, not_whole, buffer_rules as Rules·bufferRules}
 use Rattle.yuv_error.specs.Lowest.{Lowest}
 use Rattle.yuv_error.proofs.Accepted.{neither}
 use Rattle.yuv_error.proofs.Lowest.{first_is_lowest}

@@ -1,7 +1,7 @@
 -- The frame call of a request, lent the first bytes of the output for Y and of two buffers for U and V. Refused, the output is as it was;
 -- finished, and U and V put behind Y, it is painted. Assumes nothing.
 use Prim.Native.Nat.{ℕ, ◌+◌, ◌≤◌}
-use mathlib.Core.Path.{◌≡◌, refl, sym, ap, subst, ◌∙◌}
+use mathlib.Core.Path.{◌≡◌, sym, ap, subst, ◌∙◌}
 use mathlib.Core.List.{List, ◌++◌}
 use native.Mathlib.Nat.{le_refl}
 use native.Mathlib.Omega.{arith}

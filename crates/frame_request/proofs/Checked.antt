@@ -1,7 +1,7 @@
 -- What a request is known to be once it was not refused with 1, 2 or 3, and that what is asked of it then is asked of its frame call.
 -- Assumes nothing.
 use Prim.Native.Nat.{ℕ, ◌≤◌}
-use mathlib.Core.Path.{◌≡◌, refl, sym, ap, ◌∙◌}
+use mathlib.Core.Path.{◌≡◌, refl, sym, ◌∙◌}
 use mathlib.Core.Bool.{true, false, ◌||◌}
 use mathlib.Core.List.{List, [], ◌++◌}
 use native.Mathlib.Nat.{mul-le-mul}

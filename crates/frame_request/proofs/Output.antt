@@ -9,7 +9,6 @@ use native.Mathlib.Omega.{arith}
 use borrow.Author.Tests.{lt-ltb, le-ltb}
 use borrow.Rule.Slice.PartMut.{put_mid}
 use lib.ListN.{length, get_or, take, drop, length-take, length-drop, get_or-eq_default}
-use Rattle.yuv_support.specs.declared.YuvChromaSubsampling.{YuvChromaSubsampling}
 use Rattle.yuv_support.specs.Sampling.{chroma_width}
 use Rattle.definitions.specs.Painted.{Painted}
 use Rattle.definitions.proofs.Painted.{painted, Painted-at, Painted-none, Painted-join}

@@ -1,4 +1,6 @@
 // A request of the program `frame`, from its bytes to those that answer it.
+#![tactic(auto)]
+
 ghost use Rattle.std.specs.Prelude.{◌≡◌, ◌++◌, ◌+◌, ◌*◌, ◌≤◌, ◌<◌, length, take, drop};
 ghost use Rattle.definitions.specs.Painted.{Painted};
 ghost use Rattle.yuv_error.specs.Numbers.{numbers_of};
@@ -22,7 +24,7 @@ const HEADER: usize = 9;
 const MOST_PIXELS: u32 = 16384;
 
 // The answer to a request: the planes, so many bytes of output, or one numbered refusal.
-#[derive(Drop)]
+#[derive(Clone, Copy)]
 pub enum Response {
     Planes(usize),
     Refused(YuvError),
@@ -144,7 +146,7 @@ fn source_stride(frame: FrameDescription) -> u32
 }
 
 // The bytes of a frame's planes without padding: of Y, and of U or V.
-#[derive(Drop)]
+#[derive(Clone, Copy)]
 struct PlaneSizes {
     luma: usize,
     chroma: usize,
@@ -170,7 +172,7 @@ fn put(plane: &[u8], size: usize, output: &mut [u8], at: usize)
     requires size_in_bounds_2 { at + size ≤ length output.old }
     ensures { output.new ≡ take at output.old ++ (take size plane.now ++ drop size (drop at output.old)) }
 {
-    bytes::copy(&plane[..size], &mut output[at..at + size]);
+    output[at..at + size].copy_from_slice(&plane[..size]);
 }
 
 // A chroma plane of the largest frame.

@@ -1,12 +1,17 @@
 // What the programs that replay stored calls share: the parts of a list, read from standard input one after the other, and what is
 // printed of a call. The gate compares. vectors/README.md has the form of a list and of what is printed.
+#![tactic(auto)]
+
 ghost use Rattle.std.specs.Prelude.{◌≤◌};
 ghost use Rattle.io.specs.Counts.{IsPrefixLen};
 
 use definitions::{FrameDescription, Window, YuvSettings};
-use libc::{STDIN_FILENO, STDOUT_FILENO};
 use yuv_error::YuvAnswer;
 use yuv_support::YuvStandardMatrix;
+
+const STDIN_FILENO: i32 = 0;
+
+const STDOUT_FILENO: i32 = 1;
 
 fn number_of(a: u8, b: u8, c: u8, d: u8) -> u32 {
     a as u32 + 256 * (b as u32) + 65536 * (c as u32) + 16777216 * (d as u32)

@@ -5,9 +5,13 @@
 // Standard output has a line for each: its name, a bar, how many bytes the program writes for it, and these bytes, or where they are
 // more than 40 their CRC-32 and the lines of five lumas. The last line counts the requests.
 // tools/counts.py makes both files.
+#![tactic(auto)]
+
 ghost use Rattle.std.specs.Prelude.{◌≡◌, length};
 
-use libc::{STDIN_FILENO, STDOUT_FILENO};
+const STDIN_FILENO: i32 = 0;
+
+const STDOUT_FILENO: i32 = 1;
 
 fn output_buffer() -> [u8; 3328]
     ensures { 3328 ≡ length result }
@@ -41,7 +45,7 @@ fn replay_lines(text: &[u8]) -> u64 {
     let mut count = 0;
     let mut at = 0;
     while at < text.len() {
-        let end = bytes::scan::find(text, at, text.len(), b'\n');
+        let end = replay_text::find(text, at, text.len(), b'\n');
         replay_line(&text[at..end]);
         count += 1;
         at = end + 1;

@@ -3,10 +3,13 @@
 //
 //     red, 1 by 1 | 01 00 01 00 00 01 01 00 00 FF 00 00
 //     one colour, 128 by 128 | 80 00 80 00 00 00 00 00 00 10 20 30 * 49161
+#![tactic(auto)]
+
 ghost use Rattle.std.specs.Prelude.{◌≤◌, ◌<◌, length};
 
-use libc::STDOUT_FILENO;
 use replay::print;
+
+const STDOUT_FILENO: i32 = 1;
 
 // The value of a digit in base 16; 0 for any other byte.
 fn digit(b: u8) -> u8
@@ -76,7 +79,7 @@ fn repeat(request: &mut [u8], given: usize, size: usize) -> usize
 fn read_request(text: &[u8], request: &mut [u8]) -> usize
     ensures { result ≤ length request.new }
 {
-    let star = bytes::scan::find(text, 0, text.len(), b'*');
+    let star = find(text, 0, text.len(), b'*');
     let given = read_bytes(&text[0..star], request);
     if star == text.len() {
         return given;
@@ -88,7 +91,7 @@ fn read_request(text: &[u8], request: &mut [u8]) -> usize
 pub fn read_named(line: &[u8], request: &mut [u8]) -> usize
     ensures { result ≤ length request.new }
 {
-    let bar = bytes::scan::find(line, 0, line.len(), b'|');
+    let bar = find(line, 0, line.len(), b'|');
     let from = least(bar + 1, line.len());
     print(&line[0..bar]);
     print(b"| ");
@@ -101,10 +104,7 @@ fn line_start(text: &[u8], n: usize) -> usize
 {
     let mut at = 0;
     for _ in 0..n {
-        at = least(
-            bytes::scan::find(text, at, text.len(), b'\n') + 1,
-            text.len(),
-        );
+        at = least(find(text, at, text.len(), b'\n') + 1, text.len());
     }
     at
 }
@@ -112,7 +112,7 @@ fn line_start(text: &[u8], n: usize) -> usize
 // Prints line n of a reply, behind a comma.
 pub fn print_line(reply: &[u8], n: usize) {
     let start = line_start(reply, n);
-    let end = bytes::scan::find(reply, start, reply.len(), b'\n');
+    let end = find(reply, start, reply.len(), b'\n');
     print(b", ");
     print(&reply[start..end]);
 }
@@ -132,4 +132,19 @@ pub fn print_reply(reply: &[u8]) {
     } else {
         replay::print_buffer(b" bytes, CRC-32 ", reply);
     }
+}
+
+// The index of the first such byte from `from` on and before `to`, or `to` where there is none.
+pub fn find(text: &[u8], from: usize, to: usize, byte: u8) -> usize
+    requires order { from ≤ to }
+    requires within { to ≤ length text.now }
+    ensures low { from ≤ result }
+    ensures high { result ≤ to }
+{
+    for i in from..to {
+        if text[i] == byte {
+            return i;
+        }
+    }
+    to
 }

@@ -1,0 +1,82 @@
+-- `convert` meets its contract: the frame is the request's, so the frame call's promise is that of the request.
+-- Assumes nothing.
+use Prim.Native.Nat.{ℕ, ◌+◌, ◌*◌, ◌-◌}
+use mathlib.Core.Path.{◌≡◌, ap, ◌∙◌}
+use mathlib.Core.List.{List}
+use native.Mathlib.Omega.{arith}
+use lib.ListN.{length, take, drop, length-drop}
+use lib.Seq.{take_all}
+use Rattle.frame_request.specs.Request.{frame_of, source_stride, luma_size, chroma_size}
+use Rattle.frame_request.specs.Packed.{Packed}
+use Rattle.frame_request.proofs.Checked.{Checked, checked, packed}
+use Rattle.frame_request.proofs.Post.{called, posted}
+use Rattle.frame_request.proofs.convert.Goals as goal
+
+-- the part of the input that is lent: all past the header
+rest : (input : List ℕ) → take (length input - 9) (drop 9 input) ≡ drop 9 input
+rest input = take_all (length input - 9) (drop 9 input) (omega (arith, length-drop 9 input))
+
+pub frame_of-frame-requires : goal.frame_of-frame-requires
+frame_of-frame-requires c =
+    let known : Checked c.args.input.now = checked c.args.input.now c.requires.input_value in
+    known.header
+
+pub source_stride-stride-requires : goal.source_stride-stride-requires
+source_stride-stride-requires c =
+    let known : Checked c.args.input.now = checked c.args.input.now c.requires.input_value in
+    rw c.frame_of-frame.ensures known.width_most
+
+pub plane_sizes-sizes-requires : goal.plane_sizes-sizes-requires
+plane_sizes-sizes-requires c =
+    let known : Checked c.args.input.now = checked c.args.input.now c.requires.input_value in
+    let k = known in rw c.frame_of-frame.ensures (k.width_most, k.height_least, k.height_most)
+
+pub slice_bounds-convert_into-count : goal.slice_bounds-convert_into-count
+slice_bounds-convert_into-count c =
+    let known : Checked c.args.input.now = checked c.args.input.now c.requires.input_value in
+    omega (arith, known)
+
+pub slice_bounds-convert_into-start : goal.slice_bounds-convert_into-start
+slice_bounds-convert_into-start c =
+    let known : Checked c.args.input.now = checked c.args.input.now c.requires.input_value in
+    omega (arith, known)
+
+pub convert_into-answer-requires : goal.convert_into-answer-requires
+convert_into-answer-requires c =
+    let known : Checked c.args.input.now = checked c.args.input.now c.requires.input_value in
+    let fits : Packed (frame_of c.args.input.now) c.plane_sizes-sizes.result =
+    packed c.args.input.now c.plane_sizes-sizes.result known
+    (c.plane_sizes-sizes.ensures.0 ∙ ap luma_size c.frame_of-frame.ensures) (c.plane_sizes-sizes.ensures.1 ∙ ap chroma_size c.frame_of-frame.ensures) in
+    record {
+      packed = rw c.frame_of-frame.ensures fits;
+      in_bounds = c.requires.in_bounds;
+    }
+
+pub overflow_mul-sizes : goal.overflow_mul-sizes
+overflow_mul-sizes c =
+    let known : Checked c.args.input.now = checked c.args.input.now c.requires.input_value in
+    let fits : Packed (frame_of c.args.input.now) c.plane_sizes-sizes.result =
+    packed c.args.input.now c.plane_sizes-sizes.result known
+    (c.plane_sizes-sizes.ensures.0 ∙ ap luma_size c.frame_of-frame.ensures) (c.plane_sizes-sizes.ensures.1 ∙ ap chroma_size c.frame_of-frame.ensures) in
+    omega (arith, fits)
+
+pub overflow_add-sizes : goal.overflow_add-sizes
+overflow_add-sizes c =
+    let known : Checked c.args.input.now = checked c.args.input.now c.requires.input_value in
+    let fits : Packed (frame_of c.args.input.now) c.plane_sizes-sizes.result =
+    packed c.args.input.now c.plane_sizes-sizes.result known
+    (c.plane_sizes-sizes.ensures.0 ∙ ap luma_size c.frame_of-frame.ensures) (c.plane_sizes-sizes.ensures.1 ∙ ap chroma_size c.frame_of-frame.ensures) in
+    omega (arith, fits)
+
+pub returns : goal.returns
+returns c =
+    let known : Checked c.args.input.now = checked c.args.input.now c.requires.input_value in
+    let fits : Packed (frame_of c.args.input.now) c.plane_sizes-sizes.result =
+    packed c.args.input.now c.plane_sizes-sizes.result known
+    (c.plane_sizes-sizes.ensures.0 ∙ ap luma_size c.frame_of-frame.ensures) (c.plane_sizes-sizes.ensures.1 ∙ ap chroma_size c.frame_of-frame.ensures) in
+    let w = fits in
+    posted c.args.input.now c.args.output.now _ c.convert_into-answer.result (c.plane_sizes-sizes.result.luma + 2 * c.plane_sizes-sizes.result.chroma)
+    c.respond.ensures (omega (arith, w))
+    (called c.args.input.now c.args.output.now _ c.frame_of-frame.result c.source_stride-stride.result _ c.convert_into-answer.result c.frame_of-frame.ensures
+    (c.source_stride-stride.ensures ∙ ap source_stride c.frame_of-frame.ensures) (rest c.args.input.now) c.requires.input_value c.convert_into-answer.ensures.result_value
+    c.convert_into-answer.ensures.painted)
