@@ -1,4 +1,6 @@
 // Band calls: a frame converted in bands of rows, between which its state goes in by value and comes back.
+#![tactic(auto)]
+
 ghost use Rattle.std.specs.Prelude.{◌≡◌, ◌+◌, ◌*◌, ◌-◌, ◌/◌, ◌%◌, ◌≤◌, length};
 ghost use Rattle.yuv_error.specs.Numbers.{numbers_of};
 ghost use Rattle.yuv_error.specs.Rules.{first_numbers};
@@ -14,14 +16,14 @@ use yuv_error::{Lengths, MismatchedSize, YuvAnswer, YuvError};
 use yuv_support::YuvChromaSubsampling;
 
 // A frame that is being converted: what its opening fixed, and how many of its rows are done.
-#[derive(Drop)]
+#[derive(Clone, Copy)]
 pub struct FrameState {
     pub frame: FrameDescription,
     pub done: u32,
 }
 
 // What an opening or a band call hands back.
-#[derive(Drop)]
+#[derive(Clone, Copy)]
 pub struct FrameAnswer {
     pub state: FrameState,
     pub answer: YuvAnswer,

@@ -1,6 +1,8 @@
 // The rows of a band into the three planes, step by step: each step writes what its rows finish. In 4:2:2 a step is one row; in 4:2:0 two rows that
 // share a chroma row. A band of 4:2:0 that starts between two such rows takes its first row alone, below the carried row, and one that ends
 // there its last row. So bands of one row of 4:2:0 take single rows only.
+#![tactic(auto)]
+
 ghost use Rattle.std.specs.Prelude.{◌+◌, ◌*◌, ◌%◌, ◌≤◌, ◌≡◌, length};
 ghost use Rattle.definitions.specs.Image.{Image};
 ghost use Rattle.definitions.specs.Bands.{band_image, Sharpened};

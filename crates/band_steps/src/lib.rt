@@ -1,5 +1,7 @@
 // A step of a band: where the bytes of a row stand in the source and in the planes, and what the row, or two rows that share a chroma row,
 // write there.
+#![tactic(auto)]
+
 ghost use Rattle.std.specs.Prelude.{◌≡◌, ◌+◌, ◌*◌, ◌-◌, ◌/◌, ◌%◌, ◌≤◌, ◌<◌, length};
 ghost use Rattle.definitions.specs.Row.{pixels_of};
 ghost use Rattle.definitions.specs.Image.{Image, row_start};
@@ -12,7 +14,7 @@ use pixel_pairs::tables::Conversion;
 use yuv_support::YuvChromaSubsampling;
 
 // A band, with what is worked out once for its rows.
-#[derive(Drop)]
+#[derive(Clone, Copy)]
 pub struct Work {
     pub rows: Conversion,
     pub done: usize,
@@ -21,7 +23,7 @@ pub struct Work {
 }
 
 // A row of a band: where its bytes start in the source and in each plane, and how many there are.
-#[derive(Drop)]
+#[derive(Clone, Copy)]
 pub struct Step {
     pub row: usize,
     pub source: usize,

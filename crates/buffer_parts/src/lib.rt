@@ -1,10 +1,12 @@
 // Parts of a lent buffer, by offset and length: whether one ends within its buffer, and whether two share a byte. No sum is made, since
 // offset + length may pass 2^64.
+#![tactic(auto)]
+
 ghost use Rattle.std.specs.Prelude.{◌≡◌};
 ghost use Rattle.buffer_parts.specs.Parts.{is_inside, are_overlapping};
 
 // `length` bytes of a buffer, from byte `offset` on.
-#[derive(Drop)]
+#[derive(Clone, Copy)]
 pub struct BufferPart {
     pub offset: usize,
     pub length: usize,

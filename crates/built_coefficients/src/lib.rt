@@ -1,4 +1,6 @@
 // The stored weights, and the search among stored and computed ones (the Rust's built_coefficients.rs).
+#![tactic(auto)]
+
 ghost use Rattle.std.specs.Prelude.{◌≡◌, ◌<◌, T};
 ghost use Rattle.yuv_support.specs.Matrix.{accepted};
 ghost use Rattle.built_coefficients.specs.Built.{built_transform, forward_transform};
@@ -132,7 +134,7 @@ const BUILT: [CbCrForwardTransformI32; 10] = [
 ];
 
 // What a search for a stored set finds.
-#[derive(Drop)]
+#[derive(Clone, Copy)]
 pub enum BuiltTransform {
     Stored(CbCrForwardTransformI32),
     Nothing,

@@ -1,5 +1,7 @@
 // The numbers that a caller without enums and structs passes and is told: a description in a slice, so that a later setting is one number more; an
 // answer as its number, expected and received.
+#![tactic(auto)]
+
 ghost use Rattle.std.specs.Prelude.{◌≡◌, false, ◌+◌, ◌≤◌, length, get_or, drop, set};
 ghost use Rattle.yuv_error.specs.Numbers.{numbers_of};
 ghost use Rattle.call_numbers.specs.Codes.{matrix_of, settings_of, window_of, description_of, is_unknown, is_malformed, is_malformed_range_and_matrix};
@@ -152,7 +154,7 @@ pub fn tell_answer(answer: YuvAnswer, told: &mut [usize]) -> u32
 }
 
 // What an opening or a band call has to tell: its answer, and the rows done.
-#[derive(Drop)]
+#[derive(Clone, Copy)]
 pub struct Told {
     pub answer: YuvAnswer,
     pub done: u32,

@@ -1,4 +1,6 @@
 // How many of the 16,777,216 colours have each luma, in a matrix and range.
+#![tactic(auto)]
+
 ghost use Rattle.std.specs.Prelude.{◌≡◌, ◌+◌, ◌*◌, ◌/◌, ◌%◌, ◌≤◌, ◌<◌, T, length};
 ghost use Rattle.yuv_support.specs.Matrix.{accepted};
 ghost use Rattle.definitions.specs.Painted.{Painted};
@@ -22,7 +24,7 @@ const ROUNDING: u64 = 4095;
 const HIGH: u64 = 4294967296;
 
 // The weights of luma, none of which is negative, and what it starts from.
-#[derive(Drop)]
+#[derive(Clone, Copy)]
 struct LumaWeights {
     r: u64,
     g: u64,

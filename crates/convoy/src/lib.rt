@@ -1,4 +1,6 @@
 // A convoy: many frames in one call, with the effect of single calls in order, up to the first that is refused.
+#![tactic(auto)]
+
 ghost use Rattle.std.specs.Prelude.{◌≤◌};
 ghost use Rattle.yuv_error.specs.Lent.{lengths_of};
 ghost use Rattle.convoy_parts.specs.Parts.{frames_of};
@@ -9,7 +11,7 @@ use convoy_parts::{Convoy, ConvoyFrame, Described};
 use yuv_error::{Lengths, YuvAnswer, YuvError};
 
 // What a convoy is answered: how many frames are finished, which is the place from 0 of the one that was refused, and its refusal.
-#[derive(Drop)]
+#[derive(Clone, Copy)]
 pub struct ConvoyAnswer {
     pub answer: YuvAnswer,
     pub done: usize,

@@ -1,5 +1,7 @@
 // A convoy from numbers, for callers without enums and structs: sixteen numbers a frame, its kr and kb, its parts as offsets and lengths; and what is
 // told of it.
+#![tactic(auto)]
+
 ghost use Rattle.std.specs.Prelude.{◌≡◌, ◌+◌, ◌≤◌, ◌<◌, length, get_or, set};
 ghost use Rattle.std.specs.Float.{nan};
 ghost use Rattle.yuv_error.specs.Numbers.{numbers_of};

@@ -1,4 +1,6 @@
 // The frames of a convoy, up to 64 of them over one source and one buffer for each plane, and refusal 18: too many, or parts that do not fit.
+#![tactic(auto)]
+
 ghost use Rattle.std.specs.Prelude.{◌≡◌, ◌≤◌};
 ghost use Rattle.convoy_parts.specs.Parts.{frames_of, is_frame_outside, do_frames_overlap, any_outside, any_overlap, broken_parts};
 
@@ -10,14 +12,14 @@ use yuv_error::Lengths;
 const MAX_FRAMES: usize = 64;
 
 // What a frame of a convoy is converted by; `Malformed` where codes without a meaning came for it.
-#[derive(Drop)]
+#[derive(Clone, Copy)]
 pub enum Described {
     Malformed,
     Frame(FrameDescription),
 }
 
 // A frame of a convoy: the stride of its source, and its parts of the four buffers.
-#[derive(Drop)]
+#[derive(Clone, Copy)]
 pub struct ConvoyFrame {
     pub described: Described,
     pub stride: u32,
@@ -28,7 +30,7 @@ pub struct ConvoyFrame {
 }
 
 // The first `count` frames are given.
-#[derive(Drop)]
+#[derive(Clone, Copy)]
 pub struct Convoy {
     pub frames: [ConvoyFrame; 64],
     pub count: usize,

@@ -1,4 +1,6 @@
 // The records of a shift file in order of their crossings: keys of a crossing above a place, sorted. Records of one crossing keep the file's order.
+#![tactic(auto)]
+
 ghost use Rattle.std.specs.Prelude.{◌≡◌, ◌+◌, ◌*◌, ◌/◌, ◌%◌, ◌<◌, length};
 ghost use Rattle.merge_sort.specs.Ascending.{sorted, keys_from};
 ghost use Rattle.shift_file.specs.Read.{records_in};

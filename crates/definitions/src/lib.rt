@@ -1,4 +1,6 @@
 // What a frame is converted by: its settings and its description, and where its pixels stand in a source. The meaning of its planes stands in specs/.
+#![tactic(auto)]
+
 ghost use Rattle.std.specs.Prelude.{◌≡◌, ◌≤◌, ◌<◌};
 ghost use Rattle.definitions.specs.Image.{row_size, row_start};
 
@@ -6,7 +8,7 @@ use sharp_gamma::{SharpYuvGammaTransfer, TableRounding};
 use yuv_support::{YuvChromaSubsampling, YuvRange, YuvSourceChannels, YuvStandardMatrix};
 
 // How a frame is converted: travels as one value.
-#[derive(Drop)]
+#[derive(Clone, Copy)]
 pub struct YuvSettings {
     pub channels: YuvSourceChannels,
     pub sampling: YuvChromaSubsampling,
@@ -17,7 +19,7 @@ pub struct YuvSettings {
 }
 
 // Where a frame stands in a larger source: its first column and row, and the source's size.
-#[derive(Drop)]
+#[derive(Clone, Copy)]
 pub struct Window {
     pub left: u32,
     pub top: u32,
@@ -26,7 +28,7 @@ pub struct Window {
 }
 
 // A frame's size, its place in its source, settings and plane strides: what an opening fixes and a frame call is given.
-#[derive(Drop)]
+#[derive(Clone, Copy)]
 pub struct FrameDescription {
     pub width: u32,
     pub height: u32,
@@ -38,7 +40,7 @@ pub struct FrameDescription {
 }
 
 // A band of a frame: `rows` rows after the first `done`, `stride` bytes apart in their source, which has its full width.
-#[derive(Drop)]
+#[derive(Clone, Copy)]
 pub struct Band {
     pub frame: FrameDescription,
     pub done: u32,

@@ -1,5 +1,7 @@
 // The front desk (RULES 16): 32 cameras share one converter and five buffers. A camera opens a frame and offers its bands; a step serves one.
 // The desk goes in by value and comes back. It is taken as it comes, also one that no call handed back.
+#![tactic(auto)]
+
 ghost use Rattle.std.specs.Prelude.{◌≡◌};
 ghost use Rattle.yuv_error.specs.Numbers.{numbers_of};
 ghost use Rattle.yuv_error.specs.Rules.{first_numbers};
@@ -13,28 +15,28 @@ use desk_places::{BufferLengths, FrameParts, Next, OpenFrame, Place, Slot, Waiti
 use yuv_error::{YuvAnswer, YuvError};
 
 // What stands at each camera's number, and which camera is asked first at the next step.
-#[derive(Drop)]
+#[derive(Clone, Copy)]
 pub struct Desk {
     pub places: [Place; 32],
     pub from: usize,
 }
 
 // What an opening or an offer hands back.
-#[derive(Drop)]
+#[derive(Clone, Copy)]
 pub struct DeskAnswer {
     pub desk: Desk,
     pub answer: YuvAnswer,
 }
 
 // Whose band a step served, and what became of it.
-#[derive(Drop)]
+#[derive(Clone, Copy)]
 pub enum Served {
     Nobody,
     Camera(usize, YuvAnswer),
 }
 
 // What a step hands back.
-#[derive(Drop)]
+#[derive(Clone, Copy)]
 pub struct StepAnswer {
     pub desk: Desk,
     pub served: Served,

@@ -1,4 +1,6 @@
 // A band served at the front desk (RULES 16.4): the band call on the frame's parts of the shared buffers.
+#![tactic(auto)]
+
 ghost use Rattle.std.specs.Prelude.{◌≡◌, true};
 ghost use Rattle.desk_bands.specs.Buffers.{buffers_of, are_lent, ServePost};
 

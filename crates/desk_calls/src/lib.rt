@@ -1,5 +1,7 @@
 // An opening and an offer at the front desk from numbers, for callers without enums and structs (RULES 10.10): the desk stands in three lent arrays, in
 // which a call writes the place of one camera anew. `desk_steps` has the step.
+#![tactic(auto)]
+
 ghost use Rattle.std.specs.Prelude.{◌≡◌, ◌<◌, length};
 ghost use Rattle.desk_numbers.specs.Numbers.{desk_numbers};
 ghost use Rattle.desk_calls.specs.Calls.{place_left, parts_of, lengths_of, DescribedOpen, exported_desk_open, DeskOpenKept};

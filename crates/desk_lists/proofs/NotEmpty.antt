@@ -88,17 +88,17 @@ pub run_met : (d : Desk) (p : Buffers) (asks : List Ask) → AllMet (run d p ask
 run_met d p [] = tt
 run_met d p (to_open c frame w n ∷ asks) =
     let k = open_call d c frame w n (record { desk = d; answer = answer_of (first_numbers []) }) in
-    (record { answered = said (open_rules k) (open_Sayable k); desk = refl }, run_met _ p asks)
+    (record { answered = said (open_rules k) (open_Sayable k); desk = refl }, run_met (handed_back (answered d p (to_open c frame w n))) p asks)
 run_met d p (to_offer c b ∷ asks) =
     let k = offer_call d c b (length p.source) (record { desk = d; answer = answer_of (first_numbers []) }) in
-    (record { answered = said (offer_rules k) (offer_Sayable k); desk = refl }, run_met _ p asks)
-run_met d p (to_step ∷ asks) = (step_met (next_waiting d.places d.from) d p, run_met _ _ asks)
+    (record { answered = said (offer_rules k) (offer_Sayable k); desk = refl }, run_met (handed_back (answered d p (to_offer c b))) p asks)
+run_met d p (to_step ∷ asks) = (step_met (next_waiting d.places d.from) d p, run_met (handed_back (answered d p to_step)) (buffers_after d p to_step) asks)
 
 pub run_handed : (d : Desk) (p : Buffers) (asks : List Ask) → HandedOn d (run d p asks)
 run_handed d p [] = tt
-run_handed d p (to_open c frame w n ∷ asks) = (refl, run_handed _ p asks)
-run_handed d p (to_offer c b ∷ asks) = (refl, run_handed _ p asks)
-run_handed d p (to_step ∷ asks) = (refl, run_handed _ _ asks)
+run_handed d p (to_open c frame w n ∷ asks) = (refl, run_handed (handed_back (answered d p (to_open c frame w n))) p asks)
+run_handed d p (to_offer c b ∷ asks) = (refl, run_handed (handed_back (answered d p (to_offer c b))) p asks)
+run_handed d p (to_step ∷ asks) = (refl, run_handed (handed_back (answered d p to_step)) (buffers_after d p to_step) asks)
 
 -- ---- the buffers come back as left
 

@@ -1,4 +1,6 @@
 // The front desk as numbers, for callers without enums and structs (RULES 10.10): it stands in three arrays, of which each camera has a part.
+#![tactic(auto)]
+
 ghost use Rattle.std.specs.Prelude.{◌≡◌, ◌<◌, length};
 ghost use Rattle.desk_numbers.specs.Numbers.{desk_numbers, frame_of, band_of, slot_of, place_of, desk_of, state_numbers, slot_numbers};
 ghost use Rattle.desk_numbers.specs.Numbers.{matrix_customs, slot_customs, part_numbers, slot_parts, put_place};

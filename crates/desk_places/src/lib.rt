@@ -1,5 +1,7 @@
 // The front desk's places (RULES 16.1): for each of 32 cameras no frame, an open frame, or one with a band that waits; which parts of the
 // shared buffers they take, and whose turn it is.
+#![tactic(auto)]
+
 ghost use Rattle.std.specs.Prelude.{◌≡◌};
 ghost use Rattle.desk_places.specs.Places.{are_inside, overlap_parts, overlaps_slot, overlaps_open, offered, next_waiting, after_band};
 
@@ -7,7 +9,7 @@ use band_calls::FrameState;
 use buffer_parts::BufferPart;
 
 // Where a frame's planes and its carried row stand in the shared buffers.
-#[derive(Drop)]
+#[derive(Clone, Copy)]
 pub struct FrameParts {
     pub y: BufferPart,
     pub u: BufferPart,
@@ -16,7 +18,7 @@ pub struct FrameParts {
 }
 
 // How long the buffers of the planes and of the carried rows are.
-#[derive(Drop)]
+#[derive(Clone, Copy)]
 pub struct BufferLengths {
     pub y: usize,
     pub u: usize,
@@ -25,14 +27,14 @@ pub struct BufferLengths {
 }
 
 // A frame that is being converted, and its parts of the buffers.
-#[derive(Drop)]
+#[derive(Clone, Copy)]
 pub struct OpenFrame {
     pub state: FrameState,
     pub parts: FrameParts,
 }
 
 // A band that waits: its rows, `stride` bytes apart in a part of the source buffer.
-#[derive(Drop)]
+#[derive(Clone, Copy)]
 pub struct WaitingBand {
     pub rows: u32,
     pub stride: u32,
@@ -40,7 +42,7 @@ pub struct WaitingBand {
 }
 
 // What stands at a camera's number: no frame, a frame with no band waiting, or a frame with one.
-#[derive(Drop)]
+#[derive(Clone, Copy)]
 pub enum Slot {
     Free,
     Idle(OpenFrame),
@@ -48,13 +50,13 @@ pub enum Slot {
 }
 
 // An array holds structs, and each holds the enum.
-#[derive(Drop)]
+#[derive(Clone, Copy)]
 pub struct Place {
     pub slot: Slot,
 }
 
 // Whose turn it is, with its frame and its band.
-#[derive(Drop)]
+#[derive(Clone, Copy)]
 pub enum Next {
     NoneWaiting,
     Turn(usize, OpenFrame, WaitingBand),

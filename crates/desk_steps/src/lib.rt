@@ -1,5 +1,7 @@
 // A step at the front desk from numbers, for callers without enums and structs (RULES 10.10): it writes the place of the camera that it served anew in the
 // three arrays that are the desk, and who is asked first.
+#![tactic(auto)]
+
 ghost use Rattle.std.specs.Prelude.{◌≡◌, ◌∷◌, length};
 ghost use Rattle.desk_bands.specs.Buffers.{buffers_of};
 ghost use Rattle.desk_numbers.specs.Numbers.{desk_numbers};

@@ -1,11 +1,13 @@
 // Answers as numbers, for callers that have no enums: what the program, the C functions and the stored lists say.
+#![tactic(auto)]
+
 ghost use Rattle.std.specs.Prelude.{◌≡◌};
 ghost use Rattle.yuv_error.specs.Numbers.{sized, error_numbers, numbers_of};
 
 use yuv_error::{MismatchedSize, YuvAnswer, YuvError};
 
 // 0 for finished work, or a refusal's number; and what the refusal carries, 0 and 0 where it carries nothing.
-#[derive(Drop)]
+#[derive(Clone, Copy)]
 pub struct AnswerNumbers {
     pub number: u32,
     pub size: MismatchedSize,

@@ -1,4 +1,6 @@
 // The forward transform: nine f32 coefficients, and the nine whole weights they are rounded to (the Rust's yuv_support.rs).
+#![tactic(auto)]
+
 ghost use Rattle.std.specs.Prelude.{◌≡◌, not, T, pos};
 ghost use Rattle.std.specs.Float.Ieee.{lt};
 ghost use Rattle.yuv_support.specs.Matrix.{in_half};
@@ -9,7 +11,7 @@ ghost use Rattle.forward_transform.specs.Small.{zero, small, small_weight, Small
 use yuv_support::{YuvBias, YuvRange};
 
 // The nine coefficients, until rounded.
-#[derive(Drop)]
+#[derive(Clone, Copy)]
 pub struct CbCrForwardTransformF32 {
     pub yr: f32,
     pub yg: f32,
@@ -23,7 +25,7 @@ pub struct CbCrForwardTransformF32 {
 }
 
 // The nine weights, in units of 1 / 8,192.
-#[derive(Drop)]
+#[derive(Clone, Copy)]
 pub struct CbCrForwardTransformI32 {
     pub yr: i32,
     pub yg: i32,

@@ -1,5 +1,7 @@
 // The frame call, the opening and the band call, and the counts of colours, from numbers, for callers without enums and structs: refusal 1 for numbers
 // without a meaning, then the call itself; and what is told of it.
+#![tactic(auto)]
+
 ghost use Rattle.std.specs.Prelude.{◌≡◌, []};
 ghost use Rattle.frame_calls.specs.Calls.{exported_frame, FrameAnswered, FrameKept};
 ghost use Rattle.frame_calls.specs.Calls.{exported_opening, OpenAnswered, OpenKept};

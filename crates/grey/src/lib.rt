@@ -1,1 +1,3 @@
 // No code: what the converter makes of grey. The statements stand in demands, the laws in proofs/.
+
+#![tactic(auto)]

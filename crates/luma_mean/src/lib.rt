@@ -1,4 +1,6 @@
 // The mean of a luma plane (RULES 12.2).
+#![tactic(auto)]
+
 ghost use Rattle.std.specs.Prelude.{◌≡◌, ◌*◌, ◌/◌, ◌≤◌, length};
 ghost use Rattle.luma_mean.specs.Mean.{sum};
 

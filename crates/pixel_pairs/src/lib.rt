@@ -7,6 +7,8 @@
 //
 // Bounds: luma is below 2^21 before it is divided, so the two of a pair are below 2^42, and four pairs' below 2^44; 16 * 65,535 + 8 is below 2^20,
 // so no sum reaches 2^64. No accepted matrix takes luma or chroma out of the range that the definition holds them in, so nothing is held here.
+#![tactic(auto)]
+
 pub mod tables; // tables.rt: weights and tables
 
 ghost use Rattle.std.specs.Prelude.{◌≡◌, ◌+◌, ◌*◌, ◌≤◌, ◌<◌, pos, get_or, length, set};
@@ -28,7 +30,7 @@ const PRECISION: i32 = 13;
 const CHROMA_BIAS: i32 = 1052671;
 
 // The first three bytes of a pixel: its colour, in the order of its channels.
-#[derive(Drop)]
+#[derive(Clone, Copy)]
 pub struct Bytes {
     pub b0: u8,
     pub b1: u8,
@@ -36,14 +38,14 @@ pub struct Bytes {
 }
 
 // The colours of two blocks.
-#[derive(Drop)]
+#[derive(Clone, Copy)]
 pub struct Colours {
     pub first: Bytes,
     pub second: Bytes,
 }
 
 // For each byte of a colour the entries of a pair of pixels, added.
-#[derive(Drop)]
+#[derive(Clone, Copy)]
 pub struct Sums {
     pub e0: u64,
     pub e1: u64,
@@ -51,7 +53,7 @@ pub struct Sums {
 }
 
 // Where chroma byte j comes from: pixel 2j, and `next`, its neighbour to the right.
-#[derive(Drop)]
+#[derive(Clone, Copy)]
 pub struct Block {
     pub j: usize,
     pub next: usize,

@@ -24,7 +24,7 @@ const LINEAR: u64 = 17592186044416;
 const RIGHT: u64 = 2097152;
 
 // A weight for each of the first three bytes of a pixel.
-#[derive(Drop)]
+#[derive(Clone, Copy)]
 pub struct Weights {
     pub first: i32,
     pub second: i32,
@@ -32,7 +32,7 @@ pub struct Weights {
 }
 
 // A frame's description, and the weights of chroma that its settings give.
-#[derive(Drop)]
+#[derive(Clone, Copy)]
 pub struct Conversion {
     pub frame: FrameDescription,
     pub cb: Weights,

@@ -1,5 +1,7 @@
 // Where two planes of one size differ first (RULES 13.3). Equal rows are passed eight bytes a step; only in the first row that is not equal are single
 // bytes looked at.
+#![tactic(auto)]
+
 ghost use Rattle.std.specs.Prelude.{◌≡◌, ◌*◌, ◌≤◌, leb, length};
 ghost use Rattle.plane_difference.specs.Difference.{equal_front, plane_difference};
 
@@ -7,7 +9,7 @@ ghost use Rattle.plane_difference.specs.Difference.{equal_front, plane_differenc
 const WORD: usize = 8;
 
 // Nowhere, or in this row and column, from 0.
-#[derive(Drop)]
+#[derive(Clone, Copy)]
 pub enum PlaneDifference {
     Same,
     At(usize, usize),

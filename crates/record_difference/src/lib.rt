@@ -1,4 +1,6 @@
 // The difference of two records of shift files: their sizes, or else the first unequal byte of their planes (RULES 13.2, 13.3).
+#![tactic(auto)]
+
 ghost use Rattle.std.specs.Prelude.{◌≡◌};
 ghost use Rattle.shift_reader.specs.Entry.{record_of};
 ghost use Rattle.shift_reader.specs.Known.{HasRecord};
@@ -10,7 +12,7 @@ use plane_difference::PlaneDifference;
 use shift_file::ShiftForm;
 use yuv_support::YuvChromaSubsampling;
 
-#[derive(Drop)]
+#[derive(Clone, Copy)]
 pub enum Plane {
     Y,
     U,
@@ -18,7 +20,7 @@ pub enum Plane {
 }
 
 // What two frames must have in common before their planes are compared.
-#[derive(Drop)]
+#[derive(Clone, Copy)]
 pub struct FrameSize {
     pub width: u16,
     pub height: u16,
@@ -26,7 +28,7 @@ pub struct FrameSize {
 }
 
 // A byte of a frame's planes: row and column from 0.
-#[derive(Drop)]
+#[derive(Clone, Copy)]
 pub struct PlanePlace {
     pub plane: Plane,
     pub row: usize,
@@ -34,7 +36,7 @@ pub struct PlanePlace {
 }
 
 // None, the two sizes, or the first unequal byte.
-#[derive(Drop)]
+#[derive(Clone, Copy)]
 pub enum RecordDifference {
     Same,
     Sizes(FrameSize, FrameSize),

@@ -1,5 +1,7 @@
 // Makes the openings and band calls of a stored list, its standard input, and prints a line of what came of each. vectors/README.md has
 // both forms.
+#![tactic(auto)]
+
 use band_calls::{FrameAnswer, FrameState};
 
 fn print_answered(answered: FrameAnswer) {

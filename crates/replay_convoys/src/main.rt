@@ -1,4 +1,6 @@
 // Converts the convoys of a stored list, its standard input, and prints a line of what came of each. vectors/README.md has both forms.
+#![tactic(auto)]
+
 // The most numbers that a convoy of the list lends, those of 65 frames: of descriptions, of kr and kb, of parts.
 const NUMBERS: usize = 1040;
 

@@ -1,4 +1,5 @@
 // Makes the calls of a stored list of desk histories, its standard input, and prints a line of what came of each. vectors/README.md has both forms.
+#![tactic(auto)]
 
 // What is asked of a desk; what is none of these is an offer. A delivery is no call: a camera writes bytes into the source.
 const OPENING: u32 = 0;

@@ -1,4 +1,6 @@
 // Makes the frame calls of a stored list, its standard input, and prints a line of what came of each. vectors/README.md has both forms.
+#![tactic(auto)]
+
 use yuv_error::YuvAnswer;
 
 fn make(source: &mut [u8], y: &mut [u8], u: &mut [u8], v: &mut [u8]) -> YuvAnswer {

@@ -1,4 +1,5 @@
 // Makes the pairings of a stored list, its standard input, and prints a line of what came of each. vectors/README.md has both forms.
+#![tactic(auto)]
 
 // What stands in each number of the report before a call.
 const BEFORE: u64 = 9;

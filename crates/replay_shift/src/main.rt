@@ -1,4 +1,6 @@
 // Makes the calls on shift files of a stored list, its standard input, and prints a line of what came of each. vectors/README.md has both forms.
+#![tactic(auto)]
+
 ghost use Rattle.std.specs.Prelude.{◌≡◌, ◌≤◌, length};
 
 use shift_file::{SettingCodes, ShiftForm};

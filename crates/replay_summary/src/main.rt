@@ -1,4 +1,6 @@
 // Makes the calls on summaries of a stored list, its standard input, and prints a line of what came of each. vectors/README.md has both forms.
+#![tactic(auto)]
+
 use summary_calls::FoundRecord;
 use yuv_error::YuvAnswer;
 

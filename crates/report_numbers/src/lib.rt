@@ -1,4 +1,6 @@
 // The report of two shift files as eighteen numbers, for those who link the library (RULES 10.7).
+#![tactic(auto)]
+
 ghost use Rattle.std.specs.Prelude.{◌≡◌, length};
 ghost use Rattle.report_numbers.specs.Numbers.{plane_number, difference_numbers, report_numbers, pairing_numbers};
 
@@ -7,7 +9,7 @@ use shift_pairs::{PairReport, Pairing};
 use yuv_error::YuvAnswer;
 
 // A difference: its kind, and the numbers that the kind names; the others are 0.
-#[derive(Drop)]
+#[derive(Clone, Copy)]
 pub struct DifferenceNumbers {
     pub kind: u64,
     pub our_width: u64,

@@ -1,4 +1,6 @@
 // Settings as numbers, for callers that have no enums: the codes of a request and of the C functions.
+#![tactic(auto)]
+
 ghost use Rattle.std.specs.Prelude.{◌≡◌, get_or};
 ghost use Rattle.setting_codes.specs.Codes.{channels_codes, sampling_codes, range_codes, matrix_codes, transfer_codes, rounding_codes};
 ghost use Rattle.setting_codes.specs.Codes.{channels_code, sampling_code, range_code, matrix_code, transfer_code, rounding_code};

@@ -1,5 +1,7 @@
 // The curve tables from which `rgbx_to_sharp_yuv` takes linear values and corrected bytes. A call
 // makes both once and lends them to its rows.
+#![tactic(auto)]
+
 mod nearest; // the constants of each rounding, made by tools/tables.py
 mod truncated;
 
@@ -8,7 +10,7 @@ ghost use Rattle.sharp_gamma.specs.Entry.{TableOf, linear_entry, gamma_entry};
 ghost use Rattle.sharp_gamma.specs.FirstIndices.{FirstIndices};
 
 // Declares transfer function for transfer components into a linear colorspace and its inverse
-#[derive(Drop)]
+#[derive(Clone, Copy)]
 pub enum SharpYuvGammaTransfer {
     // sRGB Transfer function
     Srgb,
@@ -21,7 +23,7 @@ pub enum SharpYuvGammaTransfer {
 }
 
 // Which whole number stands in a table for the curve's value there, in both tables of a call alike
-#[derive(Drop)]
+#[derive(Clone, Copy)]
 pub enum TableRounding {
     // The largest that is not above the value
     Truncated,

@@ -1,4 +1,6 @@
 // The frame call: the Rust's rgbx_to_sharp_yuv, over lent slices beside a plain description.
+#![tactic(auto)]
+
 ghost use Rattle.std.specs.Prelude.{◌≡◌};
 ghost use Rattle.yuv_error.specs.Numbers.{numbers_of};
 ghost use Rattle.yuv_error.specs.Rules.{first_numbers};

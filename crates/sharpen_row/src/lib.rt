@@ -1,4 +1,6 @@
 // Rows of luma and chroma, one pass over their pixels: pixel_pairs has what a pair of them comes to.
+#![tactic(auto)]
+
 ghost use Rattle.std.specs.Prelude.{◌≡◌, ◌+◌, ◌*◌, ◌-◌, ◌/◌, ◌≤◌, ◌<◌, min, length, get_or};
 ghost use Rattle.definitions.specs.Painted.{Painted};
 ghost use Rattle.definitions.specs.Row.{pixels_of, input420};

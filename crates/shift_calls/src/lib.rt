@@ -1,5 +1,7 @@
 // The calls on shift files and their summaries, and the pairing of two files, for callers without enums and structs: the form is that of the file, and
 // what is told goes to numbers that the caller lends.
+#![tactic(auto)]
+
 ghost use Rattle.std.specs.Prelude.{◌≡◌, ◌≤◌, length, set};
 ghost use Rattle.yuv_error.specs.Numbers.{numbers_of};
 ghost use Rattle.yuv_error.specs.Lent.{taken};

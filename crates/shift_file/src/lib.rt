@@ -1,6 +1,8 @@
 // The shift file, a count, pairs of offset and length, then the records, and the check that decides for every byte sequence whether it is one
 // (RULES 11.1 to 11.3, 11.7). The check compares a file's numbers with the places that it counts itself and adds none of them, so nothing wraps;
 // it reads pairs and headers and no plane.
+#![tactic(auto)]
+
 ghost use Rattle.std.specs.Prelude.{◌≡◌, ◌+◌, ◌*◌, ◌≤◌, ◌<◌, length, take, drop};
 ghost use Rattle.yuv_support.specs.Sampling.{chroma_width, chroma_height};
 ghost use Rattle.shift_file.specs.File.{mark_size, settings_size, header_size, pairs_at, is_code, is_side, codes_allowed, sampling_of, settings_told, code_list};
@@ -10,14 +12,14 @@ ghost use Rattle.shift_file.specs.Check.{shape_allowed, record_stands, pair_is, 
 use yuv_support::YuvChromaSubsampling;
 
 // Which of its two forms a file has.
-#[derive(Drop)]
+#[derive(Clone, Copy)]
 pub enum ShiftForm {
     WithoutSettings,
     WithSettings,
 }
 
 // The settings of a record by their codes, 255 in range, matrix or transfer for not recorded.
-#[derive(Drop)]
+#[derive(Clone, Copy)]
 pub struct SettingCodes {
     pub sampling: u32,
     pub range: u32,

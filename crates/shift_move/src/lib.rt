@@ -1,5 +1,7 @@
 // A shift file moved to the other form, record for record (RULES 11.8): forward sets 4:2:0 and records nothing else, back drops just that. Crossings,
 // sizes, planes and their order stay. The output is measured before a byte is written.
+#![tactic(auto)]
+
 ghost use Rattle.std.specs.Prelude.{◌≡◌, ◌+◌, ◌*◌, ◌^◌, ◌≤◌, ◌<◌, length};
 ghost use Rattle.std.proofs.lemmas.List.Edits.{sets};
 ghost use Rattle.shift_file.specs.File.{bytes_of, pairs_of, record_bytes};

@@ -1,5 +1,7 @@
 // Two shift files paired, the k-th record of a crossing in ours with the k-th in theirs, and the report of their pairs (RULES 13.1 to 13.4).
 // The order is made in the call: two arrays of 4,096 keys and the sort's own are all the room it takes, 96 KiB of stack, and no heap.
+#![tactic(auto)]
+
 ghost use Rattle.std.specs.Prelude.{◌≡◌, ◌+◌, ◌<◌};
 ghost use Rattle.shift_reader.specs.Known.{HasRecord};
 ghost use Rattle.crossing_keys.specs.Keys.{KeysFit};
@@ -12,7 +14,7 @@ use shift_file::ShiftForm;
 use yuv_error::{YuvAnswer, YuvError};
 
 // A pair that differs, by the places of its records in their files, from 0.
-#[derive(Drop)]
+#[derive(Clone, Copy)]
 pub struct DifferingPair {
     pub crossing: u32,
     pub ours: usize,
@@ -21,7 +23,7 @@ pub struct DifferingPair {
 }
 
 // How many pairs are equal and how many differ, how many records are in no pair, and the first pair that differs; `Same` where none does.
-#[derive(Drop)]
+#[derive(Clone, Copy)]
 pub struct PairReport {
     pub equal: usize,
     pub differing: usize,
@@ -31,7 +33,7 @@ pub struct PairReport {
 }
 
 // What pairing answers: 15 with the file that is none, 1 for ours and 2 for theirs; or else the report.
-#[derive(Drop)]
+#[derive(Clone, Copy)]
 pub struct Pairing {
     pub answer: YuvAnswer,
     pub broken: u32,
@@ -39,7 +41,7 @@ pub struct Pairing {
 }
 
 // The pairs so far.
-#[derive(Drop)]
+#[derive(Clone, Copy)]
 struct Tally {
     equal: usize,
     differing: usize,

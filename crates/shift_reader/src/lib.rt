@@ -1,5 +1,7 @@
 // Reading a shift file: how many records it has, where each of them and each of its planes stands, and these as parts of the file (RULES 11.4).
 // Nothing is copied: what the check did not look at, the planes, is not looked at here either.
+#![tactic(auto)]
+
 ghost use Rattle.std.specs.Prelude.{◌≡◌, ◌+◌, ◌*◌, ◌≤◌, min, length};
 ghost use Rattle.std.proofs.lemmas.List.Edits.{sets};
 ghost use Rattle.shift_file.specs.File.{settings_told, code_list, bytes_of};
@@ -12,7 +14,7 @@ use shift_file::{SettingCodes, ShiftForm};
 use yuv_error::{YuvAnswer, YuvError};
 
 // What is told of a record: eleven numbers, or its settings after them too.
-#[derive(Drop)]
+#[derive(Clone, Copy)]
 pub enum EntryKind {
     Places,
     PlacesAndSettings,
@@ -31,14 +33,14 @@ impl EntryKind {
 }
 
 // Where a record stands.
-#[derive(Drop)]
+#[derive(Clone, Copy)]
 struct Place {
     offset: usize,
     length: usize,
 }
 
 // A record of a file: what its header says, and where it and its planes stand, from the file's start.
-#[derive(Drop)]
+#[derive(Clone, Copy)]
 pub struct ShiftEntry {
     pub crossing: u32,
     pub width: u16,
@@ -53,7 +55,7 @@ pub struct ShiftEntry {
 }
 
 // What reading answers: the file's records, and how many of them were told.
-#[derive(Drop)]
+#[derive(Clone, Copy)]
 pub struct ShiftReading {
     pub answer: YuvAnswer,
     pub count: usize,

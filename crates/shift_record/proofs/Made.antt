@@ -1,8 +1,8 @@
 -- A record made of planes: its size, that it is allowed, its bytes as they are put, and the answer by the checks. Assumes nothing.
 use Prim.Native.Nat.{ℕ, ◌+◌, ◌*◌, ◌^◌, ◌≤◌, ◌<◌}
 use mathlib.Core.Path.{◌≡◌, refl, ap, sym, ◌∙◌}
-use mathlib.Core.Bool.{Bool, true, false, cond, ◌&&◌, ◌||◌}
-use mathlib.Core.List.{List, [], ◌++◌, append_assoc}
+use mathlib.Core.Bool.{Bool, true, false, ◌||◌}
+use mathlib.Core.List.{List, ◌++◌, append_assoc}
 use native.Mathlib.Omega.{arith}
 use lib.Dec.{ltb, eqb}
 use borrow.Author.Tests.{ltb-true, eqb-true}
@@ -14,18 +14,17 @@ use Rattle.yuv_support.specs.Sampling.{chroma_width, chroma_height}
 use Rattle.yuv_error.specs.declared.YuvError.{YuvError}
 use Rattle.yuv_error.specs.declared.YuvAnswer.{YuvAnswer}
 use Rattle.yuv_error.specs.declared.YuvAnswer.TheVariants.{Refused}
-use Rattle.yuv_error.specs.Numbers.{Numbers, numbers_of, error_numbers}
+use Rattle.yuv_error.specs.Numbers.{Numbers, numbers_of}
 use Rattle.yuv_error.specs.Rules.{first_numbers}
 use Rattle.yuv_error.proofs.Numbers.{refused_number}
 use Rattle.yuv_error.proofs.Accepted.{never_said, accepted_planes}
 use Rattle.little_endian.specs.Number.{Bytes, low_bytes}
 use Rattle.little_endian.proofs.Number.{length_low}
-use Rattle.little_endian.proofs.Stores.{sets-append}
 use Rattle.shift_file.specs.declared.ShiftForm.{ShiftForm}
 use Rattle.shift_file.specs.declared.ShiftForm.TheVariants.{WithoutSettings, WithSettings}
 use Rattle.shift_file.specs.declared.SettingCodes.{SettingCodes}
 use Rattle.shift_file.specs.File.{Allowed, settings_size, header_size, is_code, codes_allowed, is_side, chroma_bytes, bytes_of}
-use Rattle.shift_file.proofs.Record.{both, also, side_bounds}
+use Rattle.shift_file.proofs.Record.{both, side_bounds}
 use Rattle.shift_writer.specs.Output.{size_told}
 use Rattle.shift_writer.proofs.Pairs.{sets_four}
 use Rattle.shift_record.specs.declared.RecordFrame.{RecordFrame}

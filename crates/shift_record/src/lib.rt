@@ -1,5 +1,7 @@
 // One record of a shift file, from planes with strides, as the converter leaves them (RULES 11.6): a frame call, this and `shift_writer` make a file
 // without code of the user's. Planes are of 4:2:0, or of the sampling that is recorded; the output is measured before a byte is written.
+#![tactic(auto)]
+
 ghost use Rattle.std.specs.Prelude.{◌≡◌, true, ◌+◌, ◌*◌, ◌≤◌, length};
 ghost use Rattle.std.proofs.lemmas.List.Edits.{sets};
 ghost use Rattle.yuv_error.specs.Numbers.{numbers_of};
@@ -15,7 +17,7 @@ use yuv_error::{LentBuffer, YuvAnswer, YuvError};
 use yuv_support::YuvChromaSubsampling;
 
 // What a record says of its frame, and the strides of the planes that it is made of. In the form without settings theirs are not looked at.
-#[derive(Drop)]
+#[derive(Clone, Copy)]
 pub struct RecordFrame {
     pub form: ShiftForm,
     pub crossing: u32,

@@ -1,5 +1,7 @@
 // The summary of a shift file: its entries in order (RULES 12.1 to 12.4). Entries are put in order by keys, a number above a place, so that
 // one array of 4,096 numbers and the sort's own are all the room it takes: 64 KiB of stack, and no heap.
+#![tactic(auto)]
+
 ghost use Rattle.std.specs.Prelude.{◌≡◌, ◌*◌, ◌≤◌, length, get_or};
 ghost use Rattle.std.proofs.lemmas.List.Edits.{sets};
 ghost use Rattle.merge_sort.specs.Ascending.{by_keys};

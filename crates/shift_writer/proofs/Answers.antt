@@ -1,6 +1,6 @@
 -- What the writer answers, by the count. Assumes nothing.
 use Prim.Native.Nat.{ℕ, ◌+◌, ◌≤◌, ◌<◌}
-use mathlib.Core.Path.{◌≡◌, ap, sym, ◌∙◌}
+use mathlib.Core.Path.{◌≡◌, ap, ◌∙◌}
 use mathlib.Core.Bool.{true, false}
 use mathlib.Core.List.{List, ◌++◌}
 use native.Mathlib.Nat.{zero-add}
@@ -10,7 +10,7 @@ use lib.Seq.{sets, sets-eq}
 use borrow.Author.Tests.{le-leb, lt-leb}
 use Rattle.little_endian.specs.Number.{Bytes}
 use Rattle.shift_file.specs.declared.ShiftForm.{ShiftForm}
-use Rattle.shift_file.specs.File.{records_at, record_bytes, file_of}
+use Rattle.shift_file.specs.File.{records_at, file_of}
 use Rattle.shift_file.specs.Read.{records_from}
 use Rattle.shift_file.proofs.File.{length_file}
 use Rattle.shift_writer.specs.Records.{count_from, are_records, file_made}

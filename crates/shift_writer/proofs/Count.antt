@@ -2,10 +2,10 @@
 -- Assumes nothing.
 use Prim.Native.Nat.{ℕ, zero, suc, ◌+◌, ◌-◌, ◌≤◌, ◌<◌}
 use mathlib.Core.Path.{◌≡◌, refl, ap, sym, ◌∙◌}
-use mathlib.Core.Bool.{Bool, true, false, cond}
+use mathlib.Core.Bool.{Bool, true, false}
 use mathlib.Core.List.{List, [], ◌∷◌, ◌++◌}
 use native.Mathlib.Omega.{arith}
-use lib.Dec.{eqb, leb}
+use lib.Dec.{eqb}
 use lib.ListN.{length, drop, length-append, length-drop, drop_of_length-le}
 use lib.Seq.{drop-drop, drop_at}
 use borrow.Author.Tests.{eq-eqb, ne_eqb, eqb-true, eqb-false, leb-true, le-leb}
@@ -15,7 +15,7 @@ use Rattle.shift_file.specs.declared.ShiftForm.{ShiftForm}
 use Rattle.shift_file.specs.File.{ShiftRecord, Allowed, EachAllowed, bytes_of, record_bytes, header_size}
 use Rattle.shift_file.specs.Read.{size_at, record_at, records_from}
 use Rattle.shift_file.specs.Check.{record_stands}
-use Rattle.shift_file.proofs.Record.{Stands, Stands-true, record_Allowed, size_bytes, stands_bytes, length_bytes, size_positive}
+use Rattle.shift_file.proofs.Record.{Stands-true, record_Allowed, size_bytes, stands_bytes, length_bytes, size_positive}
 use Rattle.shift_file.proofs.Walk.{First-of, records_are}
 use Rattle.shift_writer.specs.Records.{count_from, are_records, records_back, size_standing, BackToBack, SomeRecords, TheseRecords}
 use Rattle.shift_writer.specs.Known.{Counted}

@@ -1,7 +1,7 @@
 -- Pairs as they are written, one after the other; then the whole file. Assumes nothing.
-use Prim.Native.Nat.{ℕ, zero, suc, ◌+◌, ◌*◌, ◌-◌, ◌≤◌, ◌<◌}
-use mathlib.Core.Path.{◌≡◌, refl, ap, sym, ◌∙◌}
-use mathlib.Core.List.{List, [], ◌∷◌, ◌++◌, append_assoc}
+use Prim.Native.Nat.{ℕ, zero, suc, ◌+◌, ◌-◌, ◌≤◌, ◌<◌}
+use mathlib.Core.Path.{◌≡◌, refl}
+use mathlib.Core.List.{List, ◌++◌, append_assoc}
 use native.Mathlib.Nat.{add_assoc, zero-add}
 use native.Mathlib.Omega.{arith}
 use lib.ListN.{length, drop, length-append}
@@ -10,8 +10,8 @@ use Rattle.little_endian.specs.Number.{low_bytes}
 use Rattle.little_endian.proofs.Number.{length_low}
 use Rattle.little_endian.proofs.Stores.{sets-append}
 use Rattle.shift_file.specs.declared.ShiftForm.{ShiftForm}
-use Rattle.shift_file.specs.File.{ShiftRecord, mark, mark_size, pairs_at, records_at, bytes_of, pairs_of, record_bytes, file_of}
-use Rattle.shift_file.specs.Read.{size_at, record_at, records_from}
+use Rattle.shift_file.specs.File.{ShiftRecord, mark, mark_size, pairs_at, records_at, pairs_of, record_bytes, file_of}
+use Rattle.shift_file.specs.Read.{size_at, records_from}
 use Rattle.shift_file.proofs.File.{length-mark, length_pairs}
 use Rattle.shift_writer.specs.Known.{Counted}
 use Rattle.shift_writer.proofs.Count.{length_from, next_size}

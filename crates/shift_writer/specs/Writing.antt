@@ -1,6 +1,6 @@
 -- What writing a shift file promises: docs/RULES.md, 11.5.
 -- Assumes nothing.
-use Rattle.std.specs.Prelude.{ℕ, ◌≡◌, not, List, [], ◌∷◌, length}
+use Rattle.std.specs.Prelude.{ℕ, ◌≡◌, not, List, ◌∷◌, length}
 use Rattle.yuv_error.specs.Numbers.{numbers_of}
 use Rattle.yuv_error.specs.Rules.{Rule, rule, first_numbers}
 use Rattle.shift_file.specs.declared.ShiftForm.{ShiftForm}

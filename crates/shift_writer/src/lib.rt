@@ -1,5 +1,7 @@
 // Writing a shift file from records back to back, which is how a file's own tail has them (RULES 11.5). They are counted, and the output is measured,
 // before a byte is written.
+#![tactic(auto)]
+
 ghost use Rattle.std.specs.Prelude.{◌≡◌, ◌++◌, ◌+◌, ◌*◌, ◌≤◌, ◌<◌, ◌^◌, length};
 ghost use Rattle.std.proofs.lemmas.List.Edits.{sets};
 ghost use Rattle.little_endian.specs.Number.{low_bytes};
@@ -16,7 +18,7 @@ use yuv_error::{YuvAnswer, YuvError};
 const MOST_RECORDS: usize = 4096;
 
 // What writing answers, and the bytes that it takes: told too where the output is too short for them, else 0 with a refusal.
-#[derive(Drop)]
+#[derive(Clone, Copy)]
 pub struct ShiftWritten {
     pub answer: YuvAnswer,
     pub size: usize,

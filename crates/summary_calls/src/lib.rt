@@ -1,4 +1,6 @@
 // The calls of a shift file's summary: building, checking and looking up (RULES 12.4 to 12.6).
+#![tactic(auto)]
+
 ghost use Rattle.std.specs.Prelude.{◌≡◌, true};
 ghost use Rattle.shift_file.specs.Read.{records_in};
 ghost use Rattle.shift_file.specs.Check.{is_file};
@@ -13,21 +15,21 @@ use yuv_error::{YuvAnswer, YuvError};
 const ENTRY: usize = 13;
 
 // What a lookup finds: a record of the file, by its number from 0, or that none has the crossing.
-#[derive(Drop)]
+#[derive(Clone, Copy)]
 pub enum FoundRecord {
     At(usize),
     Nowhere,
 }
 
 // What a check answers.
-#[derive(Drop)]
+#[derive(Clone, Copy)]
 pub struct SummaryVerdict {
     pub answer: YuvAnswer,
     pub is_summary: bool,
 }
 
 // What a lookup answers.
-#[derive(Drop)]
+#[derive(Clone, Copy)]
 pub struct SummaryFinding {
     pub answer: YuvAnswer,
     pub found: FoundRecord,

@@ -1,4 +1,6 @@
 // The check of a summary (RULES 12.5): entry by entry with those of the file in order.
+#![tactic(auto)]
+
 ghost use Rattle.std.specs.Prelude.{◌≡◌, ◌*◌, ◌≤◌, length};
 ghost use Rattle.merge_sort.specs.Ascending.{by_keys};
 ghost use Rattle.summary_entry.specs.Entry.{entries_in, no_entry};

@@ -1,4 +1,6 @@
 // A summary after one record more at the file's end (RULES 12.7). The file is not there yet and is never touched.
+#![tactic(auto)]
+
 ghost use Rattle.std.specs.Prelude.{◌≡◌, true};
 ghost use Rattle.shift_file.specs.Read.{record_at};
 ghost use Rattle.shift_file.specs.Check.{record_stands};

@@ -1,5 +1,7 @@
 // Y4M files by numbers, as C and Rust call them (RULES 10.8): each is one call of the reader or a writer, whose answer's number is returned and whose
 // other numbers go to the array `told`.
+#![tactic(auto)]
+
 ghost use Rattle.std.specs.Prelude.{◌≡◌, ◌≤◌, length, set};
 ghost use Rattle.yuv_error.specs.Numbers.{numbers_of};
 ghost use Rattle.y4m_calls.specs.Known.{five_told};

@@ -1,5 +1,7 @@
 // The Y4M file, a header's line and pictures, and the check that decides for every byte sequence whether it is one (RULES 14.1 to 14.4). The check
 // reads lines and no plane, and no number of a file is added before it is known to be a side.
+#![tactic(auto)]
+
 ghost use Rattle.std.specs.Prelude.{◌≡◌, ◌≤◌, ◌^◌, length};
 ghost use Rattle.y4m_line.specs.Header.{is_line};
 ghost use Rattle.y4m_line.specs.Line.{frame};
@@ -10,14 +12,14 @@ use y4m_line::HeaderLine;
 use yuv_support::YuvChromaSubsampling;
 
 // How many pictures stand back to back to the end, if nothing else stands there.
-#[derive(Drop)]
+#[derive(Clone, Copy)]
 enum Counted {
     Pictures(usize),
     Malformed,
 }
 
 // Width, height, the sampling by the header's code (1: 4:2:0, 2: 4:2:2) and the count of pictures, of bytes that are a file.
-#[derive(Drop)]
+#[derive(Clone, Copy)]
 pub enum Y4mRead {
     Read(usize, usize, u8, usize),
     Refused,

@@ -1,5 +1,7 @@
 // A line of a Y4M file, a word and tags, each after one space, and what the tags W, H and C of the header's line say (RULES 14.1, 14.2). A line is
 // read without its newline. A decimal of any length is read: it is given up where it passes 16,384, so nothing wraps.
+#![tactic(auto)]
+
 ghost use Rattle.std.specs.Prelude.{◌≡◌, ◌+◌, ◌≤◌, ◌<◌, eqb, length, drop, take, get_or};
 ghost use Rattle.y4m_line.specs.Words.{upto, words, filled, same};
 ghost use Rattle.y4m_line.specs.Line.{magic, tagged, digit};
@@ -10,7 +12,7 @@ ghost use Rattle.y4m_line.specs.Found.{span, NextTag, TagPost, HeaderPost};
 pub const LINE: usize = 256;
 
 // The tags that begin with a letter: none, one, whose text after the letter stands from the first place to the second, or more.
-#[derive(Drop)]
+#[derive(Clone, Copy)]
 enum Tag {
     Missing,
     Once(usize, usize),
@@ -18,7 +20,7 @@ enum Tag {
 }
 
 // Width, height and sampling (1: 4:2:0, 2: 4:2:2) of a line that is a header's.
-#[derive(Drop)]
+#[derive(Clone, Copy)]
 pub enum HeaderLine {
     Read(usize, usize, u8),
     Refused,

@@ -1,5 +1,7 @@
 // One picture of a Y4M file from planes with strides, as the converter leaves them (RULES 14.7): frame calls and this make a file picture by picture,
 // after the file of no picture that `y4m_writer` makes. Lengths are checked, and the output is measured, before a byte is written.
+#![tactic(auto)]
+
 ghost use Rattle.std.specs.Prelude.{◌≡◌, ◌≤◌, length};
 ghost use Rattle.std.proofs.lemmas.List.Edits.{sets};
 ghost use Rattle.y4m_file.specs.File.{picture_bytes};
@@ -13,7 +15,7 @@ use yuv_error::{YuvAnswer, YuvError};
 const FRAME_LINE: usize = 6;
 
 // Sides, the sampling by its code (0: 4:2:0, 1: 4:2:2), and the strides of the planes.
-#[derive(Drop)]
+#[derive(Clone, Copy)]
 pub struct PictureFrame {
     pub width: u32,
     pub height: u32,

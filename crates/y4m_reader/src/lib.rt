@@ -1,5 +1,7 @@
 // Reading a Y4M file: its sides, its sampling, how many pictures it has and where each plane stands, and the planes as parts of the file
 // (RULES 14.5). Nothing is copied, and no plane is looked at.
+#![tactic(auto)]
+
 ghost use Rattle.std.specs.Prelude.{◌≡◌, ◌+◌, ◌≤◌, ◌^◌, length, drop};
 ghost use Rattle.std.proofs.lemmas.List.Edits.{sets};
 ghost use Rattle.y4m_line.specs.Header.{line_end};
@@ -16,7 +18,7 @@ use yuv_error::{YuvAnswer, YuvError};
 const ENTRY: usize = 6;
 
 // What reading answers: the file's sides, its sampling by its code, its pictures, and how many of them were told.
-#[derive(Drop)]
+#[derive(Clone, Copy)]
 pub struct Y4mReading {
     pub answer: YuvAnswer,
     pub width: usize,
@@ -27,7 +29,7 @@ pub struct Y4mReading {
 }
 
 // The bytes of Y, and of U or V.
-#[derive(Drop)]
+#[derive(Clone, Copy)]
 struct PlaneSizes {
     luma: usize,
     chroma: usize,

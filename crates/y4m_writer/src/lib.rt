@@ -1,4 +1,6 @@
 // Writing a Y4M file from planes back to back (RULES 14.6). What is to be written is checked, and the output is measured, before a byte is written.
+#![tactic(auto)]
+
 ghost use Rattle.std.specs.Prelude.{◌≡◌, ◌++◌, ◌+◌, ◌*◌, ◌≤◌, ◌<◌, ◌^◌, length};
 ghost use Rattle.std.proofs.lemmas.List.Edits.{sets};
 ghost use Rattle.y4m_line.specs.Line.{line_of, magic};
@@ -13,7 +15,7 @@ use yuv_support::YuvChromaSubsampling;
 
 // What writing answers, and the bytes that it takes: told too where the output is too short for them and they are a number of 64
 // bits, else 0 with a refusal.
-#[derive(Drop)]
+#[derive(Clone, Copy)]
 pub struct Y4mWritten {
     pub answer: YuvAnswer,
     pub size: usize,

@@ -1,4 +1,6 @@
 // The refusals: the errors and checks of the Rust's yuv_error.rs, with those that the rules add beside them (RULES 7.1).
+#![tactic(auto)]
+
 ghost use Rattle.std.specs.Prelude.{◌≡◌, ◌++◌, ◌+◌, ◌*◌, ◌≤◌};
 ghost use Rattle.yuv_error.specs.Numbers.{sized, error_numbers, numbers_of};
 ghost use Rattle.yuv_error.specs.Bounded.{Bounded};
@@ -15,7 +17,7 @@ use yuv_support::YuvStandardMatrix;
 const MAX_SIDE: u32 = 16384;
 
 // Shows size mismatching.
-#[derive(Drop)]
+#[derive(Clone, Copy)]
 pub struct MismatchedSize {
     pub expected: usize,
     pub received: usize,
@@ -23,7 +25,7 @@ pub struct MismatchedSize {
 
 // The refusals, by number. Where the Rust has an error for one, it has the Rust's name;
 // its ChromaPlaneMinimumSizeMismatch is one for each chroma plane here.
-#[derive(Drop)]
+#[derive(Clone, Copy)]
 pub enum YuvError {
     MalformedRequest,
     ZeroBaseSize,
@@ -51,14 +53,14 @@ pub enum YuvError {
 }
 
 // What a call answers: finished work, or one refusal.
-#[derive(Drop)]
+#[derive(Clone, Copy)]
 pub enum YuvAnswer {
     Finished,
     Refused(YuvError),
 }
 
 // A lent buffer: `rows` rows of `row` bytes each, a row every `stride` bytes, `len` bytes in all.
-#[derive(Drop)]
+#[derive(Clone, Copy)]
 pub struct LentBuffer {
     pub row: usize,
     pub rows: usize,
@@ -67,7 +69,7 @@ pub struct LentBuffer {
 }
 
 // The lengths of what a call is lent.
-#[derive(Drop)]
+#[derive(Clone, Copy)]
 pub struct Lengths {
     pub source: usize,
     pub y: usize,
@@ -141,7 +143,7 @@ impl LentBuffer {
 }
 
 // The chroma planes, each with a refusal of its own.
-#[derive(Drop)]
+#[derive(Clone, Copy)]
 enum ChromaPlane {
     U,
     V,

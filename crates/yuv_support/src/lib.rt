@@ -1,4 +1,6 @@
 // The settings of a conversion, under the names of the Rust's yuv_support.rs.
+#![tactic(auto)]
+
 ghost use Rattle.std.specs.Prelude.{◌≡◌, ◌&&◌};
 ghost use Rattle.yuv_support.specs.Channels.{channels_count, r_offset, g_offset, b_offset};
 ghost use Rattle.yuv_support.specs.Sampling.{chroma_width, chroma_height};
@@ -6,7 +8,7 @@ ghost use Rattle.yuv_support.specs.Range.{yuv_range};
 ghost use Rattle.yuv_support.specs.Matrix.{kr_kb, in_half, accepted};
 
 // Where the bytes of a pixel stand.
-#[derive(Drop)]
+#[derive(Clone, Copy)]
 pub enum YuvSourceChannels {
     Rgb,
     Rgba,
@@ -62,7 +64,7 @@ impl YuvSourceChannels {
 }
 
 // How many rows of luma share a row of chroma; columns are always shared by two.
-#[derive(Drop)]
+#[derive(Clone, Copy)]
 pub enum YuvChromaSubsampling {
     Yuv420,
     Yuv422,
@@ -87,14 +89,14 @@ pub fn chroma_width(width: usize) -> usize
     width / 2 + width % 2
 }
 
-#[derive(Drop)]
+#[derive(Clone, Copy)]
 pub enum YuvRange {
     Limited,
     Full,
 }
 
 // The offsets and spans of a range at 8 bits.
-#[derive(Drop)]
+#[derive(Clone, Copy)]
 pub struct YuvChromaRange {
     pub bias_y: u8,
     pub bias_uv: u8,
@@ -122,7 +124,7 @@ pub fn get_yuv_range(range: YuvRange) -> YuvChromaRange
 }
 
 // The matrices; Custom carries kr, then kb.
-#[derive(Drop)]
+#[derive(Clone, Copy)]
 pub enum YuvStandardMatrix {
     Bt601,
     Bt709,
@@ -134,7 +136,7 @@ pub enum YuvStandardMatrix {
 }
 
 // The weights of red and of blue in luma.
-#[derive(Drop)]
+#[derive(Clone, Copy)]
 pub struct YuvBias {
     pub kr: f32,
     pub kb: f32,

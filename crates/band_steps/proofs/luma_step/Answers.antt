@@ -1,0 +1,8 @@
+-- `luma_step` meets its contract: the part of the source is the image's row, and the part of the plane comes back painted.
+-- Assumes nothing.
+use Rattle.band_steps.proofs.Steps.{row_seen, luma_is}
+use Rattle.band_steps.proofs.luma_step.Goals as goal
+
+pub returns : goal.returns
+returns c =
+    λ image sees. luma_is c.args.work c.args.step image c.requires.yat (row_seen c.args.work c.args.source.now image c.requires.source_at sees) c.luma_row.ensures

@@ -1,0 +1,26 @@
+-- `describe_after` meets its contract: past the numbers before it a description has ten at least.
+-- Assumes nothing.
+use Prim.Native.Nat.{◌+◌, ◌≤◌}
+use native.Mathlib.Omega.{arith}
+use lib.ListN.{length, length-drop}
+use Rattle.call_numbers.proofs.Numbers.{counted}
+use Rattle.definitions.proofs.Windows.{rest}
+use Rattle.call_numbers.proofs.describe_after.Goals as goal
+
+pub slice_bounds-describe-count : goal.slice_bounds-describe-count
+slice_bounds-describe-count c =
+    let long : c.args.before + 10 ≤ length c.args.numbers.now = counted c.args.before c.args.numbers.now c.requires.1 in
+    omega (arith, long)
+
+pub slice_bounds-describe-start : goal.slice_bounds-describe-start
+slice_bounds-describe-start c =
+    let long : c.args.before + 10 ≤ length c.args.numbers.now = counted c.args.before c.args.numbers.now c.requires.1 in
+    omega (arith, long)
+
+pub describe-requires : goal.describe-requires
+describe-requires c =
+    let long : c.args.before + 10 ≤ length c.args.numbers.now = counted c.args.before c.args.numbers.now c.requires.1 in
+    rw (rest c.args.before c.args.numbers.now) (omega (arith, length-drop c.args.before c.args.numbers.now, long))
+
+pub returns : goal.returns
+returns c = rw (rest c.args.before c.args.numbers.now) at c.describe.ensures

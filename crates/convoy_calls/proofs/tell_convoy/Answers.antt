@@ -1,0 +1,10 @@
+-- `tell_convoy` meets its contract: how many frames are finished stands behind what `tell_answer` tells.
+-- Assumes nothing.
+use Prim.Native.Nat.{ℕ}
+use mathlib.Core.Path.{ap}
+use mathlib.Core.List.{List}
+use lib.ListN.{set}
+use Rattle.convoy_calls.proofs.tell_convoy.Goals as goal
+
+pub returns : goal.returns
+returns c = (c.tell_answer-number.ensures.0, ap (λ (l : List ℕ). set l 2 c.args.answered.done) c.tell_answer-number.ensures.1)

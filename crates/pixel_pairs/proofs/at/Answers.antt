@@ -1,0 +1,13 @@
+-- `at` meets its contract: each byte is read where the definition reads it.
+-- Assumes nothing.
+use mathlib.Core.Path.{◌≡◌}
+use Prim.Native.Nat.{◌+◌, ◌*◌}
+use native.Mathlib.Omega.{arith}
+use Rattle.definitions.specs.Row.{pixels_of}
+use Rattle.pixel_pairs.proofs.at.Goals as goal
+
+pub returns : goal.returns
+unfolding pixels_of
+returns c =
+    let first : c.args.x * c.args.count + 0 ≡ c.args.x * c.args.count = omega arith in
+    rw first

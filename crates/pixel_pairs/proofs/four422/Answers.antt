@@ -1,0 +1,89 @@
+-- `four422` meets its contract: both pairs, then their colours, then their lumas.
+-- Assumes nothing.
+use mathlib.Core.Path.{refl, ap, ◌∙◌}
+use Prim.Native.Nat.{◌+◌, ◌*◌, ◌<◌}
+use native.Mathlib.Omega.{arith}
+use Rattle.definitions.specs.Row.{Pixels, pixels_of}
+use Rattle.pixel_pairs.specs.Rows.{Lumas422, InRow, put_block422, block_at}
+use Rattle.pixel_pairs.proofs.Pairs.{pair_ready, fits_ready, lumas_is, linears422_ready, colour422_is, four_InRow, row_room, luma422_more, luma_both}
+use Rattle.pixel_pairs.proofs.Pairs.{block_put}
+use Rattle.pixel_pairs.proofs.four422.Goals as goal
+
+pub pair-a-requires : goal.pair-a-requires
+pair-a-requires c =
+    let row : Pixels = pixels_of c.args.count c.args.this.now in
+    let here : InRow c.args.rows.frame (record { j = c.args.j; next = 2 * c.args.j + 1 }) = (four_InRow _ _ c.requires.j_bound).0 in
+    let right : 2 * c.args.j + 1 < c.args.rows.frame.width = omega (arith, c.requires.j_bound) in
+    let whole = pair_ready c.requires.prepared.summed c.requires.row422.row _ _ here.inside right in
+    record {
+      count_in_bounds = whole.0;
+      light = whole.1;
+    }
+
+pub pair-b-requires : goal.pair-b-requires
+pair-b-requires c =
+    let row : Pixels = pixels_of c.args.count c.args.this.now in
+    let there : InRow c.args.rows.frame (record { j = c.args.j + 1; next = 2 * (c.args.j + 1) + 1 }) =
+    (four_InRow _ _ c.requires.j_bound).1 in
+    let last : 2 * (c.args.j + 1) + 1 < c.args.rows.frame.width = omega (arith, c.requires.j_bound) in
+    let whole = pair_ready c.requires.prepared.summed c.requires.row422.row _ _ there.inside last in
+    record {
+      count_in_bounds = whole.0;
+      light = whole.1;
+    }
+
+pub mixed-first-requires : goal.mixed-first-requires
+mixed-first-requires c =
+    let row : Pixels = pixels_of c.args.count c.args.this.now in
+    let here : InRow c.args.rows.frame (record { j = c.args.j; next = 2 * c.args.j + 1 }) = (four_InRow _ _ c.requires.j_bound).0 in
+    linears422_ready c.requires.prepared c.args.j _ here.inside here.next row c.pair-a.ensures refl c.quarters.ensures
+
+pub mixed-second-requires : goal.mixed-second-requires
+mixed-second-requires c =
+    let row : Pixels = pixels_of c.args.count c.args.this.now in
+    let there : InRow c.args.rows.frame (record { j = c.args.j + 1; next = 2 * (c.args.j + 1) + 1 }) =
+    (four_InRow _ _ c.requires.j_bound).1 in
+    linears422_ready c.requires.prepared (c.args.j + 1) _ there.inside there.next row c.pair-b.ensures refl c.quarters-2.ensures
+
+pub put_luma-requires : goal.put_luma-requires
+put_luma-requires c =
+    let row : Pixels = pixels_of c.args.count c.args.this.now in
+    let right : 2 * c.args.j + 1 < c.args.rows.frame.width = omega (arith, c.requires.j_bound) in
+    record {
+      x_in_bounds = (omega (arith, c.requires.row422.luma, right), omega (arith, c.requires.row422.luma, right));
+      s_bound = fits_ready c.requires.prepared.summed row _ _ c.pair-a.ensures;
+    }
+
+pub put_luma-requires-2 : goal.put_luma-requires-2
+put_luma-requires-2 c =
+    let row : Pixels = pixels_of c.args.count c.args.this.now in
+    let here : InRow c.args.rows.frame (record { j = c.args.j; next = 2 * c.args.j + 1 }) = (four_InRow _ _ c.requires.j_bound).0 in
+    let last : 2 * (c.args.j + 1) + 1 < c.args.rows.frame.width = omega (arith, c.requires.j_bound) in
+    let l = lumas_is c.requires.prepared.summed row _ _ c.pair-a.ensures in
+    let more = luma422_more c.args.rows.frame c.args.count here c.requires.row422 l.0 l.1 c.put_luma.ensures in
+    record {
+      x_in_bounds = (omega (arith, c.requires.row422.luma, more.size, last), omega (arith, c.requires.row422.luma, more.size, last));
+      s_bound = fits_ready c.requires.prepared.summed row _ _ c.pair-b.ensures;
+    }
+
+pub returns : goal.returns
+returns c =
+    let row : Pixels = pixels_of c.args.count c.args.this.now in
+    let here : InRow c.args.rows.frame (record { j = c.args.j; next = 2 * c.args.j + 1 }) = (four_InRow _ _ c.requires.j_bound).0 in
+    let there : InRow c.args.rows.frame (record { j = c.args.j + 1; next = 2 * (c.args.j + 1) + 1 }) =
+    (four_InRow _ _ c.requires.j_bound).1 in
+    let l₁ = lumas_is c.requires.prepared.summed row _ _ c.pair-a.ensures in
+    let l₂ = lumas_is c.requires.prepared.summed row _ _ c.pair-b.ensures in
+    let more = luma422_more c.args.rows.frame c.args.count here c.requires.row422 l₁.0 l₁.1 c.put_luma.ensures in
+    let room₂ = row_room c.args.y.now more.size c.requires.row422 in
+    record {
+      colours_at = (
+        colour422_is c.requires.prepared c.args.j _ here.inside here.next row c.pair-a.ensures refl c.quarters.ensures c.mixed-first.ensures,
+        colour422_is c.requires.prepared (c.args.j + 1) _ there.inside there.next row c.pair-b.ensures refl c.quarters-2.ensures
+            c.mixed-second.ensures,
+      );
+      luma_more = luma_both (Lumas422 c.args.rows.frame c.args.count c.args.this.now) c.args.rows.frame c.args.j more
+          (luma422_more c.args.rows.frame c.args.count there room₂ l₂.0 l₂.1 c.put_luma-2.ensures);
+      y_after = block_put c.args.rows.frame c.args.count (c.args.j + 1) room₂ l₂.0 l₂.1 c.put_luma-2.ensures
+          ∙ ap (put_block422 c.args.rows.frame c.args.count c.args.this.now (block_at (c.args.j + 1))) (block_put c.args.rows.frame c.args.count c.args.j c.requires.row422 l₁.0 l₁.1 c.put_luma.ensures);
+    }

@@ -1,0 +1,102 @@
+-- `sum_tables` meets its contract, a place after the other: the weights are small, so they were handed on as they are.
+-- Assumes nothing.
+use mathlib.Core.Path.{◌≡◌, ◌∙◌, ap}
+use Prim.Native.Nat.{ℕ, ◌*◌}
+use native.Mathlib.Omega.{arith}
+use lib.IntN.{nat_abs}
+use Rattle.yuv_support.specs.declared.YuvChromaRange.{YuvChromaRange}
+use Rattle.forward_transform.specs.declared.CbCrForwardTransformI32.{CbCrForwardTransformI32}
+use Rattle.definitions.specs.Pixel.{bias_y}
+use Rattle.pixel_pairs.specs.declared.tables.Weights.{Weights}
+use Rattle.pixel_pairs.specs.Weights.{by_place, luma_weights}
+use Rattle.pixel_pairs.specs.Tables.{luma_part}
+use Rattle.pixel_pairs.proofs.Signed.{read_small}
+use Rattle.pixel_pairs.proofs.Weights.{Small, luma_Small, placed_Small, placed_kept, size_kept, bias_small}
+use Rattle.pixel_pairs.proofs.TableSums.{Places-none, Places-more}
+use Rattle.pixel_pairs.proofs.tables.sum_tables.Goals as goal
+
+pub magnitude-requires : goal.magnitude-requires
+magnitude-requires c =
+    let weights : Weights = c.by_place-weights.result in
+    let small : Small weights.first weights.second weights.third =
+    rw (c.by_place-weights.ensures ∙ placed_kept c.args.frame.settings.channels (luma_Small c.requires.weighed.shape))
+    (placed_Small c.args.frame.settings.channels (luma_Small c.requires.weighed.shape)) in
+    let s = small.r in rw (read_small _ s) s
+
+pub fill-requires : goal.fill-requires
+fill-requires c =
+    let weights : Weights = c.by_place-weights.result in
+    let small : Small weights.first weights.second weights.third =
+    rw (c.by_place-weights.ensures ∙ placed_kept c.args.frame.settings.channels (luma_Small c.requires.weighed.shape))
+    (placed_Small c.args.frame.settings.channels (luma_Small c.requires.weighed.shape)) in
+    let bias_is : c.get_yuv_range-levels.result.bias_y ≡ bias_y c.args.frame.settings =
+    ap (λ (l : YuvChromaRange). l.bias_y) c.get_yuv_range-levels.ensures in
+    let first_is : c.magnitude.result ≡ nat_abs weights.first = size_kept weights.first small.r c.magnitude.ensures in
+    record {
+      at_bound = (omega arith, omega (arith, first_is, small.r), omega (arith, bias_is, bias_small c.args.frame.settings.range));
+      sums_len = c.requires.sums_len;
+    }
+
+pub magnitude-requires-2 : goal.magnitude-requires-2
+magnitude-requires-2 c =
+    let weights : Weights = c.by_place-weights.result in
+    let small : Small weights.first weights.second weights.third =
+    rw (c.by_place-weights.ensures ∙ placed_kept c.args.frame.settings.channels (luma_Small c.requires.weighed.shape))
+    (placed_Small c.args.frame.settings.channels (luma_Small c.requires.weighed.shape)) in
+    let s = small.g in rw (read_small _ s) s
+
+pub fill-requires-2 : goal.fill-requires-2
+fill-requires-2 c =
+    let weights : Weights = c.by_place-weights.result in
+    let small : Small weights.first weights.second weights.third =
+    rw (c.by_place-weights.ensures ∙ placed_kept c.args.frame.settings.channels (luma_Small c.requires.weighed.shape))
+    (placed_Small c.args.frame.settings.channels (luma_Small c.requires.weighed.shape)) in
+    let second_is : c.magnitude-2.result ≡ nat_abs weights.second = size_kept weights.second small.g c.magnitude-2.ensures in
+    record {
+      at_bound = (omega arith, omega (arith, second_is, small.g), omega arith);
+      sums_len = c.fill.ensures.size ∙ c.requires.sums_len;
+    }
+
+pub magnitude-requires-3 : goal.magnitude-requires-3
+magnitude-requires-3 c =
+    let weights : Weights = c.by_place-weights.result in
+    let small : Small weights.first weights.second weights.third =
+    rw (c.by_place-weights.ensures ∙ placed_kept c.args.frame.settings.channels (luma_Small c.requires.weighed.shape))
+    (placed_Small c.args.frame.settings.channels (luma_Small c.requires.weighed.shape)) in
+    let s = small.b in rw (read_small _ s) s
+
+pub fill-requires-3 : goal.fill-requires-3
+fill-requires-3 c =
+    let weights : Weights = c.by_place-weights.result in
+    let small : Small weights.first weights.second weights.third =
+    rw (c.by_place-weights.ensures ∙ placed_kept c.args.frame.settings.channels (luma_Small c.requires.weighed.shape))
+    (placed_Small c.args.frame.settings.channels (luma_Small c.requires.weighed.shape)) in
+    let third_is : c.magnitude-3.result ≡ nat_abs weights.third = size_kept weights.third small.b c.magnitude-3.ensures in
+    record {
+      at_bound = (omega arith, omega (arith, third_is, small.b), omega arith);
+      sums_len = c.fill-2.ensures.size ∙ c.fill.ensures.size ∙ c.requires.sums_len;
+    }
+
+pub returns : goal.returns
+unfolding luma_part
+returns c =
+    let weights : Weights = c.by_place-weights.result in
+    let weights_are : weights ≡ luma_weights c.args.frame.settings =
+    c.by_place-weights.ensures
+    ∙ placed_kept c.args.frame.settings.channels (luma_Small c.requires.weighed.shape)
+    ∙ ap (λ (t : CbCrForwardTransformI32). by_place c.args.frame.settings.channels t.yr t.yg t.yb) c.requires.weighed.weights in
+    let small : Small weights.first weights.second weights.third =
+    rw (c.by_place-weights.ensures ∙ placed_kept c.args.frame.settings.channels (luma_Small c.requires.weighed.shape))
+    (placed_Small c.args.frame.settings.channels (luma_Small c.requires.weighed.shape)) in
+    let bias_is : c.get_yuv_range-levels.result.bias_y ≡ bias_y c.args.frame.settings =
+    ap (λ (l : YuvChromaRange). l.bias_y) c.get_yuv_range-levels.ensures in
+    let first_is : c.magnitude.result ≡ nat_abs weights.first = size_kept weights.first small.r c.magnitude.ensures in
+    let second_is : c.magnitude-2.result ≡ nat_abs weights.second = size_kept weights.second small.g c.magnitude-2.ensures in
+    let third_is : c.magnitude-3.result ≡ nat_abs weights.third = size_kept weights.third small.b c.magnitude-3.ensures in
+    let first = first_is ∙ ap (λ (w : Weights). nat_abs w.first) weights_are in
+    let second = second_is ∙ ap (λ (w : Weights). nat_abs w.second) weights_are in
+    let third = third_is ∙ ap (λ (w : Weights). nat_abs w.third) weights_are in
+    let none = Places-none c.args.frame.settings c.requires.sums_len in
+    let one = Places-more c.args.linear.now _ _ (omega arith) (λ x. omega (arith, ap (λ (w : ℕ). x * w) first, bias_is)) c.requires.table_of.at none c.fill.ensures in
+    let two = Places-more c.args.linear.now _ _ (omega arith) (λ x. omega (arith, ap (λ (w : ℕ). x * w) second)) c.requires.table_of.at one c.fill-2.ensures in
+    Places-more c.args.linear.now _ _ (omega arith) (λ x. omega (arith, ap (λ (w : ℕ). x * w) third)) c.requires.table_of.at two c.fill-3.ensures

@@ -1,0 +1,12 @@
+-- `crc32_of_numbers` is safe and ends: each index is below the length.
+-- Assumes nothing.
+use Prim.Native.Nat.{◌-◌, ◌≤◌}
+use mathlib.Core.Path.{◌≡◌}
+use lib.ListN.{length}
+use Rattle.replay_desk.proofs.crc32_of_numbers.Given as goal
+
+abbrev pub invariant-loop-i : goal.invariant-loop-i
+invariant-loop-i l = (l.i-end ≡ length l.numbers) × (l.i ≤ l.i-end)
+
+abbrev pub decreases-loop-i : goal.decreases-loop-i
+decreases-loop-i l = l.i-end - l.i
