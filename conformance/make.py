@@ -4,8 +4,8 @@
     conformance/make.py RUST_DIR             write vectors/, tables/ and manifest.txt
     conformance/make.py RUST_DIR --check     say which of them is not what this makes, and fail if one is not
 
-RUST_DIR is the folder that oracle/build asks for. The proved library and program stand in target/: `rt staticlib segvartin` and
-`rt check frame` make them. Every answer is the library's. Held to it are, and nothing is written where one differs:
+RUST_DIR is the folder that oracle/build asks for. The proved library and program stand in target/, where `tools/archive`
+makes them. Every answer is the library's. Held to it are, and nothing is written where one differs:
 
 - the program target/bin/frame, for requests;
 - the model of the rules (model/), for every line;
@@ -49,7 +49,7 @@ def fail(message):
 def library_program():
     """The proved library, taking calls in lines."""
     if not ARCHIVE.exists() or not PROGRAM.exists():
-        fail('target/staticlib/libsegvartin.a and target/bin/frame are needed: rt staticlib segvartin; rt check frame')
+        fail('target/staticlib/libsegvartin.a and target/bin/frame are needed: tools/archive makes them')
     OUT.mkdir(parents=True, exist_ok=True)
     program = OUT / 'library'
     sources = [HERE / 'reference' / 'lines.c', HERE / 'reference' / 'request.c', HERE / 'library.c']

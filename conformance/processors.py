@@ -6,7 +6,7 @@
 NAME is x86_64, aarch64, riscv64, armhf or s390x. What is missing of Debian's cross compilers and of qemu-user is installed first (apt-get, as
 root or by sudo). The reference is built for each at -O0 and at -O2, and run, natively where the machine is of that kind, else under
 qemu-user. It must answer every vector as the files have it, and N random requests (10000) and a fifth as many random calls in lines as the
-proved library does, which is run natively: `rt staticlib segvartin` and `rt check frame` make that, for x86_64. Last, and with --floats alone,
+proved library does, which is run natively: `tools/archive` makes that, for x86_64. Last, and with --floats alone,
 the weights are worked out by the machine's own numbers (reference/floats.c), to see what a compiler makes of the steps of RULES 4.4. One
 process at a time, at a low priority. Exit status 0: all passed.
 """

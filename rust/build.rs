@@ -1,4 +1,4 @@
-//! Links libsegvartin.a: from SEGVARTIN_LIB_DIR, or from where `rt staticlib segvartin` writes it.
+//! Links libsegvartin.a: from SEGVARTIN_LIB_DIR, or from where `tools/archive library` writes it.
 
 use std::path::PathBuf;
 
@@ -10,7 +10,7 @@ fn main() {
     println!("cargo::rerun-if-changed={}", library.display());
     if !library.is_file() {
         println!(
-            "cargo::error={} is missing: `rt staticlib segvartin` at the root of the repository makes it",
+            "cargo::error={} is missing: `tools/archive library` at the root of the repository makes it",
             library.display()
         );
         return;

@@ -3,8 +3,8 @@
 
     tests/cli.py PROGRAM DIR [--programs FOLDER] [--large] [--strict] [--only NAME,..]
 
-PROGRAM is `segvartin`, built; DIR a folder for files. Expectations come from the program `frame` in FOLDER (target/bin by default; `rt check frame
-luma_counts` makes both programs there), from the conformance vectors, and from files that tests/files.py writes; none from the program's own code.
+PROGRAM is `segvartin`, built; DIR a folder for files. Expectations come from the program `frame` in FOLDER (target/bin by default; `tools/archive
+programs` makes both programs there), from the conformance vectors, and from files that tests/files.py writes; none from the program's own code.
 With --large files past 4 GiB too, which take 12 GiB of DIR. --only runs some of the functions of tests/cli_work.py and tests/cli_faults.py. ffmpeg,
 zsh, fish, man, groff and strace are installed where they are missing and apt-get may do it; where one cannot be, a line says what is left out, and
 with --strict that is a failure. Exit status 0: all passed.
