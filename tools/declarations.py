@@ -1,7 +1,7 @@
 #!/usr/bin/env python3
 """Make the declarations of the exported functions: in include/segvartin.h between its two marks, and rust/src/ffi.rs.
 
-They are read out of crates/segvartin/src, so that C and Rust call what is there.
+They are read out of crates/segvartin_c/src, so that C and Rust call what is there.
 
     tools/declarations.py                     write both
     tools/declarations.py --check [ARCHIVE]   say what differs from the files, and fail if anything does; of an
@@ -18,7 +18,7 @@ import sys
 from pathlib import Path
 
 ROOT = Path(__file__).resolve().parent.parent
-SOURCES = ROOT / 'crates' / 'segvartin' / 'src'
+SOURCES = ROOT / 'crates' / 'segvartin_c' / 'src'
 HEADER = ROOT / 'include' / 'segvartin.h'
 FFI = ROOT / 'rust' / 'src' / 'ffi.rs'
 
@@ -54,7 +54,7 @@ C_TYPES = {'u8': 'uint8_t', 'u16': 'uint16_t', 'u32': 'uint32_t', 'u64': 'uint64
 C_WIDTH = 140
 RUST_WIDTH = 100
 
-EXPORT = re.compile(r'#\[no_mangle\]\s*pub extern "C" fn (\w+)\(([^)]*)\)\s*->\s*(\w+)')
+EXPORT = re.compile(r'#\[unsafe\(no_mangle\)\]\s*pub extern "C" fn (\w+)\(([^)]*)\)\s*->\s*(\w+)')
 PARAMETER = re.compile(r'(?P<name>\w+): (?P<lent>&(?P<mut>mut )?)?'
                        r'(?P<bracket>\[)?(?P<type>\w+)(?:; (?P<count>\d+))?(?(bracket)\])')
 
