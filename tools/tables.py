@@ -15,6 +15,7 @@ digits, so these are held to the table of RULES 3.1.
 import difflib
 import re
 import sys
+import textwrap
 from fractions import Fraction
 from itertools import product
 from pathlib import Path
@@ -149,8 +150,8 @@ def moved(others):
 
 
 def constant(comment, name, entries):
-    lines = ''.join(f'    {entry},\n' for entry in entries)
-    return f'\n// {comment}\npub const {name}: [u16; 256] = [\n{lines}];\n'
+    lines = textwrap.fill(', '.join(str(entry) for entry in entries) + ',', 99, initial_indent='    ', subsequent_indent='    ')
+    return f'\n// {comment}\npub const {name}: [u16; 256] = [\n{lines}\n];\n'
 
 
 def text(off):
