@@ -2,9 +2,9 @@
 -- (`FramePost`, `OpenPost`, `BandPost`, `CountsPost`, `ReadPost`, `WritePost`, `RecordPost`, `MovePost`, `BuildPost`, `CheckPost`, `FindPost`,
 -- `UpdatePost`, `PairingPost`, `PicturePost`, `ConvoyPost`, `OfferPost`, `StepPost`, `RequestPost`, `Begins`, and `..Kept` of the calls that C and Rust
 -- link, the very predicates of their `ensures`), which hold of every call whatever it is given, and the rules, rows, planes, curves, files, summaries,
--- reports, convoys and desks that they speak of. Their proofs are `demand-1`, `demand-2` and `demand-3` of proofs/Demands.antt, `grey` of Grey.antt, `counts` of
--- Counts.antt, `shift-files` of ShiftFiles.antt, `shift-moves` of ShiftMoves.antt, `shift-summaries` of ShiftSummaries.antt, `shift-pairs` of
--- ShiftPairs.antt, `y4m-files` of Y4mFiles.antt, `convoys` of Convoys.antt and `desks` of Desks.antt.
+-- reports, convoys and desks that they speak of. Their proofs are `demand_1`, `demand_2` and `demand_3` of proofs/Demands.antt, `grey` of Grey.antt, `counts` of
+-- Counts.antt, `shift_files` of ShiftFiles.antt, `shift_moves` of ShiftMoves.antt, `shift_summaries` of ShiftSummaries.antt, `shift_pairs` of
+-- ShiftPairs.antt, `y4m_files` of Y4mFiles.antt, `convoys` of Convoys.antt and `desks` of Desks.antt.
 -- Assumes nothing.
 use Rattle.std.specs.Prelude.{ℕ, ◌+◌, ◌*◌, ◌-◌, ◌/◌, ◌^◌, ◌≤◌, ◌<◌, min, ◌≡◌, true, false, List, [], ◌∷◌, ◌++◌, ◌↔◌, ◌⊎◌, T, length, get_or, take, drop}
 use Rattle.yuv_support.specs.declared.YuvRange.{YuvRange}

@@ -44,7 +44,7 @@ abbrev pub scale : Float
 scale = from_bits binary32 0x4600_0000
 
 -- ---- `get_forward_transform`, line by line
--- RULES 4.4: each operator is one step, from the left; `rangeRgba` is 255
+-- RULES 4.4: each operator is one step, from the left; `range_rgba` is 255
 abbrev pub coefficients : ℕ → ℕ → ℕ → Float → Float → CbCrForwardTransformF32
 coefficients range_rgba range_y range_uv kr kb =
     let kg = one -f kr -f kb in

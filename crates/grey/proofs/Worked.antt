@@ -1,5 +1,5 @@
 -- Example 6.5 of docs/RULES.md: a red pixel, and to its right a grey one, which alone is the frame's. The rectangle is grey, and the source is not.
--- (That the frame has no tint is `beside-red` of demands' proofs/Grey.antt.)
+-- (That the frame has no tint is `beside_red` of demands' proofs/Grey.antt.)
 -- Assumes nothing.
 use Prim.Native.Nat.{ℕ, zero, suc}
 use mathlib.Core.Path.{◌≡◌, refl}

@@ -72,7 +72,7 @@ fn with_pair(
     requires has_record { HasRecord form_a ours.now i }
     requires has_record_2 { HasRecord form_b theirs.now j }
     requires differing_bound { tally.equal + tally.differing < 4096 }
-    ensures { OneMore (files_of form_a ours.entry.now form_b theirs.now) (record { ours = i; theirs = j }) tally result }
+    ensures { OneMore (files_of form_a ours.now form_b theirs.now) (record { ours = i; theirs = j }) tally result }
 {
     let difference = record_difference::compare_records(form_a, ours, i, form_b, theirs, j);
     let first = tally.first;
