@@ -5,7 +5,7 @@
 //     one colour, 128 by 128 | 80 00 80 00 00 00 00 00 00 10 20 30 * 49161
 #![tactic(auto)]
 
-ghost use Rattle.std.specs.Prelude.{◌≤◌, ◌<◌, length};
+ghost use Rattle.std.specs.Prelude.{◌≡◌, ℕ, ◌≤◌, ◌<◌, length, slice_index};
 
 use replay::print;
 
@@ -140,6 +140,8 @@ pub fn find(text: &[u8], from: usize, to: usize, byte: u8) -> usize
     requires within { to ≤ length text.now }
     ensures low { from ≤ result }
     ensures high { result ≤ to }
+    ensures found { result < to → slice_index text.now result ≡ byte }
+    ensures first { (i : ℕ) → from ≤ i → i < result → slice_index text.now i ≡ byte → ⊥ }
 {
     for i in from..to {
         if text[i] == byte {
