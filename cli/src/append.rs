@@ -266,7 +266,7 @@ fn grown_summary(
         Some(record) if new.summary_size() == old.summary_size() + SUMMARY_ENTRY => {
             old.update_summary(record.bytes, &mut grown)?;
         }
-        // Of several records, that of the new file is the same bytes as updates one by one would give (theorem shift-summaries).
+        // Of several records, that of the new file is the same bytes as updates one by one would give (theorem `shift_summaries`).
         _ if old.check_summary(summary) => {
             new.build_summary(&mut grown)?;
         }
