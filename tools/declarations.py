@@ -159,8 +159,8 @@ def archive_differs(functions, archive):
 
 def named_numbers():
     """The library's codes and numbers by name: those of settings, and those of refusals."""
-    codes = (ROOT / 'crates' / 'setting_codes' / 'src' / 'lib.rt').read_text()
-    settings = {f'{kind}::{name}': int(code) for code, kind, name in re.findall(r'(\d+) => (\w+)::(\w+),', codes)}
+    codes = ''.join((ROOT / 'crates' / crate / 'src' / 'codes.rt').read_text() for crate in ('yuv_support', 'sharp_gamma'))
+    settings = {f'{kind}::{name}': int(code) for code, kind, name in re.findall(r'(\d+) => Ok\((\w+)::(\w+)\),', codes)}
     custom = re.search(r'const CUSTOM: u32 = (\d+);', (ROOT / 'crates' / 'call_numbers' / 'src' / 'lib.rt').read_text())
     settings['YuvStandardMatrix::Custom'] = int(custom[1])
     answers = (ROOT / 'crates' / 'error_numbers' / 'src' / 'lib.rt').read_text()
@@ -175,7 +175,7 @@ def names_differ():
     settings, refusals = named_numbers()
     side = re.search(r'const MAX_SIDE: u32 = (\d+);', (ROOT / 'crates' / 'yuv_error' / 'src' / 'lib.rt').read_text())[1]
     convoy = re.search(r'const MAX_FRAMES: usize = (\d+);', (ROOT / 'crates' / 'convoy_parts' / 'src' / 'lib.rt').read_text())[1]
-    cameras = re.search(r'const CAMERAS: usize = (\d+);', (ROOT / 'crates' / 'desk_numbers' / 'src' / 'lib.rt').read_text())[1]
+    cameras = re.search(r'pub places: \[Slot; (\d+)\]', (ROOT / 'crates' / 'desk' / 'src' / 'lib.rt').read_text())[1]
     records = re.search(r'const MOST_RECORDS: u32 = (\d+);', (ROOT / 'crates' / 'shift_file' / 'src' / 'lib.rt').read_text())[1]
     entry = re.search(r'const ENTRY: usize = (\d+);', (ROOT / 'crates' / 'summary_calls' / 'src' / 'lib.rt').read_text())[1]
     header = HEADER.read_text()

@@ -1,4 +1,5 @@
 -- Laws of band calls.
 pub mod Accepted
 pub mod Post
+pub mod LastRow
 pub mod SameBands

@@ -7,8 +7,7 @@ use mathlib.Core.List.{List}
 use native.Mathlib.Nat.{le_of_eq, add-zero}
 use lib.ListN.{length}
 use Rattle.yuv_error.specs.declared.YuvError.{YuvError}
-use Rattle.yuv_error.specs.declared.YuvAnswer.{YuvAnswer}
-use Rattle.yuv_error.specs.declared.YuvAnswer.TheVariants.{Finished, Refused}
+use Rattle.std.specs.Prelude.{Result, Ok, Err}
 use Rattle.yuv_error.specs.Numbers.{numbers_of}
 use Rattle.yuv_error.specs.Rules.{first_numbers}
 use Rattle.definitions.specs.Painted.{Painted}
@@ -21,9 +20,9 @@ use Rattle.yuv_error.specs.Lent.{lengths_of, taken}
 use Rattle.band_calls.specs.declared.FrameState.{FrameState}
 use Rattle.band_calls.specs.BandCall.{state_of, band_of, band_rules, carried_bytes, BandCall, band_call, BandPost, Untouched}
 
-module _ (s : FrameState) (rows stride : ℕ) (source y u v carried : List ℕ) (answer : YuvAnswer)
+module _ (s : FrameState) (rows stride : ℕ) (source y u v carried : List ℕ) (answer : Result Unit YuvError)
     (numbers : numbers_of answer ≡ first_numbers (band_rules s rows stride (lengths_of source y u v) (length carried))) where
-  pub refused : {e : YuvError} → answer ≡ Refused e → BandPost (band_call s rows stride source y u v carried
+  pub refused : {e : YuvError} → answer ≡ Err e → BandPost (band_call s rows stride source y u v carried
       (record { state = s; answer = answer }) y u v carried)
   refused is =
       let none : (n : ℕ) → taken answer n ≡ 0 = λ n. rw is in
@@ -36,7 +35,7 @@ module _ (s : FrameState) (rows stride : ℕ) (source y u v carried : List ℕ) 
         carry = rw none (Painted-none _ carried);
       }
 
-  pub finished : {y' u' v' carried' : List ℕ} → answer ≡ Finished
+  pub finished : {y' u' v' carried' : List ℕ} → answer ≡ Ok tt
       → Sharpened s.frame s.done (s.done + rows) (band_image (band_of s rows stride) source carried) y u v y' u' v'
       → Painted (carried_bytes s.frame (s.done + rows))
       (λ q. own_rows (band_of s rows stride) source (s.done + rows - 1) (q / 3) (q % 3)) carried carried'

@@ -7,8 +7,8 @@ use mathlib.Core.List.{List}
 use native.Mathlib.Omega.{arith}
 use lib.ListN.{length}
 use lib.Seq.{ext_get_or}
-use Rattle.yuv_error.specs.declared.YuvAnswer.{YuvAnswer}
-use Rattle.yuv_error.specs.declared.YuvAnswer.TheVariants.{Finished, Refused}
+use Rattle.std.specs.Prelude.{Result, Ok, Err}
+use Rattle.yuv_error.specs.declared.YuvError.{YuvError}
 use Rattle.yuv_error.specs.Numbers.{Numbers}
 use Rattle.yuv_error.specs.Rules.{first_numbers}
 use Rattle.yuv_error.specs.Lent.{taken}
@@ -53,9 +53,9 @@ module _ (k j : BandCall) (same : SameColourBytes k j) where
   abbrev other : FrameAnswer → BandCall
   other r = band_call k.state k.rows k.stride j.source k.y k.u k.v k.carried r j.y' j.u' j.v' j.carried'
 
-  left : (a : YuvAnswer) → k.result.answer ≡ a → BandPost k → BandPost (other k.result)
+  left : (a : Result Unit YuvError) → k.result.answer ≡ a → BandPost k → BandPost (other k.result)
       → (k.y' ≡ j.y') × (k.u' ≡ j.u') × (k.v' ≡ j.v') × (k.carried' ≡ j.carried')
-  left Finished is p q =
+  left (Ok done) is p q =
       let s = k.state in
       let a = accepted_band s k.rows k.stride (lent_to k) (length k.carried) (finished_number (rules_of k) is p.answered) in
       let g = a.given in
@@ -64,7 +64,7 @@ module _ (k j : BandCall) (same : SameColourBytes k j) where
       let few = carried_few s.frame (end_of k) in
       let c = Painted-like (λ n l. own (end_of k - 1) (omega (arith, g)) (omega (arith, g)) (n / 3) (n % 3) (omega arith) (omega arith)) (rw is at p.carry) in
       (plane_unique x.luma z.luma, plane_unique x.cb z.cb, plane_unique x.cr z.cr, Painted-unique c (rw is at q.carry))
-  left (Refused e) is p q =
+  left (Err e) is p q =
       let none : (n : ℕ) → taken k.result.answer n ≡ 0 = λ n. rw is in
       let x = refused_writes_nothing {k = k} none p in
       let z = refused_writes_nothing {k = other k.result} none q in
@@ -76,7 +76,7 @@ alpha_and_padding k j p q others same =
     let rules : ℕ → Numbers = λ (n : ℕ). first_numbers (band_rules k.state k.rows k.stride
     (record { source = n; y = length k.y; u = length k.u; v = length k.v }) (length k.carried)) in
     let answers : k.result.answer ≡ j.result.answer = same_answer _ _ (p.answered ∙ ap rules (sym others.size) ∙ sym r.answered) in
-    let states : k.result.state ≡ j.result.state = p.state ∙ ap (λ (a : YuvAnswer). state_of k.state.frame
+    let states : k.result.state ≡ j.result.state = p.state ∙ ap (λ (a : Result Unit YuvError). state_of k.state.frame
     (k.state.done + taken a k.rows)) answers ∙ sym r.state in
     let results : k.result ≡ j.result = λ i. record { state = states i; answer = answers i } in
     let lent = left k j same k.result.answer refl p (subst (λ (x : FrameAnswer). BandPost (other k j same x)) (sym results) r) in

@@ -1,85 +1,78 @@
 // Band calls: a frame converted in bands of rows, between which its state goes in by value and comes back.
 #![tactic(auto)]
 
-ghost use Rattle.std.specs.Prelude.{◌≡◌, ◌+◌, ◌*◌, ◌-◌, ◌/◌, ◌%◌, ◌≤◌, length};
+ghost use Rattle.std.specs.Prelude.{◌≡◌, ◌+◌, ◌*◌, ◌-◌, ◌/◌, ◌%◌, ◌≤◌, length, OnOk};
 ghost use Rattle.yuv_error.specs.Numbers.{numbers_of};
 ghost use Rattle.yuv_error.specs.Rules.{first_numbers};
 ghost use Rattle.definitions.specs.Painted.{Painted};
 ghost use Rattle.definitions.specs.Row.{pixels_of};
 ghost use Rattle.definitions.specs.Bands.{own_rows};
-ghost use Rattle.yuv_error.specs.Known.{Sized, Given};
-ghost use Rattle.band_calls.specs.BandCall.{OpenPost, row_rules, carried_rules, band_rules, is_carried, carried_bytes};
+ghost use Rattle.yuv_error.specs.Known.{Sized, Given, PlanesLent};
+ghost use Rattle.band_calls.specs.BandCall.{OpenPost, band_of, row_rules, carried_rules, band_rules, is_carried, carried_bytes};
 ghost use Rattle.band_calls.specs.BandCall.{band_call, BandPost};
 
 use definitions::{Band, FrameDescription};
-use yuv_error::{Lengths, MismatchedSize, YuvAnswer, YuvError};
+use yuv_error::{Lengths, MismatchedSize, YuvError};
 use yuv_support::YuvChromaSubsampling;
 
 // A frame that is being converted: what its opening fixed, and how many of its rows are done.
-#[derive(Clone, Copy)]
+#[derive(Clone, Copy, Debug, PartialEq)]
 pub struct FrameState {
     pub frame: FrameDescription,
     pub done: u32,
 }
 
 // What an opening or a band call hands back.
-#[derive(Clone, Copy)]
+#[derive(Clone, Copy, Debug, PartialEq)]
 pub struct FrameAnswer {
     pub state: FrameState,
-    pub answer: YuvAnswer,
-}
-
-// How many rows remain: none where as many are done as the frame has, or more.
-fn rows_left(height: u32, done: u32) -> u32
-    ensures { result ≡ height - done }
-{
-    if done < height { height - done } else { 0 }
+    pub answer: Result<(), YuvError>,
 }
 
 // Refusal 5.
-fn check_rows(height: u32, done: u32, rows: u32) -> YuvAnswer
-    ensures { numbers_of result ≡ first_numbers (row_rules height done rows) }
+fn check_rows(height: u32, done: u32, rows: u32) -> Result<(), YuvError>
+    ensures numbers { numbers_of result ≡ first_numbers (row_rules height done rows) }
+    ensures inside { OnOk result ((1 ≤ rows) × (done + rows ≤ height)) }
 {
-    if rows == 0 || rows_left(height, done) < rows {
-        YuvAnswer::Refused(YuvError::BandRowsMismatch)
-    } else {
-        YuvAnswer::Finished
+    if rows == 0 || height.saturating_sub(done) < rows {
+        return Err(YuvError::BandRowsMismatch);
     }
+    Ok(())
 }
 
 // Refusal 13.
-fn check_carried(width: u32, carried: usize) -> YuvAnswer
-    ensures { numbers_of result ≡ first_numbers (carried_rules width carried) }
+fn check_carried(width: u32, carried: usize) -> Result<(), YuvError>
+    ensures numbers { numbers_of result ≡ first_numbers (carried_rules width carried) }
+    ensures long { OnOk result (3 * width ≤ carried) }
 {
     let least = 3 * width as usize;
     if carried < least {
-        YuvAnswer::Refused(YuvError::CarriedRowSizeMismatch(MismatchedSize {
+        return Err(YuvError::CarriedRowSizeMismatch(MismatchedSize {
             expected: least,
             received: carried,
-        }))
-    } else {
-        YuvAnswer::Finished
+        }));
     }
+    Ok(())
 }
 
 // Refusals 2, 3, 4, 14, 5, then 6 to 12, then 13.
-fn check_band(state: FrameState, rows: u32, stride: u32, lent: Lengths, carried: usize) -> YuvAnswer
-    ensures { numbers_of result ≡ first_numbers (band_rules state rows stride lent carried) }
+fn check_band(
+    state: FrameState,
+    rows: u32,
+    stride: u32,
+    lent: Lengths,
+    carried: usize,
+) -> Result<(), YuvError>
+    ensures numbers { numbers_of result ≡ first_numbers (band_rules state rows stride lent carried) }
+    ensures sized { OnOk result (Sized state.frame) }
+    ensures given { OnOk result (Given (band_of state rows stride) lent.source) }
+    ensures planes { OnOk result (PlanesLent state.frame lent.y lent.u lent.v) }
+    ensures long { OnOk result (3 * state.frame.width ≤ carried) }
 {
-    let frame = state.frame;
-    let opening = yuv_error::check_opening(frame);
-    let counted = check_rows(frame.height, state.done, rows);
-    let given = opening.and(counted);
-    match given {
-        YuvAnswer::Refused(_) => {
-            return given;
-        }
-        YuvAnswer::Finished => {}
-    }
-    yuv_error::check_lent(frame, rows as usize, stride, lent).and(check_carried(
-        frame.width,
-        carried,
-    ))
+    yuv_error::check_opening(state.frame)?;
+    check_rows(state.frame.height, state.done, rows)?;
+    yuv_error::check_lent(state.frame, rows as usize, stride, lent)?;
+    check_carried(state.frame.width, carried)
 }
 
 // Whether the last of `end` rows is carried: in 4:2:0 an even-numbered row other than the frame's last.
@@ -99,16 +92,12 @@ fn carry_row(row: &[u8], count: usize, width: usize, carried: &mut [u8])
     requires width_in_bounds { 3 * width ≤ length carried.old }
     ensures { Painted (3 * width) (λ q. pixels_of count row.now (q / 3) (q % 3)) carried.old carried.new }
 {
-    let mut x = 0;
-    let mut from = 0;
-    let mut to = 0;
-    while x < width {
+    for x in 0..width {
+        let from = x * count;
+        let to = x * 3;
         carried[to] = row[from];
         carried[to + 1] = row[from + 1];
         carried[to + 2] = row[from + 2];
-        x += 1;
-        from += count;
-        to += 3;
     }
 }
 
@@ -121,17 +110,11 @@ fn carry_band(band: Band, source: &[u8], carried: &mut [u8])
         (λ q. own_rows band source.now (band.done + band.rows - 1) (q / 3) (q % 3)) carried.old carried.new }
 {
     let frame = band.frame;
-    let rows = band.rows;
-    let stride = band.stride as usize;
-    let settings = frame.settings;
-    let sampling = settings.sampling;
-    if is_carried(sampling, frame.height, band.done + rows) {
-        let channels = settings.channels;
-        let count = channels.get_channels_count();
+    if is_carried(frame.settings.sampling, frame.height, band.done + band.rows) {
+        let count = frame.settings.channels.get_channels_count();
         let width = frame.width as usize;
-        let at = definitions::row_start(frame, rows as usize - 1, stride);
-        let size = width * count;
-        carry_row(&source[at..at + size], count, width, carried);
+        let at = definitions::row_start(frame, band.rows as usize - 1, band.stride as usize);
+        carry_row(&source[at..at + width * count], count, width, carried);
     }
 }
 
@@ -168,33 +151,29 @@ impl FrameState {
             u: u.len(),
             v: v.len(),
         };
-        let answer = check_band(self, rows, stride, lent, carried.len());
-        match answer {
-            YuvAnswer::Refused(_) => {
-                return FrameAnswer {
-                    state: self,
-                    answer,
-                };
-            }
-            YuvAnswer::Finished => {}
-        }
-        let frame = self.frame;
-        let done = self.done;
-        let band = Band {
-            frame,
-            done,
-            rows,
-            stride,
-        };
-        // the carried row is read before this band's last row takes its place
-        band_planes::sharpen_band(band, source, carried, y, u, v);
-        carry_band(band, source, carried);
-        FrameAnswer {
-            state: FrameState {
-                frame,
-                done: done + rows,
+        match check_band(self, rows, stride, lent, carried.len()) {
+            Err(e) => FrameAnswer {
+                state: self,
+                answer: Err(e),
             },
-            answer,
+            Ok(()) => {
+                let band = Band {
+                    frame: self.frame,
+                    done: self.done,
+                    rows,
+                    stride,
+                };
+                // the carried row is read before this band's last row takes its place
+                band_planes::sharpen_band(band, source, carried, y, u, v);
+                carry_band(band, source, carried);
+                FrameAnswer {
+                    state: FrameState {
+                        frame: self.frame,
+                        done: self.done + rows,
+                    },
+                    answer: Ok(()),
+                }
+            }
         }
     }
 }

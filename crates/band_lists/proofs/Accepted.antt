@@ -7,8 +7,8 @@ use mathlib.Core.Bool.{true, false, true≢false}
 use borrow.Author.Tests.{eqb-true, eq-eqb}
 use lib.Dec.{eqb}
 use lib.ListN.{length}
-use Rattle.yuv_error.specs.declared.YuvAnswer.{YuvAnswer}
-use Rattle.yuv_error.specs.declared.YuvAnswer.TheVariants.{Finished, Refused}
+use Rattle.std.specs.Prelude.{Result, Ok, Err}
+use Rattle.yuv_error.specs.declared.YuvError.{YuvError}
 use Rattle.yuv_error.specs.Numbers.{Numbers, numbers_of}
 use Rattle.yuv_error.specs.Rules.{first_numbers}
 use Rattle.yuv_error.specs.Lowest.{NoneHolds}
@@ -30,13 +30,13 @@ pub call_given : (k : BandCall) → is_accepted k ≡ true → Accepted k
 unfolding is_accepted
 call_given k e = accepted_band k.state k.rows k.stride (lent_to k) (length k.carried) (eqb-true _ 0 e)
 
-pub call_finished : (k : BandCall) → numbers_of k.result.answer ≡ first_numbers (rules_of k) → is_accepted k ≡ true → k.result.answer ≡ Finished
+pub call_finished : (k : BandCall) → numbers_of k.result.answer ≡ first_numbers (rules_of k) → is_accepted k ≡ true → k.result.answer ≡ Ok tt
 unfolding is_accepted
 call_finished k answered e = is_finished k.result.answer (ap (λ (x : Numbers). x.number) answered ∙ eqb-true _ 0 e)
 
-takes_none : (a : YuvAnswer) → eqb (numbers_of a).number 0 ≡ false → (n : ℕ) → taken a n ≡ 0
-takes_none Finished e n = absurd (true≢false e)
-takes_none (Refused r) e n = refl
+takes_none : (a : Result Unit YuvError) → eqb (numbers_of a).number 0 ≡ false → (n : ℕ) → taken a n ≡ 0
+takes_none (Ok done) e n = absurd (true≢false e)
+takes_none (Err r) e n = refl
 
 pub call_refused : (k : BandCall) → numbers_of k.result.answer ≡ first_numbers (rules_of k) → is_accepted k ≡ false → (n : ℕ) → taken k.result.answer n ≡ 0
 unfolding is_accepted

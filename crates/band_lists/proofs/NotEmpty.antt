@@ -9,7 +9,7 @@ use native.Mathlib.Nat.{le_refl, le_trans, mul_comm, mul-sub, mul-le-mul_left}
 use native.Mathlib.Omega.{arith}
 use lib.ListN.{length, get_or, take, drop, length-take, length-drop, replicate, length-replicate}
 use lib.Seq.{ext_get_or, get_or-take, get_or-drop}
-use Rattle.yuv_error.specs.declared.YuvAnswer.TheVariants.{Finished, Refused}
+use Rattle.std.specs.Prelude.{Ok, Err}
 use Rattle.yuv_error.specs.declared.YuvError.TheVariants.{ZeroBaseSize}
 use Rattle.definitions.specs.declared.FrameDescription.{FrameDescription}
 use Rattle.definitions.specs.Image.{whole_source, row_bytes, row_size, row_start, chroma_size, chroma_rows, frame_image}
@@ -104,7 +104,7 @@ module _ (d : FrameDescription) (sized : Sized d) (t : Tally) (fits : Fits d t) 
         bottom = omega arith;
       } in
       let p = can_sharpen 0 (frame_image (unpadded d) (row_size d) (source_with d t)) lent.planes (le_refl d.height) in (
-        frame_call (unpadded d) (row_size d) (source_with d t) (luma_zeros d) (chroma_zeros d) (chroma_zeros d) Finished p.0 p.1 p.2,
+        frame_call (unpadded d) (row_size d) (source_with d t) (luma_zeros d) (chroma_zeros d) (chroma_zeros d) (Ok tt) p.0 p.1 p.2,
         record {
           met = record { answered = sym (frame_passes same lent); planes = p.3 };
           accepted = refl;
@@ -133,10 +133,10 @@ turned_away d =
       frame = record { width = 0; height = 0; window = d.window; settings = d.settings; y_stride = 0; u_stride = 0; v_stride = 0 };
       done = 7;
     } in
-    band_call s 0 0 [] [] [] [] [] (record { state = s; answer = Refused ZeroBaseSize }) [] [] [] []
+    band_call s 0 0 [] [] [] [] [] (record { state = s; answer = Err ZeroBaseSize }) [] [] [] []
 
 turned_away_met : (d : FrameDescription) → BandPost (turned_away d)
-turned_away_met d = refused (turned_away d).state 0 0 [] [] [] [] [] (Refused ZeroBaseSize) refl refl
+turned_away_met d = refused (turned_away d).state 0 0 [] [] [] [] [] (Err ZeroBaseSize) refl refl
 
 -- a call that is given and lent what it needs, with what it leaves
 pub record Taken (s : FrameState) (rows stride : ℕ) (source y u v carried : List ℕ) : Type 0 where
@@ -144,12 +144,12 @@ pub record Taken (s : FrameState) (rows stride : ℕ) (source y u v carried : Li
   pub u' : List ℕ
   pub v' : List ℕ
   pub carried' : List ℕ
-  pub met : BandPost (band_call s rows stride source y u v carried (record { state = state_of s.frame (s.done + rows); answer = Finished }) y' u' v' carried')
+  pub met : BandPost (band_call s rows stride source y u v carried (record { state = state_of s.frame (s.done + rows); answer = Ok tt }) y' u' v' carried')
 
 module _ {s : FrameState} {rows stride : ℕ} {source y u v carried : List ℕ} where
   abbrev call_of : Taken s rows stride source y u v carried → BandCall
   call_of k =
-      band_call s rows stride source y u v carried (record { state = state_of s.frame (s.done + rows); answer = Finished }) k.y' k.u' k.v'
+      band_call s rows stride source y u v carried (record { state = state_of s.frame (s.done + rows); answer = Ok tt }) k.y' k.u' k.v'
       k.carried'
 
   is_accepted_lem : (k : Taken s rows stride source y u v carried) → AcceptedBand s rows stride (lengths_of source y u v) (length carried)
@@ -168,7 +168,7 @@ taken s rows stride source y u v carried a =
       u' = p.1;
       v' = p.2;
       carried' = c.0;
-      met = finished s rows stride source y u v carried Finished (sym (band_passes s rows stride _ _ a)) refl p.3 c.1;
+      met = finished s rows stride source y u v carried (Ok tt) (sym (band_passes s rows stride _ _ a)) refl p.3 c.1;
     }
 
 is_refused : (d : FrameDescription) → is_accepted (turned_away d) ≡ false
@@ -240,7 +240,7 @@ module _ (d : FrameDescription) (stride : ℕ) (source y u v : List ℕ) (a : Ac
       let yes₂ = is_accepted_lem k₂ a₂ in (
         turned_away d ∷ call_of k₁ ∷ turned_away d ∷ call_of k₂ ∷ [],
         record {
-          opening = record { state = state_of d 0; answer = Finished };
+          opening = record { state = state_of d 0; answer = Ok tt };
           fresh = record { met = record { answered = sym (opening_passes a.lent.sized); state = refl }; accepted = refl };
           met = (turned_away_met d, (k₁.met, (turned_away_met d, (k₂.met, tt))));
           chained = rw (no₁, yes₁, yes₂) (refl, ((refl, refl, refl, refl, refl), tt));

@@ -1,7 +1,6 @@
 -- Demand 3: one claim about every list of band calls after a fresh opening. docs/RULES.md, 8.9, part by part.
 -- Assumes nothing.
-use Rattle.std.specs.Prelude.{ℕ, zero, suc, ◌+◌, ◌*◌, ◌<◌, ◌≡◌, Bool, true, false, cond, List, [], ◌∷◌, ◌++◌, eqb, length, get_or}
-use Rattle.yuv_error.specs.declared.YuvAnswer.TheVariants.{Finished}
+use Rattle.std.specs.Prelude.{ℕ, zero, suc, ◌+◌, ◌<◌, ◌≡◌, Bool, true, false, cond, List, [], ◌∷◌, ◌++◌, eqb, length, get_or, Ok}
 use Rattle.yuv_error.specs.Rules.{first_numbers}
 use Rattle.definitions.specs.declared.FrameDescription.{FrameDescription}
 use Rattle.definitions.specs.Image.{row_bytes, chroma_size, finished_of}
@@ -14,7 +13,7 @@ use Rattle.band_calls.specs.BandCall.{state_of, OpenPost, BandCall, rules_of, Ba
 -- RULES 8.1: a fresh opening is one that was accepted; the first part is the very predicate of the `ensures` of `FrameState::open`
 pub record Fresh (d : FrameDescription) (r : FrameAnswer) : Type 0 where
   pub met : OpenPost d r
-  pub accepted : r.answer ≡ Finished
+  pub accepted : r.answer ≡ Ok tt
 
 -- RULES 8.9 speaks of what calls leave, so the claim is about calls that kept their promise:
 -- each call of the list kept the promise of `FrameState::band`, the very
@@ -85,7 +84,7 @@ Chained o p (k ∷ ks) = Either (is_accepted k) (Follows o p k × Chained o (cal
 -- and buffers; the first part is the very predicate of the `ensures` of `rgbx_to_sharp_yuv`
 pub record SameRows (d : FrameDescription) (t : Tally) (f : FrameCall) : Type 0 where
   pub met : FramePost f
-  pub accepted : f.answer ≡ Finished
+  pub accepted : f.answer ≡ Ok tt
   pub width : f.frame.width ≡ d.width
   pub height : f.frame.height ≡ d.height
   pub settings : f.frame.settings ≡ d.settings

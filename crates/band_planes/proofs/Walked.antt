@@ -64,6 +64,10 @@ walked_then inside p rise most step =
           (step image sees);
     }
 
+pub Walked-to : {w : Work} {from row next : ℕ} {source y u v y' u' v' : List ℕ} → row ≡ next → Walked w from row source y u v y' u' v'
+    → Walked w from next source y u v y' u' v'
+Walked-to e p = rw e at p
+
 -- any image serves for the planes' sizes
 pub Walked-some : {w : Work} {from row : ℕ} {source y u v y' u' v' : List ℕ} → Walked w from row source y u v y' u' v'
     → Sharpened (frame_of w) from row (band_image (band_of w) source []) y u v y' u' v'

@@ -4,166 +4,181 @@
 #![tactic(auto)]
 
 ghost use Rattle.std.specs.Prelude.{◌+◌, ◌*◌, ◌%◌, ◌≤◌, ◌≡◌, length};
-ghost use Rattle.definitions.specs.Image.{Image};
+ghost use Rattle.definitions.specs.Image.{Image, pixel_size};
 ghost use Rattle.definitions.specs.Bands.{band_image, Sharpened};
-ghost use Rattle.pixel_pairs.specs.Tables.{Prepared};
 ghost use Rattle.yuv_error.specs.Known.{Lent};
 ghost use Rattle.band_steps.specs.Steps.{band_of, frame_of, Sees};
 ghost use Rattle.band_planes.specs.Rows.{ForRows};
 
 use band_steps::Work;
 use definitions::Band;
+use pixel_pairs::frame_tables::FrameTables;
 use pixel_pairs::tables;
 use yuv_support::YuvChromaSubsampling;
 
 // The first row of a band of 4:2:0 that starts between the two rows of a chroma row.
-fn first_row(
-    work: Work,
+fn first_row<const N: usize>(
+    work: &Work,
     source: &[u8],
     carried: &[u8],
     y: &mut [u8],
     u: &mut [u8],
     v: &mut [u8],
-    sums: &[u64; 1536],
-    gamma: &[u8; 65536],
 )
-    requires for_rows { ForRows YuvChromaSubsampling.Yuv420 work sums.now gamma.now (length source.now) (length y.old) (length u.old) (length v.old) }
-    requires work_in_bounds { 3 * (frame_of work).width ≤ length carried.now }
-    requires done_value { work.done % 2 ≡ 1 }
-    ensures { Sharpened (frame_of work) work.done (work.done + 1) (band_image (band_of work) source.now carried.now)
+    requires for_rows { ForRows YuvChromaSubsampling.Yuv420 N work.now (length source.now) (length y.old) (length u.old) (length v.old) }
+    requires carried_long { 3 * (frame_of work.now).width ≤ length carried.now }
+    requires odd_start { work.now.done % 2 ≡ 1 }
+    ensures { Sharpened (frame_of work.now) work.now.done (work.now.done + 1) (band_image (band_of work.now) source.now carried.now)
         y.old u.old v.old y.new u.new v.new }
 {
     let step = band_steps::step_at(work, work.done);
-    band_steps::luma_step(work, step, source, y, sums);
-    band_steps::carried_step(work, step, source, carried, u, v, sums, gamma);
+    band_steps::luma_step::<N>(work, step, source, y);
+    band_steps::carried_step::<N>(work, step, source, carried, u, v);
+}
+
+// The row that pairs of rows of 4:2:0 start from; a row before it is written.
+fn pairs_start<const N: usize>(
+    work: &Work,
+    source: &[u8],
+    carried: &[u8],
+    y: &mut [u8],
+    u: &mut [u8],
+    v: &mut [u8],
+) -> usize
+    requires for_rows { ForRows YuvChromaSubsampling.Yuv420 N work.now (length source.now) (length y.old) (length u.old) (length v.old) }
+    requires carried_long { 3 * (frame_of work.now).width ≤ length carried.now }
+    ensures even_start { (work.now.done ≤ result) × (result ≤ work.now.done + work.now.count) × (result % 2 ≡ 0) }
+    ensures sharpened { Sharpened (frame_of work.now) work.now.done result (band_image (band_of work.now) source.now carried.now)
+        y.old u.old v.old y.new u.new v.new }
+{
+    let done = work.done;
+    if done % 2 == 0 {
+        return done;
+    }
+    first_row::<N>(work, source, carried, y, u, v);
+    done + 1
 }
 
 // The last row of a band of 4:2:0 that ends between the two rows of a chroma row, or with an odd height.
-fn last_row(
-    work: Work,
+fn last_row<const N: usize>(
+    work: &Work,
     row: usize,
     source: &[u8],
     y: &mut [u8],
     u: &mut [u8],
     v: &mut [u8],
-    sums: &[u64; 1536],
-    gamma: &[u8; 65536],
 )
-    requires for_rows { ForRows YuvChromaSubsampling.Yuv420 work sums.now gamma.now (length source.now) (length y.old) (length u.old) (length v.old) }
-    requires done_le_row { (work.done ≤ row) × (row + 1 ≡ work.done + work.count) × (row % 2 ≡ 0) }
-    ensures { (image : Image) → Sees work source.now image → Sharpened (frame_of work) row (row + 1) image
+    requires for_rows { ForRows YuvChromaSubsampling.Yuv420 N work.now (length source.now) (length y.old) (length u.old) (length v.old) }
+    requires last_row { (work.now.done ≤ row) × (row + 1 ≡ work.now.done + work.now.count) × (row % 2 ≡ 0) }
+    ensures { (image : Image) → Sees work.now source.now image → Sharpened (frame_of work.now) row (row + 1) image
         y.old u.old v.old y.new u.new v.new }
 {
-    let rows = work.rows;
-    let frame = rows.frame;
     let step = band_steps::step_at(work, row);
-    band_steps::luma_step(work, step, source, y, sums);
-    if row + 1 == frame.height as usize {
-        band_steps::alone_step(work, step, source, u, v, sums, gamma);
+    band_steps::luma_step::<N>(work, step, source, y);
+    if row + 1 == work.tables.rows.frame.height as usize {
+        band_steps::alone_step::<N>(work, step, source, u, v);
     }
 }
 
 // Pairs of rows of 4:2:0 from an even row on, as far as the band goes; answers the row after them.
-fn pair_rows(
-    work: Work,
+fn pair_rows<const N: usize>(
+    work: &Work,
     from: usize,
     source: &[u8],
     y: &mut [u8],
     u: &mut [u8],
     v: &mut [u8],
-    sums: &[u64; 1536],
-    gamma: &[u8; 65536],
 ) -> usize
-    requires for_rows { ForRows YuvChromaSubsampling.Yuv420 work sums.now gamma.now (length source.now) (length y.old) (length u.old) (length v.old) }
-    requires done_le_from { (work.done ≤ from) × (from ≤ work.done + work.count) × (from % 2 ≡ 0) }
-    ensures lower_bound { (from ≤ result) × (result ≤ work.done + work.count) × (work.done + work.count ≤ result + 1) × (result % 2 ≡ 0) }
-    ensures sharpened { (image : Image) → Sees work source.now image → Sharpened (frame_of work) from result image
+    requires for_rows { ForRows YuvChromaSubsampling.Yuv420 N work.now (length source.now) (length y.old) (length u.old) (length v.old) }
+    requires even_start { (work.now.done ≤ from) × (from ≤ work.now.done + work.now.count) × (from % 2 ≡ 0) }
+    ensures row_after { (from ≤ result) × (result ≤ work.now.done + work.now.count) × (work.now.done + work.now.count ≤ result + 1) × (result % 2 ≡ 0) }
+    ensures sharpened { (image : Image) → Sees work.now source.now image → Sharpened (frame_of work.now) from result image
         y.old u.old v.old y.new u.new v.new }
 {
     let end = work.done + work.count;
-    let mut row = from;
-    while row + 1 < end {
-        let step = band_steps::step_at(work, row);
-        band_steps::pair_step(work, step, source, y, u, v, sums, gamma);
-        row += 2;
+    let pairs = (end - from) / 2;
+    for k in 0..pairs {
+        let step = band_steps::step_at(work, from + 2 * k);
+        band_steps::pair_step::<N>(work, step, source, y, u, v);
     }
-    row
+    from + 2 * pairs
 }
 
 // All rows of a band of 4:2:2.
-fn rows422(
-    work: Work,
-    source: &[u8],
-    y: &mut [u8],
-    u: &mut [u8],
-    v: &mut [u8],
-    sums: &[u64; 1536],
-    gamma: &[u8; 65536],
-)
-    requires { ForRows YuvChromaSubsampling.Yuv422 work sums.now gamma.now (length source.now) (length y.old) (length u.old) (length v.old) }
-    ensures { (image : Image) → Sees work source.now image → Sharpened (frame_of work) work.done (work.done + work.count) image
+fn rows422<const N: usize>(work: &Work, source: &[u8], y: &mut [u8], u: &mut [u8], v: &mut [u8])
+    requires { ForRows YuvChromaSubsampling.Yuv422 N work.now (length source.now) (length y.old) (length u.old) (length v.old) }
+    ensures { (image : Image) → Sees work.now source.now image → Sharpened (frame_of work.now) work.now.done (work.now.done + work.now.count) image
         y.old u.old v.old y.new u.new v.new }
 {
     let end = work.done + work.count;
-    let mut row = work.done;
-    while row < end {
+    for row in work.done..end {
         let step = band_steps::step_at(work, row);
-        band_steps::row_step(work, step, source, y, u, v, sums, gamma);
-        row += 1;
+        band_steps::row_step::<N>(work, step, source, y, u, v);
     }
 }
 
 // All rows of a band of 4:2:0.
-fn rows420(
-    work: Work,
+fn rows420<const N: usize>(
+    work: &Work,
     source: &[u8],
     carried: &[u8],
     y: &mut [u8],
     u: &mut [u8],
     v: &mut [u8],
-    sums: &[u64; 1536],
-    gamma: &[u8; 65536],
 )
-    requires for_rows { ForRows YuvChromaSubsampling.Yuv420 work sums.now gamma.now (length source.now) (length y.old) (length u.old) (length v.old) }
-    requires work_in_bounds { 3 * (frame_of work).width ≤ length carried.now }
-    ensures { Sharpened (frame_of work) work.done (work.done + work.count) (band_image (band_of work) source.now carried.now)
+    requires for_rows { ForRows YuvChromaSubsampling.Yuv420 N work.now (length source.now) (length y.old) (length u.old) (length v.old) }
+    requires carried_long { 3 * (frame_of work.now).width ≤ length carried.now }
+    ensures { Sharpened (frame_of work.now) work.now.done (work.now.done + work.now.count) (band_image (band_of work.now) source.now carried.now)
         y.old u.old v.old y.new u.new v.new }
 {
-    let done = work.done;
-    let end = done + work.count;
-    let from = done + done % 2;
-    if done < from {
-        first_row(work, source, carried, y, u, v, sums, gamma);
-    }
-    let row = pair_rows(work, from, source, y, u, v, sums, gamma);
+    let end = work.done + work.count;
+    let from = pairs_start::<N>(work, source, carried, y, u, v);
+    let row = pair_rows::<N>(work, from, source, y, u, v);
     if row < end {
-        last_row(work, row, source, y, u, v, sums, gamma);
+        last_row::<N>(work, row, source, y, u, v);
     }
 }
 
-fn rows_of(
-    work: Work,
+// All rows of a band.
+fn rows_of<const N: usize>(
+    work: &Work,
     source: &[u8],
     carried: &[u8],
     y: &mut [u8],
     u: &mut [u8],
     v: &mut [u8],
-    sums: &[u64; 1536],
-    gamma: &[u8; 65536],
 )
-    requires prepared { Prepared work.rows sums.now gamma.now }
-    requires lent { Lent (band_of work) (length source.now) (length y.old) (length u.old) (length v.old) }
-    requires work_in_bounds { 3 * (frame_of work).width ≤ length carried.now }
-    ensures { Sharpened (frame_of work) work.done (work.done + work.count) (band_image (band_of work) source.now carried.now)
+    requires pixel { N ≡ pixel_size (frame_of work.now) }
+    requires lent { Lent (band_of work.now) (length source.now) (length y.old) (length u.old) (length v.old) }
+    requires carried_long { 3 * (frame_of work.now).width ≤ length carried.now }
+    ensures { Sharpened (frame_of work.now) work.now.done (work.now.done + work.now.count) (band_image (band_of work.now) source.now carried.now)
         y.old u.old v.old y.new u.new v.new }
 {
-    let rows = work.rows;
-    let frame = rows.frame;
-    let settings = frame.settings;
-    let sampling = settings.sampling;
-    match sampling {
-        YuvChromaSubsampling::Yuv420 => rows420(work, source, carried, y, u, v, sums, gamma),
-        YuvChromaSubsampling::Yuv422 => rows422(work, source, y, u, v, sums, gamma),
+    match work.tables.rows.frame.settings.sampling {
+        YuvChromaSubsampling::Yuv420 => rows420::<N>(work, source, carried, y, u, v),
+        YuvChromaSubsampling::Yuv422 => rows422::<N>(work, source, y, u, v),
+    }
+}
+
+// The bytes of a pixel are a number from here on.
+fn rows_by_pixel(
+    work: &Work,
+    source: &[u8],
+    carried: &[u8],
+    y: &mut [u8],
+    u: &mut [u8],
+    v: &mut [u8],
+)
+    requires lent { Lent (band_of work.now) (length source.now) (length y.old) (length u.old) (length v.old) }
+    requires carried_long { 3 * (frame_of work.now).width ≤ length carried.now }
+    ensures { Sharpened (frame_of work.now) work.now.done (work.now.done + work.now.count) (band_image (band_of work.now) source.now carried.now)
+        y.old u.old v.old y.new u.new v.new }
+{
+    let settings = work.tables.rows.frame.settings;
+    if settings.channels.get_channels_count() == 3 {
+        rows_of::<3>(work, source, carried, y, u, v);
+    } else {
+        rows_of::<4>(work, source, carried, y, u, v);
     }
 }
 
@@ -184,22 +199,22 @@ pub fn sharpen_band(
 {
     let frame = band.frame;
     let settings = frame.settings;
-    let range = settings.range;
-    let matrix = settings.matrix;
-    let transfer = settings.transfer;
-    let rounding = settings.rounding;
-    let t = built_coefficients::search_forward_transform(range, matrix);
+    let t = built_coefficients::search_forward_transform(settings.range, settings.matrix);
     let rows = tables::conversion_of(frame, t);
-    let linear = sharp_gamma::linear_map_table(transfer, rounding);
+    let linear = sharp_gamma::linear_map_table(settings.transfer, settings.rounding);
     let mut gamma = [0u8; 65536];
-    sharp_gamma::gamma_map_table(transfer, rounding, &mut gamma);
+    sharp_gamma::gamma_map_table(settings.transfer, settings.rounding, &mut gamma);
     let mut sums = [0u64; 1536];
     tables::sum_tables(frame, t, &linear, &mut sums);
     let work = Work {
-        rows,
+        tables: FrameTables {
+            rows,
+            sums: &sums,
+            gamma: &gamma,
+        },
         done: band.done as usize,
         count: band.rows as usize,
         stride: band.stride as usize,
     };
-    rows_of(work, source, carried, y, u, v, &sums, &gamma);
+    rows_by_pixel(&work, source, carried, y, u, v);
 }

@@ -67,9 +67,9 @@ module _ (w : Work) {source y u v : ℕ} (lent : Lent (band_of w) source y u v) 
   )
 
   module _ {s : Step} (is : s ≡ step_of w row) where
-    pub source_at : SourceAt w s source
-    source_at = subst⁻¹ (λ (s : Step). SourceAt w s source) is
-        (record { least = least; most = most; place = refl; size = refl; room = omega (arith, source_end, row_inside) })
+    pub source_at : {count : ℕ} → count ≡ pixel_size (frame_of w) → SourceAt count w s source
+    source_at {count} pixel = subst⁻¹ (λ (s : Step). SourceAt count w s source) is
+        (record { pixel = pixel; least = least; most = most; place = refl; size = refl; room = omega (arith, source_end, row_inside) })
 
     pub y_at : YAt w s y
     y_at = subst⁻¹ (λ (s : Step). YAt w s y) is

@@ -11,15 +11,15 @@ use Rattle.yuv_support.specs.declared.YuvChromaSubsampling.{YuvChromaSubsampling
 use Rattle.yuv_support.specs.declared.YuvChromaSubsampling.TheVariants.{Yuv420, Yuv422}
 use Rattle.definitions.specs.declared.FrameDescription.{FrameDescription}
 use Rattle.definitions.specs.Row.{Pixels, pixels_of, luma_row, cb_row, cr_row, input420, input422}
-use Rattle.definitions.specs.Image.{Image, source_image, row_bytes, pixel_size, row_size, row_start, chroma_size, luma_at, cb_at, cr_at, chroma_input, finished_by, finished_of}
+use Rattle.definitions.specs.Image.{Image, row_size, row_start, chroma_size, luma_at, cb_at, cr_at, chroma_input, finished_by, finished_of}
 use Rattle.definitions.specs.Painted.{Painted}
-use Rattle.definitions.specs.Bands.{own_rows, band_image, Sharpened}
+use Rattle.definitions.specs.Bands.{band_image, Sharpened}
 use Rattle.definitions.proofs.Planes.{plane_none, plane_between}
 use Rattle.definitions.proofs.Finished.{finished_all, finished_some, finished?}
 use Rattle.definitions.proofs.Bands.{band_own_rows}
 use Rattle.definitions.proofs.Windows.{own_row}
-use Rattle.definitions.proofs.Numbers.{next_row}
-use Rattle.pixel_pairs.specs.Rows.{ChromaRoom, TwoPainted, ChromaWritten}
+use Rattle.definitions.proofs.Numbers.{next_row, three_or_four}
+use Rattle.pixel_pairs.specs.Rows.{RowOf, ChromaRoom, TwoPainted, ChromaWritten}
 use Rattle.band_steps.specs.declared.Work.{Work}
 use Rattle.band_steps.specs.declared.Step.{Step}
 use Rattle.band_steps.specs.Steps.{band_of, frame_of, chroma_of, SourceAt, PlaneAt, YAt, ChromaAt, PairAt, Sees, LumaIs, ChromaIs}
@@ -32,16 +32,23 @@ part at n buffer = take (at + n - at) (drop at buffer)
 abbrev pub back : (at n : ℕ) → List ℕ → List ℕ → List ℕ
 back at n buffer p = put_mid at (at + n - at) buffer p
 
--- the pixels of a row of the frame
-abbrev pixels : FrameDescription → List ℕ → Pixels
-pixels d row = pixels_of (pixel_size d) row
-
 pub part_long : (at n m : ℕ) (l : List ℕ) → at + n ≤ length l → m ≤ n → m ≤ length (part at n l)
 part_long at n m l room fits = simp (length-take, length-drop) (omega (arith, room, fits))
 
 -- the parts that a step lends
-pub source_long : (w : Work) {s : Step} (source : List ℕ) → SourceAt w s (length source) → row_size (frame_of w) ≤ length (part s.source s.size source)
-source_long w {s} source at = part_long s.source s.size (row_size (frame_of w)) source at.room (omega (arith, at.size))
+pub source_row : {count : ℕ} (w : Work) {s : Step} (source : List ℕ) → SourceAt count w s (length source) → RowOf (frame_of w) count (part s.source s.size source)
+source_row w {s} source at = rw at.pixel (record {
+  wide = (three_or_four (frame_of w).settings.channels).0;
+  size = part_long s.source s.size (row_size (frame_of w)) source at.room (omega (arith, at.size));
+})
+
+-- and the row below it
+pub next_source_row : {count : ℕ} (w : Work) {s : Step} (source : List ℕ) → SourceAt count w s (length source) → s.source + w.stride + s.size ≤ length source
+    → RowOf (frame_of w) count (part (s.source + w.stride) s.size source)
+next_source_row w {s} source at room = rw at.pixel (record {
+  wide = (three_or_four (frame_of w).settings.channels).0;
+  size = part_long (s.source + w.stride) s.size (row_size (frame_of w)) source room (omega (arith, at.size));
+})
 
 pub chroma_room : (w : Work) {s : Step} (u v : List ℕ) → ChromaAt w s (length u) (length v)
     → ChromaRoom (frame_of w) (part s.u s.chroma u) (part s.v s.chroma v)
@@ -52,13 +59,13 @@ chroma_room w {s} u v at = record {
 
 -- ---- rows of the source
 
-pub row_seen : (w : Work) {s : Step} (source : List ℕ) (image : Image) → SourceAt w s (length source) → Sees w source image
-    → pixels (frame_of w) (part s.source s.size source) ≡ image s.row
-row_seen w {s} source image p sees = own_row (band_of w) source s.row s.source s.size p.place p.size ∙ sees s.row p.least
+pub row_seen : {count : ℕ} (w : Work) {s : Step} (source : List ℕ) (image : Image) → SourceAt count w s (length source) → Sees w source image
+    → pixels_of count (part s.source s.size source) ≡ image s.row
+row_seen w {s} source image p sees = rw p.pixel (own_row (band_of w) source s.row s.source s.size p.place p.size ∙ sees s.row p.least)
 
 -- and the row below it
-pub next_seen : (w : Work) {s : Step} (source : List ℕ) (image : Image) → SourceAt w s (length source) → Sees w source image
-    → pixels (frame_of w) (part (s.source + w.stride) s.size source) ≡ image (s.row + 1)
+pub next_seen : {count : ℕ} (w : Work) {s : Step} (source : List ℕ) (image : Image) → SourceAt count w s (length source) → Sees w source image
+    → pixels_of count (part (s.source + w.stride) s.size source) ≡ image (s.row + 1)
 next_seen w {s} source image p sees =
     let next : s.row - w.done + 1 ≡ s.row + 1 - w.done = omega (arith, p.least) in
     let place : s.source + w.stride ≡ row_start (frame_of w) w.stride (s.row + 1 - w.done) = omega (
@@ -67,7 +74,7 @@ next_seen w {s} source image p sees =
       next_row (s.row - w.done) w.stride,
       ap (λ (i : ℕ). i * w.stride) next,
     ) in
-    own_row (band_of w) source (s.row + 1) (s.source + w.stride) s.size place p.size ∙ sees (s.row + 1) (omega (arith, p.least))
+    rw p.pixel (own_row (band_of w) source (s.row + 1) (s.source + w.stride) s.size place p.size ∙ sees (s.row + 1) (omega (arith, p.least)))
 
 -- the image that the band sees has its own rows
 pub Sees-own : (w : Work) (source carried : List ℕ) → Sees w source (band_image (band_of w) source carried)

@@ -5,18 +5,17 @@ use Rattle.yuv_support.specs.declared.YuvChromaSubsampling.{YuvChromaSubsampling
 use Rattle.yuv_support.specs.declared.YuvChromaSubsampling.TheVariants.{Yuv420, Yuv422}
 use Rattle.definitions.specs.declared.FrameDescription.{FrameDescription}
 use Rattle.definitions.specs.declared.Band.{Band}
-use Rattle.definitions.specs.Image.{Image, luma_at, cb_at, cr_at, row_size, row_start, chroma_size}
+use Rattle.definitions.specs.Image.{Image, luma_at, cb_at, cr_at, pixel_size, row_size, row_start, chroma_size}
 use Rattle.definitions.specs.Plane.{PlaneIs}
 use Rattle.definitions.specs.Bands.{own_rows}
-use Rattle.pixel_pairs.specs.Tables.{Prepared}
 use Rattle.band_steps.specs.declared.Work.{Work}
 use Rattle.band_steps.specs.declared.Step.{Step}
 
 abbrev pub band_of : Work → Band
-band_of w = record { frame = w.rows.frame; done = w.done; rows = w.count; stride = w.stride }
+band_of w = record { frame = w.tables.rows.frame; done = w.done; rows = w.count; stride = w.stride }
 
 abbrev pub frame_of : Work → FrameDescription
-frame_of w = w.rows.frame
+frame_of w = w.tables.rows.frame
 
 -- a row's chroma row
 abbrev pub chroma_row : YuvChromaSubsampling → (row : ℕ) → ℕ
@@ -38,8 +37,9 @@ step_of w row = let d = frame_of w in record {
   chroma = chroma_size d;
 }
 
--- row `row` of the band, in a source of so many bytes
-pub record SourceAt (w : Work) (s : Step) (length : ℕ) : Type 0 where
+-- row `row` of the band, `count` bytes a pixel, in a source of so many bytes
+pub record SourceAt (count : ℕ) (w : Work) (s : Step) (length : ℕ) : Type 0 where
+  pub pixel : count ≡ pixel_size (frame_of w)
   pub least : w.done ≤ s.row
   pub most : s.row < w.done + w.count
   pub place : s.source ≡ row_start (frame_of w) w.stride (s.row - w.done)
@@ -69,10 +69,9 @@ pub record PairAt (w : Work) (s : Step) (source y : ℕ) : Type 0 where
   pub y_room : s.y + (frame_of w).y_stride + s.width ≤ y
 
 -- what a step of a sampling needs for its chroma
-pub record ForStep (m : YuvChromaSubsampling) (w : Work) (s : Step) (sums gamma : List ℕ) (source u v : ℕ) : Type 0 where
-  pub prepared : Prepared w.rows sums gamma
+pub record ForStep (m : YuvChromaSubsampling) (count : ℕ) (w : Work) (s : Step) (source u v : ℕ) : Type 0 where
   pub sampling : (frame_of w).settings.sampling ≡ m
-  pub in_source : SourceAt w s source
+  pub in_source : SourceAt count w s source
   pub in_chroma : ChromaAt w s u v
 
 -- an image that has the band's own rows

@@ -6,13 +6,13 @@ ghost use Rattle.yuv_support.specs.Matrix.{accepted};
 ghost use Rattle.built_coefficients.specs.Built.{built_transform, forward_transform};
 ghost use Rattle.built_coefficients.specs.Table.{stored_set, stored_pair};
 
-use forward_transform::CbCrForwardTransformI32;
+use forward_transform::CbCrForwardTransform;
 use yuv_support::{YuvRange, YuvStandardMatrix};
 
 // The sets of a matrix stand side by side, Limited before Full.
-const BUILT: [CbCrForwardTransformI32; 10] = [
+const BUILT: [CbCrForwardTransform<i32>; 10] = [
     // FORWARD_BT601_LIMITED_8_13PREC
-    CbCrForwardTransformI32 {
+    CbCrForwardTransform {
         yr: 2104,
         yg: 4130,
         yb: 802,
@@ -24,7 +24,7 @@ const BUILT: [CbCrForwardTransformI32; 10] = [
         cr_b: -585,
     },
     // FORWARD_BT601_FULL_8_13PREC
-    CbCrForwardTransformI32 {
+    CbCrForwardTransform {
         yr: 2449,
         yg: 4809,
         yb: 934,
@@ -36,7 +36,7 @@ const BUILT: [CbCrForwardTransformI32; 10] = [
         cr_b: -666,
     },
     // FORWARD_BT709_LIMITED_8_13PREC
-    CbCrForwardTransformI32 {
+    CbCrForwardTransform {
         yr: 1496,
         yg: 5032,
         yb: 508,
@@ -48,7 +48,7 @@ const BUILT: [CbCrForwardTransformI32; 10] = [
         cr_b: -330,
     },
     // FORWARD_BT709_FULL_8_13PREC
-    CbCrForwardTransformI32 {
+    CbCrForwardTransform {
         yr: 1742,
         yg: 5859,
         yb: 591,
@@ -60,7 +60,7 @@ const BUILT: [CbCrForwardTransformI32; 10] = [
         cr_b: -376,
     },
     // FORWARD_BT2020_LIMITED_8_13PREC
-    CbCrForwardTransformI32 {
+    CbCrForwardTransform {
         yr: 1848,
         yg: 4770,
         yb: 417,
@@ -72,7 +72,7 @@ const BUILT: [CbCrForwardTransformI32; 10] = [
         cr_b: -289,
     },
     // FORWARD_BT2020_FULL_8_13PREC
-    CbCrForwardTransformI32 {
+    CbCrForwardTransform {
         yr: 2152,
         yg: 5554,
         yb: 486,
@@ -84,7 +84,7 @@ const BUILT: [CbCrForwardTransformI32; 10] = [
         cr_b: -329,
     },
     // FORWARD_SMPTE240_LIMITED_8_13PREC
-    CbCrForwardTransformI32 {
+    CbCrForwardTransform {
         yr: 612,
         yg: 4932,
         yb: 1492,
@@ -96,7 +96,7 @@ const BUILT: [CbCrForwardTransformI32; 10] = [
         cr_b: -835,
     },
     // FORWARD_SMPTE240_FULL_8_13PREC
-    CbCrForwardTransformI32 {
+    CbCrForwardTransform {
         yr: 713,
         yg: 5743,
         yb: 1737,
@@ -108,7 +108,7 @@ const BUILT: [CbCrForwardTransformI32; 10] = [
         cr_b: -951,
     },
     // FORWARD_BT470_LIMITED_8_13PREC
-    CbCrForwardTransformI32 {
+    CbCrForwardTransform {
         yr: 1562,
         yg: 4972,
         yb: 502,
@@ -120,7 +120,7 @@ const BUILT: [CbCrForwardTransformI32; 10] = [
         cr_b: -330,
     },
     // FORWARD_BT470_FULL_8_13PREC
-    CbCrForwardTransformI32 {
+    CbCrForwardTransform {
         yr: 1819,
         yg: 5789,
         yb: 584,
@@ -133,15 +133,8 @@ const BUILT: [CbCrForwardTransformI32; 10] = [
     },
 ];
 
-// What a search for a stored set finds.
-#[derive(Clone, Copy)]
-pub enum BuiltTransform {
-    Stored(CbCrForwardTransformI32),
-    Nothing,
-}
-
 // The one place that names the table: a constant is made anew wherever it is named.
-fn stored_set(index: usize) -> CbCrForwardTransformI32
+fn stored_set(index: usize) -> CbCrForwardTransform<i32>
     requires { index < 10 }
     ensures { result ≡ stored_set index }
 {
@@ -149,7 +142,7 @@ fn stored_set(index: usize) -> CbCrForwardTransformI32
 }
 
 // The set for the range, of the two that begin at `first`.
-fn stored_pair(first: usize, range: YuvRange) -> CbCrForwardTransformI32
+fn stored_pair(first: usize, range: YuvRange) -> CbCrForwardTransform<i32>
     requires { first < 9 }
     ensures { result ≡ stored_pair first range }
 {
@@ -160,33 +153,33 @@ fn stored_pair(first: usize, range: YuvRange) -> CbCrForwardTransformI32
 }
 
 // The stored set of a matrix in a range, if it has one.
-pub fn get_built_forward_transform(range: YuvRange, matrix: YuvStandardMatrix) -> BuiltTransform
+pub fn get_built_forward_transform(
+    range: YuvRange,
+    matrix: YuvStandardMatrix,
+) -> Option<CbCrForwardTransform<i32>>
     ensures { result ≡ built_transform range matrix }
 {
     match matrix {
-        YuvStandardMatrix::Bt601 => BuiltTransform::Stored(stored_pair(0, range)),
-        YuvStandardMatrix::Bt709 => BuiltTransform::Stored(stored_pair(2, range)),
-        YuvStandardMatrix::Bt2020 => BuiltTransform::Stored(stored_pair(4, range)),
-        YuvStandardMatrix::Smpte240 => BuiltTransform::Stored(stored_pair(6, range)),
-        YuvStandardMatrix::Bt470_6 => BuiltTransform::Stored(stored_pair(8, range)),
-        YuvStandardMatrix::Fcc => BuiltTransform::Nothing,
-        YuvStandardMatrix::Custom(_, _) => BuiltTransform::Nothing,
+        YuvStandardMatrix::Bt601 => Some(stored_pair(0, range)),
+        YuvStandardMatrix::Bt709 => Some(stored_pair(2, range)),
+        YuvStandardMatrix::Bt2020 => Some(stored_pair(4, range)),
+        YuvStandardMatrix::Smpte240 => Some(stored_pair(6, range)),
+        YuvStandardMatrix::Bt470_6 => Some(stored_pair(8, range)),
+        YuvStandardMatrix::Fcc | YuvStandardMatrix::Custom(_, _) => None,
     }
 }
 
 // The weights of an accepted matrix: stored, or else computed.
+#[tactic(auto, unfolding(crate::specs::Built::forward_transform))]
 pub fn search_forward_transform(
     range: YuvRange,
     matrix: YuvStandardMatrix,
-) -> CbCrForwardTransformI32
+) -> CbCrForwardTransform<i32>
     requires { T (accepted matrix) }
     ensures { result ≡ forward_transform range matrix }
 {
-    let built = get_built_forward_transform(range, matrix);
-    match built {
-        BuiltTransform::Stored(transform) => transform,
-        BuiltTransform::Nothing => {
-            forward_transform::computed_transform(range, matrix.get_kr_kb())
-        }
+    match get_built_forward_transform(range, matrix) {
+        Some(transform) => transform,
+        None => forward_transform::computed_transform(range, matrix.get_kr_kb()),
     }
 }

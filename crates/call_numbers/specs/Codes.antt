@@ -2,7 +2,7 @@
 -- The rounding and the window may be left out: then it is Truncated, and the window is the whole source. Where another number is missing or a code has no
 -- meaning, 0 or the first one stands here: refusal 1 is first, so no answer turns on it.
 -- Assumes nothing.
-use Rattle.std.specs.Prelude.{ℕ, ◌+◌, Bool, true, cond, ◌||◌, List, [], ◌∷◌, ltb, leb, eqb, Float, length, get_or, drop}
+use Rattle.std.specs.Prelude.{ℕ, ◌+◌, Bool, true, cond, ◌||◌, List, [], ◌∷◌, ltb, leb, eqb, Float, length, get_or, drop, Result, Ok, Err}
 use Rattle.std.specs.Float.{nan}
 use Rattle.yuv_support.specs.declared.YuvSourceChannels.TheVariants.{Rgb}
 use Rattle.yuv_support.specs.declared.YuvChromaSubsampling.TheVariants.{Yuv420}
@@ -15,6 +15,8 @@ use Rattle.definitions.specs.declared.YuvSettings.{YuvSettings}
 use Rattle.definitions.specs.declared.Window.{Window}
 use Rattle.definitions.specs.declared.FrameDescription.{FrameDescription}
 use Rattle.definitions.specs.Image.{whole_source}
+use Rattle.yuv_error.specs.declared.YuvError.{YuvError}
+use Rattle.yuv_error.specs.declared.YuvError.TheVariants.{MalformedRequest}
 use Rattle.yuv_error.specs.Rules.{Rule, rule}
 use Rattle.setting_codes.specs.Codes.{channels_codes, sampling_codes, range_codes, matrix_codes, transfer_codes, rounding_codes, custom_code}
 
@@ -72,6 +74,10 @@ is_counted before count = eqb count (before + 10) || eqb count (before + 11) || 
 -- RULES 10.2: another count of numbers, or a code without a meaning
 unfoldable pub is_malformed : (before : ℕ) → List ℕ → Bool
 is_malformed before numbers = cond (is_counted before (length numbers)) (is_unknown (drop before numbers)) true
+
+-- RULES 10.1, 10.2: the frame that a call's numbers describe, or refusal 1
+abbrev pub described : (before : ℕ) → (numbers : List ℕ) → (custom : List Float) → Result FrameDescription YuvError
+described before numbers custom = cond (is_malformed before numbers) (Err MalformedRequest) (Ok (description_of (drop before numbers) custom))
 
 -- RULES 10.2: refusal 1, first of all
 abbrev pub number_rules : (before : ℕ) → List ℕ → List Rule

@@ -2,12 +2,12 @@
 // answer as its number, expected and received.
 #![tactic(auto)]
 
-ghost use Rattle.std.specs.Prelude.{◌≡◌, false, ◌+◌, ◌≤◌, length, get_or, drop, set};
+ghost use Rattle.std.specs.Prelude.{◌≡◌, false, ◌+◌, ◌≤◌, length, get_or, drop, set, OnOk};
 ghost use Rattle.yuv_error.specs.Numbers.{numbers_of};
-ghost use Rattle.call_numbers.specs.Codes.{matrix_of, settings_of, window_of, description_of, is_unknown, is_malformed, is_malformed_range_and_matrix};
+ghost use Rattle.call_numbers.specs.Codes.{matrix_of, settings_of, window_of, description_of, is_unknown, is_malformed, is_malformed_range_and_matrix, described};
 
 use definitions::{FrameDescription, Window, YuvSettings};
-use yuv_error::YuvAnswer;
+use yuv_error::YuvError;
 use yuv_support::YuvStandardMatrix;
 
 // The numbers of a description: width, height, channels, sampling, range, matrix, transfer, y_stride, u_stride, v_stride.
@@ -28,7 +28,7 @@ const CUSTOM: u32 = 6;
 pub fn number_at(numbers: &[u32], i: usize) -> u32
     ensures { result ≡ get_or numbers.now i 0 }
 {
-    if numbers.len() <= i { 0 } else { numbers[i] }
+    numbers.get(i).copied().unwrap_or(0)
 }
 
 // Whether one of a description's codes has no meaning.
@@ -36,24 +36,24 @@ fn has_unknown(numbers: &[u32]) -> bool
     requires { 10 ≤ length numbers.now }
     ensures { result ≡ is_unknown numbers.now }
 {
-    let rounding = number_at(numbers, DESCRIPTION);
-    (numbers[2] >= 4)
-        | (numbers[3] >= 2)
-        | (numbers[4] >= 2)
-        | (numbers[5] > CUSTOM)
-        | (numbers[6] >= 4)
-        | (rounding >= 2)
+    numbers[2] >= 4
+        || numbers[3] >= 2
+        || numbers[4] >= 2
+        || numbers[5] > CUSTOM
+        || numbers[6] >= 4
+        || number_at(numbers, DESCRIPTION) >= 2
 }
 
 // Whether there are not so many numbers and a description, or one of its codes has no meaning.
+#[tactic(auto, unfolding(crate::specs::Codes::is_malformed))]
 pub fn is_malformed(before: usize, numbers: &[u32]) -> bool
     requires { before ≤ 3 }
     ensures { result ≡ is_malformed before numbers.now }
 {
     let count = numbers.len();
-    if (count == before + DESCRIPTION)
-        | (count == before + WITH_ROUNDING)
-        | (count == before + WITH_WINDOW)
+    if count == before + DESCRIPTION
+        || count == before + WITH_ROUNDING
+        || count == before + WITH_WINDOW
     {
         return has_unknown(&numbers[before..]);
     }
@@ -61,13 +61,11 @@ pub fn is_malformed(before: usize, numbers: &[u32]) -> bool
 }
 
 // Whether there are not two numbers, or a range or matrix has no meaning.
+#[tactic(auto, unfolding(crate::specs::Codes::is_malformed_range_and_matrix))]
 pub fn is_malformed_range_and_matrix(numbers: &[u32]) -> bool
     ensures { result ≡ is_malformed_range_and_matrix numbers.now }
 {
-    if numbers.len() == RANGE_AND_MATRIX {
-        return (numbers[0] >= 2) | (numbers[1] > CUSTOM);
-    }
-    true
+    numbers.len() != RANGE_AND_MATRIX || numbers[0] >= 2 || numbers[1] > CUSTOM
 }
 
 pub fn matrix_of(code: u32, custom: &[f32; 2]) -> YuvStandardMatrix
@@ -94,6 +92,7 @@ fn settings_of(numbers: &[u32], custom: &[f32; 2]) -> YuvSettings
     }
 }
 
+#[tactic(auto, unfolding(crate::specs::Codes::window_of))]
 fn window_of(numbers: &[u32]) -> Window
     requires { 10 ≤ length numbers.now }
     ensures { result ≡ window_of numbers.now }
@@ -119,13 +118,11 @@ pub fn describe(numbers: &[u32], custom: &[f32; 2]) -> FrameDescription
     requires { 10 ≤ length numbers.now }
     ensures { result ≡ description_of numbers.now custom.now }
 {
-    let window = window_of(numbers);
-    let settings = settings_of(numbers, custom);
     FrameDescription {
         width: numbers[0],
         height: numbers[1],
-        window,
-        settings,
+        window: window_of(numbers),
+        settings: settings_of(numbers, custom),
         y_stride: numbers[7],
         u_stride: numbers[8],
         v_stride: numbers[9],
@@ -140,23 +137,39 @@ pub fn describe_after(before: usize, numbers: &[u32], custom: &[f32; 2]) -> Fram
     describe(&numbers[before..], custom)
 }
 
+// The frame that a call's numbers describe, or refusal 1 where they are malformed.
+#[tactic(auto, using(crate::proofs::Numbers::counted))]
+pub fn described(
+    before: usize,
+    numbers: &[u32],
+    custom: &[f32; 2],
+) -> Result<FrameDescription, YuvError>
+    requires { before ≤ 3 }
+    ensures value { result ≡ described before numbers.now custom.now }
+    ensures long { OnOk result (before + 10 ≤ length numbers.now) }
+{
+    if is_malformed(before, numbers) {
+        return Err(YuvError::MalformedRequest);
+    }
+    Ok(describe_after(before, numbers, custom))
+}
+
 // Tells an answer: its number, and its expected and received.
-pub fn tell_answer(answer: YuvAnswer, told: &mut [usize]) -> u32
+pub fn tell_answer(answer: Result<(), YuvError>, told: &mut [usize]) -> u32
     requires { 2 ≤ length told.old }
     ensures { (result ≡ (numbers_of answer).number)
         × (told.new ≡ set (set told.old 0 (numbers_of answer).expected) 1 (numbers_of answer).received) }
 {
     let numbered = error_numbers::answer_numbers(answer);
-    let size = numbered.size;
-    told[0] = size.expected;
-    told[1] = size.received;
+    told[0] = numbered.size.expected;
+    told[1] = numbered.size.received;
     numbered.number
 }
 
 // What an opening or a band call has to tell: its answer, and the rows done.
-#[derive(Clone, Copy)]
+#[derive(Clone, Copy, Debug, PartialEq, Eq)]
 pub struct Told {
-    pub answer: YuvAnswer,
+    pub answer: Result<(), YuvError>,
     pub done: u32,
 }
 
@@ -166,8 +179,7 @@ pub fn tell(t: Told, told: &mut [usize]) -> u32
     ensures { (result ≡ (numbers_of t.answer).number)
         × (told.new ≡ set (set (set told.old 0 (numbers_of t.answer).expected) 1 (numbers_of t.answer).received) 2 t.done) }
 {
-    let answer = t.answer;
-    let number = tell_answer(answer, told);
+    let number = tell_answer(t.answer, told);
     told[2] = t.done as usize;
     number
 }

@@ -1,7 +1,7 @@
 -- The counts of all lumas add to the number of colours, since the luma of each colour is a byte; and every colour has one number.
 -- The idea: a colour more adds one to the count of its luma, and to no other.
 -- Assumes nothing.
-use Prim.Native.Nat.{ℕ, zero, suc, ◌+◌, ◌*◌, ◌/◌, ◌%◌, ◌≤◌, ◌<◌}
+use Prim.Native.Nat.{ℕ, zero, suc, ◌+◌, ◌<◌}
 use mathlib.Core.Path.{◌≡◌, refl, sym, ap, ◌∙◌}
 use native.Mathlib.Omega.{arith}
 use lib.Dec.{T}

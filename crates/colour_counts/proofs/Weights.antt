@@ -1,5 +1,6 @@
 -- The sizes of an accepted matrix's luma weights give each colour its luma: none is negative, and no hold moves a sum.
 -- Assumes nothing.
+use Rattle.std.proofs.Common.{ℤ}
 use Prim.Native.Nat.{ℕ, ◌+◌, ◌*◌, ◌/◌, ◌%◌, ◌≤◌, ◌<◌}
 use mathlib.Core.Path.{◌≡◌, sym, ap, ◌∙◌}
 use native.Mathlib.Nat.{div-div-eq-div-mul}
@@ -10,7 +11,7 @@ use Rattle.yuv_support.specs.declared.YuvRange.{YuvRange}
 use Rattle.yuv_support.specs.declared.YuvRange.TheVariants.{Limited, Full}
 use Rattle.yuv_support.specs.declared.YuvStandardMatrix.{YuvStandardMatrix}
 use Rattle.yuv_support.specs.Matrix.{accepted}
-use Rattle.forward_transform.specs.declared.CbCrForwardTransformI32.{CbCrForwardTransformI32}
+use Rattle.forward_transform.specs.declared.CbCrForwardTransform.{CbCrForwardTransform}
 use Rattle.forward_transform.specs.Shape.{Shape, luma_most}
 use Rattle.forward_transform.proofs.Sums.{luma_bias}
 use Rattle.built_coefficients.specs.Built.{forward_transform}
@@ -18,7 +19,7 @@ use Rattle.built_coefficients.proofs.Shapes.{forward_Shape}
 use Rattle.definitions.proofs.Pixel.{luma_is}
 use Rattle.colour_counts.specs.declared.LumaWeights.{LumaWeights}
 use Rattle.colour_counts.specs.Counts.{settings_of}
-use Rattle.colour_counts.specs.Known.{ByteLuma, Weighs}
+use Rattle.colour_counts.specs.Known.{Weighs}
 
 -- the bytes of a colour's number
 pub bytes : (c : ℕ) → c < 16777216 → (c / 65536 < 256) × (c / 256 % 256 < 256) × (c % 256 < 256)
@@ -34,7 +35,7 @@ light Limited n h = omega arith
 light Full n h = omega arith
 
 module _ (range : YuvRange) (matrix : YuvStandardMatrix) (a : T (accepted matrix)) where
-  abbrev t : CbCrForwardTransformI32
+  abbrev t : CbCrForwardTransform ℤ
   t = forward_transform range matrix
 
   shape : Shape range t

@@ -2,7 +2,7 @@
 -- The idea: by their numbers the colours of a luma stand in two runs, and a run is counted at once.
 -- Assumes nothing.
 use Prim.Native.Nat.{ℕ, zero, suc, ◌+◌, ◌*◌, ◌-◌, ◌/◌, ◌%◌, ◌≤◌, ◌<◌}
-use mathlib.Core.Path.{◌≡◌, refl, sym, ap, subst, ◌∙◌}
+use mathlib.Core.Path.{◌≡◌, refl, sym, ap, ◌∙◌}
 use native.Mathlib.Omega.{arith}
 use Rattle.yuv_support.specs.declared.YuvRange.TheVariants.{Full}
 use Rattle.yuv_support.specs.declared.YuvStandardMatrix.TheVariants.{Bt601}

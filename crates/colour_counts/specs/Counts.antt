@@ -1,6 +1,6 @@
 -- How many of the 16,777,216 colours have each luma: docs/RULES.md, 5.3.
 -- Assumes nothing.
-use Rattle.std.specs.Prelude.{ℕ, zero, suc, ◌+◌, ◌*◌, ◌/◌, ◌%◌, ◌<◌, ◌≡◌, cond, List, T, eqb}
+use Rattle.std.specs.Prelude.{ℕ, zero, suc, ◌+◌, ◌*◌, ◌/◌, ◌%◌, ◌<◌, ◌≡◌, cond, List, T, eqb, Result}
 use Rattle.yuv_support.specs.declared.YuvSourceChannels.TheVariants.{Rgb}
 use Rattle.yuv_support.specs.declared.YuvChromaSubsampling.TheVariants.{Yuv420}
 use Rattle.yuv_support.specs.declared.YuvRange.{YuvRange}
@@ -11,7 +11,7 @@ use Rattle.sharp_gamma.specs.declared.TableRounding.TheVariants.{Truncated}
 use Rattle.definitions.specs.declared.YuvSettings.{YuvSettings}
 use Rattle.definitions.specs.Painted.{Painted}
 use Rattle.definitions.specs.Pixel.{luma_of}
-use Rattle.yuv_error.specs.declared.YuvAnswer.{YuvAnswer}
+use Rattle.yuv_error.specs.declared.YuvError.{YuvError}
 use Rattle.yuv_error.specs.Numbers.{numbers_of}
 use Rattle.yuv_error.specs.Rules.{first_numbers, matrix_rules}
 use Rattle.yuv_error.specs.Lent.{taken}
@@ -47,7 +47,7 @@ sum_below f zero = 0
 sum_below f (suc n) = sum_below f n + f n
 
 -- RULES 5.3, 7.4: everything of a call: its answer, 4 for a matrix that is not accepted, and each of the 256 numbers lent to it
-pub record CountsPost (range : YuvRange) (matrix : YuvStandardMatrix) (before : List ℕ) (answer : YuvAnswer) (after : List ℕ) : Type 0 where
+pub record CountsPost (range : YuvRange) (matrix : YuvStandardMatrix) (before : List ℕ) (answer : Result Unit YuvError) (after : List ℕ) : Type 0 where
   pub answered : numbers_of answer ≡ first_numbers (matrix_rules matrix)
   pub counts : Painted (taken answer 256) (count_of range matrix) before after
 

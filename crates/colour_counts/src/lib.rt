@@ -1,14 +1,13 @@
 // How many of the 16,777,216 colours have each luma, in a matrix and range.
 #![tactic(auto)]
 
-ghost use Rattle.std.specs.Prelude.{◌≡◌, ◌+◌, ◌*◌, ◌/◌, ◌%◌, ◌≤◌, ◌<◌, T, length};
+ghost use Rattle.std.specs.Prelude.{◌≡◌, ◌+◌, ◌*◌, ◌/◌, ◌%◌, ◌≤◌, ◌<◌, T};
 ghost use Rattle.yuv_support.specs.Matrix.{accepted};
 ghost use Rattle.definitions.specs.Painted.{Painted};
 ghost use Rattle.colour_counts.specs.Counts.{colours, count_below, CountsPost};
 ghost use Rattle.colour_counts.specs.Known.{luma_by, ByteLuma, Weighs};
 
-use pixel_pairs::tables;
-use yuv_error::YuvAnswer;
+use yuv_error::YuvError;
 use yuv_support::{YuvRange, YuvStandardMatrix, get_yuv_range};
 
 // Pairs of a red and a green.
@@ -24,7 +23,7 @@ const ROUNDING: u64 = 4095;
 const HIGH: u64 = 4294967296;
 
 // The weights of luma, none of which is negative, and what it starts from.
-#[derive(Clone, Copy)]
+#[derive(Clone, Copy, Debug, PartialEq, Eq, Hash)]
 struct LumaWeights {
     r: u64,
     g: u64,
@@ -39,89 +38,48 @@ fn luma_weights(range: YuvRange, matrix: YuvStandardMatrix) -> LumaWeights
     let t = built_coefficients::search_forward_transform(range, matrix);
     let levels = get_yuv_range(range);
     LumaWeights {
-        r: tables::magnitude(t.yr),
-        g: tables::magnitude(t.yg),
-        b: tables::magnitude(t.yb),
+        r: t.yr.unsigned_abs() as u64,
+        g: t.yg.unsigned_abs() as u64,
+        b: t.yb.unsigned_abs() as u64,
         start: levels.bias_y as u64 * ONE + ROUNDING,
     }
 }
 
-// A byte times its weight.
-fn product(byte: u32, weight: u64) -> u64
-    requires { (byte < 256) × (weight < 16384) }
-    ensures { (result ≡ byte * weight) × (result ≤ 255 * weight) }
-{
-    byte as u64 * weight
-}
-
 // What the red and the green of a pair add to luma, and what it starts from. A pair's number has the bytes R and G, the higher first.
+#[tactic(auto, using(forward_transform::proofs::Sums::byte_times))]
 fn sum_of(w: LumaWeights, pair: u32) -> u64
     requires byte_luma { ByteLuma w }
     requires pair_bound { pair < 65536 }
     ensures { (result ≡ pair / 256 * w.r + pair % 256 * w.g + w.start) × (result + 255 * w.b < 256 * 8192) }
 {
-    let r = product(pair / 256, w.r);
-    let g = product(pair % 256, w.g);
-    r + g + w.start
-}
-
-fn clear(counts: &mut [u32])
-    requires { 256 ≤ length counts.old }
-    ensures { Painted 256 (λ y. 0) counts.old counts.new }
-{
-    let mut y: usize = 0;
-    while y < 256 {
-        counts[y] = 0;
-        y += 1;
-    }
+    (pair / 256) as u64 * w.r + (pair % 256) as u64 * w.g + w.start
 }
 
 // Counts the 256 colours of a pair, after those of the pairs before it. The sum is carried, so a colour takes one addition and no product. No accepted
 // matrix takes a luma out of the range that the definition holds it in.
-fn count_blues(w: LumaWeights, pair: u32, counts: &mut [u32])
+fn count_blues(w: LumaWeights, pair: u32, counts: &mut [u32; 256])
     requires byte_luma { ByteLuma w }
     requires pair_bound { pair < 65536 }
-    requires in_bounds { 256 ≤ length counts.old }
     requires painted { Painted 256 (count_below (luma_by w) (pair * 256)) counts.old counts.old }
     ensures { Painted 256 (count_below (luma_by w) (pair * 256 + 256)) counts.old counts.new }
 {
     let mut sum = sum_of(w, pair) * HIGH;
-    let mut blue: u32 = 0;
-    while blue < 256 {
+    for _blue in 0..256u32 {
         let y = (sum / HIGH / ONE) as usize;
         counts[y] += 1;
         sum += w.b * HIGH;
-        blue += 1;
     }
 }
 
 // All colours, in the order of their numbers.
-fn count_all(w: LumaWeights, counts: &mut [u32])
-    requires byte_luma { ByteLuma w }
-    requires in_bounds { 256 ≤ length counts.old }
+fn count_all(w: LumaWeights, counts: &mut [u32; 256])
+    requires { ByteLuma w }
     ensures { Painted 256 (count_below (luma_by w) colours) counts.old counts.new }
 {
-    clear(counts);
-    let mut pair: u32 = 0;
-    while pair < PAIRS {
+    counts.fill(0);
+    for pair in 0..PAIRS {
         count_blues(w, pair, counts);
-        pair += 1;
     }
-}
-
-fn counts_into(range: YuvRange, matrix: YuvStandardMatrix, counts: &mut [u32]) -> YuvAnswer
-    requires { 256 ≤ length counts.old }
-    ensures { CountsPost range matrix counts.old result counts.new }
-{
-    let checked = yuv_error::check_matrix(matrix);
-    match checked {
-        YuvAnswer::Refused(_) => {
-            return checked;
-        }
-        YuvAnswer::Finished => {}
-    }
-    count_all(luma_weights(range, matrix), counts);
-    checked
 }
 
 // Puts how many colours have each luma into `counts`, or refuses a matrix that is not accepted (4) and writes nothing.
@@ -129,8 +87,10 @@ pub fn colour_counts(
     range: YuvRange,
     matrix: YuvStandardMatrix,
     counts: &mut [u32; 256],
-) -> YuvAnswer
+) -> Result<(), YuvError>
     ensures { CountsPost range matrix counts.old result counts.new }
 {
-    counts_into(range, matrix, counts)
+    yuv_error::check_matrix(matrix)?;
+    count_all(luma_weights(range, matrix), counts);
+    Ok(())
 }

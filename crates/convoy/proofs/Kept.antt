@@ -1,22 +1,22 @@
 -- What a run leaves in one plane: no byte changes but those of finished frames' parts. One law for Y, U and V.
 -- Assumes nothing.
-use Prim.Native.Nat.{ℕ, zero, suc, ◌<◌}
-use mathlib.Core.Path.{◌≡◌, refl, sym, ap, ◌∙◌}
-use mathlib.Core.List.{List, [], ◌∷◌}
+use Prim.Native.Nat.{ℕ, suc, ◌<◌}
+use mathlib.Core.Path.{◌≡◌, refl, ap, ◌∙◌}
+use mathlib.Core.List.{List}
 use mathlib.Core.Logic.{inl, inr}
 use native.Mathlib.Omega.{arith}
 use lib.ListN.{length, get_or}
-use Rattle.yuv_error.specs.declared.YuvAnswer.{YuvAnswer}
-use Rattle.yuv_error.specs.declared.YuvAnswer.TheVariants.{Finished}
+use Rattle.std.specs.Prelude.{Result, Ok}
+use Rattle.yuv_error.specs.declared.YuvError.{YuvError}
 use Rattle.buffer_parts.specs.declared.BufferPart.{BufferPart}
 use Rattle.buffer_parts.specs.Parts.{InPart, Inside, Overlap, part_of, with_part, Elsewhere}
 use Rattle.buffer_parts.proofs.Parts.{with_part_lem, with_Elsewhere, part_kept}
 use Rattle.convoy_parts.specs.declared.ConvoyFrame.{ConvoyFrame}
-use Rattle.convoy_parts.specs.Parts.{FramesOverlap}
-use Rattle.convoy.specs.Run.{Planes, parts_of, with_parts, CallPost, Run, ended, stopped, went_on}
+use Rattle.convoy_parts.specs.Parts.{FramesOverlap, frame_at}
+use Rattle.convoy.specs.Run.{Planes, with_parts, CallPost, Run, ended, stopped, went_on}
 use Rattle.convoy.specs.Called.{FrameInside}
-use Rattle.convoy.proofs.Calls.{SameSizes, Fits, planes_equal, sizes_same, sizes_then, call_fits, placed_sizes}
-use Rattle.convoy.proofs.Lists.{nth, sizes_of, AllIn, Clear, all_sizes}
+use Rattle.convoy.proofs.Calls.{SameSizes, Fits, sizes_same, sizes_then, call_fits, placed_sizes}
+use Rattle.convoy.proofs.Lists.{sizes_of, AllIn, Clear, all_sizes}
 
 -- one of the three planes: its bytes, and a frame's part of it
 pub record Plane : Type 0 where
@@ -58,47 +58,47 @@ cr_plane = record {
 }
 
 module _ (source : List ℕ) where
-  pub Run-sizes : (fs : List ConvoyFrame) (p : Planes) (a : YuvAnswer) (n : ℕ) (q : Planes) → AllIn (sizes_of source p) fs → Run source fs p a n q
+  pub Run-sizes : (fs : List ConvoyFrame) (p : Planes) (a : Result Unit YuvError) (n : ℕ) (q : Planes) → AllIn (sizes_of source p) fs → Run source fs p a n q
       → SameSizes p q
   Run-sizes fs p a n q all ended = sizes_same refl
   Run-sizes fs p a n q all (stopped left post) = sizes_same refl
   Run-sizes fs p a n q all (went_on {f = f} {fs = gs} {n = m} left post run) =
-      let s = placed_sizes f source p all.0 Finished left post in
+      let s = placed_sizes f source p all.0 (Ok tt) left post in
       sizes_then s (Run-sizes gs (with_parts f p left) a m q (all_sizes source p (with_parts f p left) gs s all.1) run)
 
 module _ (s : Plane) (source : List ℕ) where
   -- a call changes no byte outside its frame's part
-  pub call_Elsewhere : (f : ConvoyFrame) (p left : Planes) → FrameInside f (sizes_of source p) → CallPost f source p Finished left
+  pub call_Elsewhere : (f : ConvoyFrame) (p left : Planes) → FrameInside f (sizes_of source p) → CallPost f source p (Ok tt) left
       → Elsewhere (s.part f) (s.bytes p) (s.bytes (with_parts f p left))
   call_Elsewhere f p left i post =
       rw (s.placed f p left) (with_Elsewhere (s.part f) (s.bytes p) (s.bytes left) (s.inside source p f i) (s.fits f p left
-      (call_fits f source p i Finished left post)))
+      (call_fits f source p i (Ok tt) left post)))
 
   -- what it left stands in the part
-  pub call_part : (f : ConvoyFrame) (p left : Planes) → FrameInside f (sizes_of source p) → CallPost f source p Finished left
+  pub call_part : (f : ConvoyFrame) (p left : Planes) → FrameInside f (sizes_of source p) → CallPost f source p (Ok tt) left
       → part_of (s.part f) (s.bytes (with_parts f p left)) ≡ s.bytes left
   call_part f p left i post =
       ap (part_of (s.part f)) (s.placed f p left)
-      ∙ with_part_lem (s.part f) (s.bytes p) (s.bytes left) (s.inside source p f i) (s.fits f p left (call_fits f source p i Finished left post))
+      ∙ with_part_lem (s.part f) (s.bytes p) (s.bytes left) (s.inside source p f i) (s.fits f p left (call_fits f source p i (Ok tt) left post))
 
   -- a byte of no finished frame's part is as before
-  pub byte_kept : (fs : List ConvoyFrame) (p : Planes) (a : YuvAnswer) (n : ℕ) (q : Planes) → AllIn (sizes_of source p) fs → Run source fs p a n q
-      → (i : ℕ) → ((j : ℕ) → j < n → InPart (s.part (nth fs j)) i → ⊥) → get_or (s.bytes q) i 0 ≡ get_or (s.bytes p) i 0
+  pub byte_kept : (fs : List ConvoyFrame) (p : Planes) (a : Result Unit YuvError) (n : ℕ) (q : Planes) → AllIn (sizes_of source p) fs → Run source fs p a n q
+      → (i : ℕ) → ((j : ℕ) → j < n → InPart (s.part (frame_at fs j)) i → ⊥) → get_or (s.bytes q) i 0 ≡ get_or (s.bytes p) i 0
   byte_kept fs p a n q all ended i out = refl
   byte_kept fs p a n q all (stopped left post) i out = refl
   byte_kept fs p a n q all (went_on {f = f} {fs = gs} {n = m} left post run) i out =
       let t = with_parts f p left in
-      byte_kept gs t a m q (all_sizes source p t gs (placed_sizes f source p all.0 Finished left post) all.1) run i
+      byte_kept gs t a m q (all_sizes source p t gs (placed_sizes f source p all.0 (Ok tt) left post) all.1) run i
       (λ j l. out (suc j) (omega arith))
       ∙ (call_Elsewhere f p left all.0 post).byte i (out 0 (omega arith))
 
   -- the part of a frame that overlaps none of them is as before
-  pub part_unwritten : (g : ConvoyFrame) (fs : List ConvoyFrame) (p : Planes) (a : YuvAnswer) (n : ℕ) (q : Planes) → AllIn (sizes_of source p) fs
+  pub part_unwritten : (g : ConvoyFrame) (fs : List ConvoyFrame) (p : Planes) (a : Result Unit YuvError) (n : ℕ) (q : Planes) → AllIn (sizes_of source p) fs
       → Clear g fs → Run source fs p a n q → part_of (s.part g) (s.bytes q) ≡ part_of (s.part g) (s.bytes p)
   part_unwritten g fs p a n q all clear ended = refl
   part_unwritten g fs p a n q all clear (stopped left post) = refl
   part_unwritten g fs p a n q all clear (went_on {f = f} {fs = gs} {n = m} left post run) =
       let t = with_parts f p left in
-      part_unwritten g gs t a m q (all_sizes source p t gs (placed_sizes f source p all.0 Finished left post) all.1) clear.1 run
+      part_unwritten g gs t a m q (all_sizes source p t gs (placed_sizes f source p all.0 (Ok tt) left post) all.1) clear.1 run
       ∙ part_kept (s.part f) (s.part g) (s.bytes p) (s.bytes t) (call_Elsewhere f p left all.0 post)
       (λ o. s.clear g f clear.0 (o.0, (o.1.1, o.1.0)))

@@ -1,38 +1,36 @@
 -- A run that is under way: k frames are finished, and what the frames from k on come to is what all of them come to.
 -- Assumes nothing.
-use Prim.Native.Nat.{ℕ, suc, ◌+◌, ◌-◌, ◌≤◌, ◌<◌}
-use mathlib.Core.Path.{◌≡◌, refl, sym, ap, subst, ◌∙◌}
+use Prim.Native.Nat.{ℕ, suc, ◌+◌, ◌≤◌, ◌<◌}
+use mathlib.Core.Path.{◌≡◌, refl, sym, subst}
 use mathlib.Core.List.{List, ◌∷◌}
 use native.Mathlib.Omega.{arith}
+use lib.ListN.{length, drop, drop_of_length-le}
+use Rattle.std.proofs.lemmas.List.{drop_more}
 use Rattle.yuv_error.specs.declared.YuvError.{YuvError}
-use Rattle.yuv_error.specs.declared.YuvAnswer.{YuvAnswer}
-use Rattle.yuv_error.specs.declared.YuvAnswer.TheVariants.{Finished, Refused}
+use Rattle.std.specs.Prelude.{Result, Ok, Err}
 use Rattle.yuv_error.specs.Lent.{lengths_of}
 use Rattle.convoy_parts.specs.declared.ConvoyFrame.{ConvoyFrame}
-use Rattle.convoy_parts.specs.declared.Convoy.{Convoy}
-use Rattle.convoy_parts.specs.Parts.{frame_at, frames_from, frames_of}
-use Rattle.convoy_parts.proofs.Frames.{frames_next, frames_none, frames_all}
-use Rattle.convoy.specs.Run.{Planes, with_parts, CallPost, Run, ended, stopped, went_on}
+use Rattle.convoy_parts.specs.Parts.{no_frame, frame_at}
+use Rattle.convoy.specs.Run.{Planes, CallPost, Run, ended, stopped, went_on}
 use Rattle.convoy.specs.Called.{FrameInside, AllInside, Called}
 use Rattle.convoy.proofs.Calls.{SameSizes, sizes_same, sizes_then, refused_same, Called-sizes}
 
-pub record Walked (source : List ℕ) (c : Convoy) (k : ℕ) (p₀ p : Planes) : Type 0 where
-  pub most : k ≤ c.count
+pub record Walked (source : List ℕ) (c : List ConvoyFrame) (k : ℕ) (p₀ p : Planes) : Type 0 where
+  pub most : k ≤ length c
   pub sizes : SameSizes p₀ p
-  pub run : (a : YuvAnswer) (n : ℕ) (q : Planes) → Run source (frames_from c k (c.count - k)) p a n q → Run source (frames_of c) p₀ a (k + n) q
+  pub run : (a : Result Unit YuvError) (n : ℕ) (q : Planes) → Run source (drop k c) p a n q → Run source c p₀ a (k + n) q
 
-pub walked_none : (source : List ℕ) (c : Convoy) (p : Planes) → Walked source c 0 p p
+pub walked_none : (source : List ℕ) (c : List ConvoyFrame) (p : Planes) → Walked source c 0 p p
 walked_none source c p = record {
   most = omega arith;
   sizes = sizes_same refl;
   run = λ a n q r.
-      subst (λ (m : ℕ). Run source (frames_of c) p a m q) (let e : n ≡ 0 + n = omega arith in e)
-      (subst (λ (fs : List ConvoyFrame). Run source fs p a n q) (frames_all c c.count) r);
+      subst (λ (m : ℕ). Run source c p a m q) (let e : n ≡ 0 + n = omega arith in e) r;
 }
 
-module _ (source : List ℕ) (c : Convoy) (k : ℕ) (p₀ p : Planes) (w : Walked source c k p₀ p) where
+module _ (source : List ℕ) (c : List ConvoyFrame) (k : ℕ) (p₀ p : Planes) (w : Walked source c k p₀ p) where
   -- the next frame's parts lie inside, since the buffers are as long as they were
-  pub next_inside : k < c.count → AllInside c (lengths_of source p₀.y p₀.u p₀.v)
+  pub next_inside : k < length c → AllInside c (lengths_of source p₀.y p₀.u p₀.v)
       → FrameInside (frame_at c k) (lengths_of source p.y p.u p.v)
   next_inside l all =
       let i = all k l in
@@ -44,32 +42,31 @@ module _ (source : List ℕ) (c : Convoy) (k : ℕ) (p₀ p : Planes) (w : Walke
       }
 
   -- the frames from k on are frame k and the others
-  here : k < c.count → (a : YuvAnswer) (n : ℕ) (q : Planes) → Run source (frame_at c k ∷ frames_from c (k + 1) (c.count - (k + 1))) p a n q
-      → Run source (frames_of c) p₀ a (k + n) q
-  here l a n q r = w.run a n q (subst (λ (fs : List ConvoyFrame). Run source fs p a n q) (sym (frames_next c k c.count l)) r)
+  here : k < length c → (a : Result Unit YuvError) (n : ℕ) (q : Planes) → Run source (frame_at c k ∷ drop (k + 1) c) p a n q
+      → Run source c p₀ a (k + n) q
+  here l a n q r = w.run a n q (subst (λ (fs : List ConvoyFrame). Run source fs p a n q) (sym (drop_more c k no_frame l)) r)
 
-  pub walked_then : (l : k < c.count) → AllInside c (lengths_of source p₀.y p₀.u p₀.v) → (a : YuvAnswer) (q : Planes)
-      → Called (frame_at c k) source p a q → a ≡ Finished → Walked source c (k + 1) p₀ q
+  pub walked_then : (l : k < length c) → AllInside c (lengths_of source p₀.y p₀.u p₀.v) → (a : Result Unit YuvError) (q : Planes)
+      → Called (frame_at c k) source p a q → a ≡ Ok tt → Walked source c (k + 1) p₀ q
   walked_then l all a q called is = record {
     most = omega arith;
     sizes = sizes_then w.sizes (Called-sizes (frame_at c k) source p (next_inside l all) a q called);
     run = λ b n r run.
-        subst (λ (m : ℕ). Run source (frames_of c) p₀ b m r) (let e : k + suc n ≡ k + 1 + n = omega arith in e)
-        (here l b (suc n) r (went_on called.left (subst (λ (x : YuvAnswer). CallPost (frame_at c k) source p x called.left) is called.call)
-        (subst (λ (s : Planes). Run source (frames_from c (k + 1) (c.count - (k + 1))) s b n r) called.placed run)));
+        subst (λ (m : ℕ). Run source c p₀ b m r) (let e : k + suc n ≡ k + 1 + n = omega arith in e)
+        (here l b (suc n) r (went_on called.left (subst (λ (x : Result Unit YuvError). CallPost (frame_at c k) source p x called.left) is called.call)
+        (subst (λ (s : Planes). Run source (drop (k + 1) c) s b n r) called.placed run)));
   }
 
-  pub walked_stop : k < c.count → (a : YuvAnswer) (q : Planes) (e : YuvError) → Called (frame_at c k) source p a q → a ≡ Refused e
-      → Run source (frames_of c) p₀ a k q
+  pub walked_stop : k < length c → (a : Result Unit YuvError) (q : Planes) (e : YuvError) → Called (frame_at c k) source p a q → a ≡ Err e
+      → Run source c p₀ (Err e) k q
   walked_stop l a q e called is =
       let f = frame_at c k in
-      let refused = subst (λ (x : YuvAnswer). Called f source p x q) is called in
-      let r = here l (Refused e) 0 p (stopped refused.left refused.call) in
-      subst (λ (x : YuvAnswer). Run source (frames_of c) p₀ x k q) (sym is)
-      (subst (λ (s : Planes). Run source (frames_of c) p₀ (Refused e) k s) (sym (refused_same f source p e q refused))
-      (subst (λ (m : ℕ). Run source (frames_of c) p₀ (Refused e) m p) (let z : k + 0 ≡ k = omega arith in z) r))
+      let refused = subst (λ (x : Result Unit YuvError). Called f source p x q) is called in
+      let r = here l (Err e) 0 p (stopped refused.left refused.call) in
+      subst (λ (s : Planes). Run source c p₀ (Err e) k s) (sym (refused_same f source p e q refused))
+      (subst (λ (m : ℕ). Run source c p₀ (Err e) m p) (let z : k + 0 ≡ k = omega arith in z) r)
 
-  pub walked_end : c.count ≤ k → Run source (frames_of c) p₀ Finished c.count p
+  pub walked_end : length c ≤ k → Run source c p₀ (Ok tt) (length c) p
   walked_end l =
-      let r = w.run Finished 0 p (subst (λ (fs : List ConvoyFrame). Run source fs p Finished 0 p) (sym (frames_none c k c.count l)) ended) in
-      subst (λ (m : ℕ). Run source (frames_of c) p₀ Finished m p) (let z : k + 0 ≡ c.count = omega (arith, w.most) in z) r
+      let r = w.run (Ok tt) 0 p (subst (λ (fs : List ConvoyFrame). Run source fs p (Ok tt) 0 p) (sym (drop_of_length-le c l)) ended) in
+      subst (λ (m : ℕ). Run source c p₀ (Ok tt) m p) (let z : k + 0 ≡ length c = omega (arith, w.most) in z) r

@@ -1,19 +1,15 @@
 -- Single calls in order, and what a convoy is answered and leaves: docs/RULES.md, 15.3.
 -- Assumes nothing.
-use Rattle.std.specs.Prelude.{ℕ, zero, suc, ◌≡◌, Bool, true, false, List, [], ◌∷◌}
+use Rattle.std.specs.Prelude.{ℕ, suc, ◌≡◌, Bool, true, false, List, [], ◌∷◌, Option, None, Some, Result, Ok, Err}
 use Rattle.yuv_error.specs.declared.YuvError.{YuvError}
 use Rattle.yuv_error.specs.declared.YuvError.TheVariants.{MalformedRequest, PartsMismatch}
-use Rattle.yuv_error.specs.declared.YuvAnswer.{YuvAnswer}
-use Rattle.yuv_error.specs.declared.YuvAnswer.TheVariants.{Finished, Refused}
 use Rattle.yuv_error.specs.Lent.{lengths_of}
 use Rattle.buffer_parts.specs.Parts.{part_of, with_part}
 use Rattle.sharp_rgba_to_yuv.specs.FrameCall.{frame_call, FramePost}
-use Rattle.convoy_parts.specs.declared.Described.{Described}
-use Rattle.convoy_parts.specs.declared.Described.TheVariants.{Malformed, Frame}
 use Rattle.convoy_parts.specs.declared.ConvoyFrame.{ConvoyFrame}
-use Rattle.convoy_parts.specs.declared.Convoy.{Convoy}
 use Rattle.convoy.specs.declared.ConvoyAnswer.{ConvoyAnswer}
-use Rattle.convoy_parts.specs.Parts.{frames_of, broken_parts}
+use Rattle.convoy_parts.specs.Parts.{broken_parts}
+use Rattle.definitions.specs.declared.FrameDescription.{FrameDescription}
 
 -- RULES 15.3: the bytes of three planes
 pub record Planes : Type 0 where
@@ -34,35 +30,35 @@ abbrev pub with_parts : ConvoyFrame → (buffers parts : Planes) → Planes
 with_parts f p q = planes_of (with_part f.y p.y q.y) (with_part f.u p.u q.u) (with_part f.v p.v q.v)
 
 -- RULES 15.3: a single call, by its planes before and after it: the frame call's own promise, or refusal 1 for codes without a meaning
-abbrev pub SinglePost : Described → (stride : ℕ) (source : List ℕ) (before : Planes) (answer : YuvAnswer) (after : Planes) → Type 0
-SinglePost Malformed stride source p a q = (a ≡ Refused MalformedRequest) × (q ≡ p)
-SinglePost (Frame d) stride source p a q = FramePost (frame_call d stride source p.y p.u p.v a q.y q.u q.v)
+abbrev pub SinglePost : Option FrameDescription → (stride : ℕ) (source : List ℕ) (before : Planes) (answer : Result Unit YuvError) (after : Planes) → Type 0
+SinglePost None stride source p a q = (a ≡ Err MalformedRequest) × (q ≡ p)
+SinglePost (Some d) stride source p a q = FramePost (frame_call d stride source p.y p.u p.v a q.y q.u q.v)
 
 -- RULES 15.3: the single call of a convoy's frame, on its parts of the buffers; `left` is what it leaves in them
-abbrev pub CallPost : ConvoyFrame → (source : List ℕ) (buffers : Planes) (answer : YuvAnswer) (left : Planes) → Type 0
+abbrev pub CallPost : ConvoyFrame → (source : List ℕ) (buffers : Planes) (answer : Result Unit YuvError) (left : Planes) → Type 0
 CallPost f source p a left = SinglePost f.described f.stride (part_of f.source source) (parts_of f p) a left
 
 -- RULES 15.3: such calls in order, from the buffers before them to the buffers after, with the answer and how many finished
-pub data Run (source : List ℕ) : List ConvoyFrame → (before : Planes) → (answer : YuvAnswer) (done : ℕ) → (after : Planes) → Type 0 where
+pub data Run (source : List ℕ) : List ConvoyFrame → (before : Planes) → (answer : Result Unit YuvError) (done : ℕ) → (after : Planes) → Type 0 where
   -- no frame is left
-  ended : {p : Planes} → Run source [] p Finished 0 p
+  ended : {p : Planes} → Run source [] p (Ok tt) 0 p
   -- the call was refused: its refusal is the answer, no byte is written, and no later frame is begun
   stopped : {f : ConvoyFrame} {fs : List ConvoyFrame} {p : Planes} {e : YuvError} (left : Planes)
-      → CallPost f source p (Refused e) left → Run source (f ∷ fs) p (Refused e) 0 p
+      → CallPost f source p (Err e) left → Run source (f ∷ fs) p (Err e) 0 p
   -- the call finished: the next frame's is made over what it left
-  went_on : {f : ConvoyFrame} {fs : List ConvoyFrame} {p q : Planes} {a : YuvAnswer} {n : ℕ} (left : Planes)
-      → CallPost f source p Finished left → Run source fs (with_parts f p left) a n q → Run source (f ∷ fs) p a (suc n) q
+  went_on : {f : ConvoyFrame} {fs : List ConvoyFrame} {p q : Planes} {a : Result Unit YuvError} {n : ℕ} (left : Planes)
+      → CallPost f source p (Ok tt) left → Run source fs (with_parts f p left) a n q → Run source (f ∷ fs) p a (suc n) q
 
 -- RULES 15.3: what a call was given, its answer, and the planes before and after it
 pub record ConvoyCall : Type 0 where
-  pub convoy : Convoy
+  pub convoy : List ConvoyFrame
   pub source : List ℕ
   pub before : Planes
   pub result : ConvoyAnswer
   pub after : Planes
 
 -- RULES 15.3
-abbrev pub convoy_call : Convoy → (source : List ℕ) (before : Planes) → ConvoyAnswer → (after : Planes) → ConvoyCall
+abbrev pub convoy_call : List ConvoyFrame → (source : List ℕ) (before : Planes) → ConvoyAnswer → (after : Planes) → ConvoyCall
 convoy_call c source p r q = record { convoy = c; source = source; before = p; result = r; after = q }
 
 -- RULES 15.2: 18 is asked of a call
@@ -71,5 +67,5 @@ is_broken k = broken_parts k.convoy (lengths_of k.source k.before.y k.before.u k
 
 -- RULES 15.2, 15.3: everything of a call: 18 with nothing written before any frame is begun, or single calls in order
 pub record ConvoyPost (k : ConvoyCall) : Type 0 where
-  pub broken : is_broken k ≡ true → (k.result ≡ record { answer = Refused PartsMismatch; done = 0 }) × (k.after ≡ k.before)
-  pub run : is_broken k ≡ false → Run k.source (frames_of k.convoy) k.before k.result.answer k.result.done k.after
+  pub broken : is_broken k ≡ true → (k.result ≡ record { answer = Err PartsMismatch; done = 0 }) × (k.after ≡ k.before)
+  pub run : is_broken k ≡ false → Run k.source k.convoy k.before k.result.answer k.result.done k.after

@@ -1,2 +1,3 @@
--- Laws of a convoy from numbers.
+-- Laws of the frames of a convoy from numbers.
+pub mod Made
 pub mod Frames

@@ -2,16 +2,18 @@
 // told of it.
 #![tactic(auto)]
 
-ghost use Rattle.std.specs.Prelude.{◌≡◌, ◌+◌, ◌≤◌, ◌<◌, length, get_or, set};
+ghost use Rattle.std.specs.Prelude.{◌≡◌, ◌≤◌, ◌<◌, [], ◌∷◌, get_or};
 ghost use Rattle.std.specs.Float.{nan};
 ghost use Rattle.yuv_error.specs.Numbers.{numbers_of};
-ghost use Rattle.convoy.specs.Run.{planes_of};
+ghost use Rattle.convoy.specs.Run.{planes_of, convoy_call, ConvoyPost};
 ghost use Rattle.convoy_calls.specs.Numbers.{part_at, described_by, described_of, frame_of, convoy_of};
 ghost use Rattle.convoy_calls.specs.Calls.{exported_convoy, ConvoyKept};
 
 use buffer_parts::BufferPart;
 use convoy::ConvoyAnswer;
-use convoy_parts::{Convoy, ConvoyFrame, Described};
+use convoy_parts::{ConvoyFrame, MAX_FRAMES};
+use definitions::FrameDescription;
+use yuv_error::YuvError;
 
 // The numbers of a frame: the source's stride, then a description with rounding and window.
 const FRAME_NUMBERS: usize = 16;
@@ -25,18 +27,11 @@ const FRAME_CUSTOMS: usize = 2;
 // Offset and length in each of the four buffers.
 const FRAME_PARTS: usize = 8;
 
-// The frames that a convoy has room for.
-const MAX_FRAMES: usize = 64;
-
 // Float i, or NaN where it is not given.
 fn custom_at(customs: &[f32], i: usize) -> f32
     ensures { result ≡ get_or customs.now i nan }
 {
-    if customs.len() <= i {
-        let zero: f32 = 0.0;
-        return zero / zero;
-    }
-    customs[i]
+    customs.get(i).copied().unwrap_or(f32::NAN)
 }
 
 pub fn as_place(n: u64) -> usize
@@ -49,44 +44,43 @@ pub fn as_place(n: u64) -> usize
 fn place_at(places: &[u64], i: usize) -> usize
     ensures { result ≡ get_or places.now i 0 }
 {
-    if places.len() <= i {
-        return 0;
-    }
-    as_place(places[i])
+    as_place(places.get(i).copied().unwrap_or(0))
 }
 
 pub fn part_at(parts: &[u64], i: usize) -> BufferPart
     requires { i ≤ 512 }
     ensures { result ≡ part_at parts.now i }
 {
-    let offset = place_at(parts, i);
-    let length = place_at(parts, i + 1);
-    BufferPart { offset, length }
+    BufferPart {
+        offset: place_at(parts, i),
+        length: place_at(parts, i + 1),
+    }
 }
 
 // What a frame's numbers describe, all sixteen of them given.
-fn described_by(numbers: &[u32], custom: &[f32; 2]) -> Described
+fn described_by(numbers: &[u32], custom: &[f32; 2]) -> Option<FrameDescription>
     ensures { result ≡ described_by numbers.now custom.now }
 {
     if call_numbers::is_malformed(OF_FRAME, numbers) {
-        return Described::Malformed;
+        return None;
     }
-    Described::Frame(call_numbers::describe_after(OF_FRAME, numbers, custom))
+    Some(call_numbers::describe_after(OF_FRAME, numbers, custom))
 }
 
-fn described_of(k: usize, numbers: &[u32], custom: &[f32; 2]) -> Described
+fn described_of(k: usize, numbers: &[u32], custom: &[f32; 2]) -> Option<FrameDescription>
     requires { k < 64 }
     ensures { result ≡ described_of k numbers.now custom.now }
 {
     let at = FRAME_NUMBERS * k;
     let end = at + FRAME_NUMBERS;
     if numbers.len() < end {
-        return Described::Malformed;
+        return None;
     }
     described_by(&numbers[at..end], custom)
 }
 
 // Frame k of a convoy, from its numbers.
+#[tactic(auto, unfolding(crate::specs::Numbers::frame_of))]
 fn frame_of(k: usize, numbers: &[u32], customs: &[f32], parts: &[u64]) -> ConvoyFrame
     requires { k < 64 }
     ensures { result ≡ frame_of numbers.now customs.now parts.now k }
@@ -97,57 +91,55 @@ fn frame_of(k: usize, numbers: &[u32], customs: &[f32], parts: &[u64]) -> Convoy
         custom_at(customs, in_customs),
         custom_at(customs, in_customs + 1),
     ];
-    let described = described_of(k, numbers, &custom);
-    let stride = call_numbers::number_at(numbers, FRAME_NUMBERS * k);
-    let source = part_at(parts, in_parts);
-    let y = part_at(parts, in_parts + 2);
-    let u = part_at(parts, in_parts + 4);
-    let v = part_at(parts, in_parts + 6);
     ConvoyFrame {
-        described,
-        stride,
-        source,
-        y,
-        u,
-        v,
+        described: described_of(k, numbers, &custom),
+        stride: call_numbers::number_at(numbers, FRAME_NUMBERS * k),
+        source: part_at(parts, in_parts),
+        y: part_at(parts, in_parts + 2),
+        u: part_at(parts, in_parts + 4),
+        v: part_at(parts, in_parts + 6),
     }
 }
 
-// The convoy that the numbers describe: `count` is as it was given, and a frame past the numbers is one of codes without a meaning, with parts of
+// The frames that the numbers describe, as many as a convoy has room for. A frame past the numbers is one of codes without a meaning, with parts of
 // no bytes.
-pub fn convoy_from_numbers(count: usize, numbers: &[u32], customs: &[f32], parts: &[u64]) -> Convoy
-    ensures { result ≡ convoy_of count numbers.now customs.now parts.now }
+pub fn convoy_from_numbers(numbers: &[u32], customs: &[f32], parts: &[u64]) -> [ConvoyFrame; 64]
+    ensures { result ≡ convoy_of 64 numbers.now customs.now parts.now }
 {
-    let none = BufferPart {
-        offset: 0,
-        length: 0,
-    };
-    let empty = ConvoyFrame {
-        described: Described::Malformed,
-        stride: 0,
-        source: none,
-        y: none,
-        u: none,
-        v: none,
-    };
-    let mut frames = [empty; 64];
-    let mut k = 0;
-    while k < MAX_FRAMES {
-        frames[k] = frame_of(k, numbers, customs, parts);
-        k += 1;
+    std::array::from_fn(|k| frame_of(k, numbers, customs, parts))
+}
+
+// Converts the first `count` of those frames; refusal 18 where a convoy has no room for so many.
+fn convert_numbered(
+    count: usize,
+    numbers: &[u32],
+    customs: &[f32],
+    parts: &[u64],
+    source: &[u8],
+    y: &mut [u8],
+    u: &mut [u8],
+    v: &mut [u8],
+) -> ConvoyAnswer
+    ensures { ConvoyPost (convoy_call (convoy_of count numbers.now customs.now parts.now) source.now
+        (planes_of y.old u.old v.old) result
+        (planes_of y.new u.new v.new)) }
+{
+    if count > MAX_FRAMES {
+        return ConvoyAnswer {
+            answer: Err(YuvError::PartsMismatch),
+            done: 0,
+        };
     }
-    Convoy { frames, count }
+    let frames = convoy_from_numbers(numbers, customs, parts);
+    convoy::convert_convoy(&frames[..count], source, y, u, v)
 }
 
 // Tells the answer of a convoy, and then how many frames are finished.
-fn tell_convoy(answered: ConvoyAnswer, told: &mut [usize]) -> u32
-    requires { 3 ≤ length told.old }
-    ensures { (result ≡ (numbers_of answered.answer).number)
-        × (told.new ≡ set (set (set told.old 0 (numbers_of answered.answer).expected)
-        1 (numbers_of answered.answer).received) 2 answered.done) }
+fn tell_convoy(answered: ConvoyAnswer, told: &mut [usize; 3]) -> u32
+    ensures number { result ≡ (numbers_of answered.answer).number }
+    ensures told { told.new ≡ (numbers_of answered.answer).expected ∷ (numbers_of answered.answer).received ∷ answered.done ∷ [] }
 {
-    let answer = answered.answer;
-    let number = call_numbers::tell_answer(answer, told);
+    let number = call_numbers::tell_answer(answered.answer, told);
     told[2] = answered.done;
     number
 }
@@ -169,7 +161,6 @@ pub fn call_convoy(
         (planes_of y.old u.old v.old) result told.new
         (planes_of y.new u.new v.new)) }
 {
-    let frames = convoy_from_numbers(count, numbers, customs, parts);
-    let answered = convoy::convert_convoy(frames, source, y, u, v);
+    let answered = convert_numbered(count, numbers, customs, parts, source, y, u, v);
     tell_convoy(answered, told)
 }

@@ -1,20 +1,22 @@
 -- The test of refusal 18 says yes exactly where the convoy is broken, and what is known where it says no.
 -- Assumes nothing.
-use Prim.Native.Nat.{ℕ, zero, suc, ◌+◌, ◌≤◌, ◌<◌}
+use Prim.Native.Nat.{ℕ, zero, suc, ◌≤◌, ◌<◌}
 use mathlib.Core.Path.{◌≡◌, refl, sym, ap, ◌∙◌}
 use mathlib.Core.Bool.{Bool, true, false, not, ◌||◌, true≢false}
+use mathlib.Core.List.{List, [], ◌∷◌}
 use mathlib.Core.Logic.{◌⊎◌, inl, inr}
 use native.Mathlib.Omega.{arith}
-use borrow.Author.Tests.{eqb-true, eqb-false, ltb-true, ltb-false, lt-ltb, not-true}
-use lib.Dec.{eqb, ltb}
+use borrow.Author.Tests.{ltb-true, ltb-false, lt-ltb, not-true}
+use lib.Dec.{ltb}
+use lib.ListN.{length}
+use Rattle.std.specs.List.{list_any}
 use Rattle.yuv_error.specs.declared.Lengths.{Lengths}
 use Rattle.buffer_parts.specs.declared.BufferPart.{BufferPart}
-use Rattle.buffer_parts.specs.Parts.{Inside, Overlap, is_inside, are_overlapping}
+use Rattle.buffer_parts.specs.Parts.{Inside, is_inside, are_overlapping}
 use Rattle.buffer_parts.proofs.Tests.{tests_are_exact}
 use Rattle.convoy_parts.specs.declared.ConvoyFrame.{ConvoyFrame}
-use Rattle.convoy_parts.specs.declared.Convoy.{Convoy}
-use Rattle.convoy_parts.specs.Parts.{frame_at, frames_from, frames_of, FrameOutside, FramesOverlap, Broken, too_many, outside, overlapping}
-use Rattle.convoy_parts.specs.Parts.{is_frame_outside, do_frames_overlap, any_frame, any_outside, any_overlap, broken_parts, BrokenIsExact}
+use Rattle.convoy_parts.specs.Parts.{frame_at, FrameOutside, FramesOverlap, Broken, too_many, outside, overlapping}
+use Rattle.convoy_parts.specs.Parts.{is_frame_outside, do_frames_overlap, any_outside, any_overlap, broken_parts, BrokenIsExact}
 
 -- ---- tests joined by or
 
@@ -94,135 +96,103 @@ Overlap-found f g (inr (inr x)) =
 
 -- ---- of a list of frames
 
--- a frame of so many from k on passes the test
-record Passes (test : ConvoyFrame → Bool) (c : Convoy) (k many : ℕ) : Type 0 where
+-- a frame of the list passes the test
+record Passes (test : ConvoyFrame → Bool) (c : List ConvoyFrame) : Type 0 where
   place : ℕ
-  least : k ≤ place
-  most : place < k + many
+  below : place < length c
   passes : test (frame_at c place) ≡ true
 
-any_found : (test : ConvoyFrame → Bool) (c : Convoy) (k many : ℕ) → any_frame test (frames_from c k many) ≡ true → Passes test c k many
-any_found test c k zero e = absurd (true≢false (sym e))
-any_found test c k (suc n) e = go (or-true (test (frame_at c k)) (any_frame test (frames_from c (suc k) n)) e) (any_found test c (suc k) n)
+any_found : (test : ConvoyFrame → Bool) (c : List ConvoyFrame) → list_any test c ≡ true → Passes test c
+any_found test [] e = absurd (true≢false (sym e))
+any_found test (f ∷ fs) e = go (or-true (test f) (list_any test fs) e) (any_found test fs)
   where
-    go : (test (frame_at c k) ≡ true) ⊎ (any_frame test (frames_from c (suc k) n) ≡ true)
-        → (any_frame test (frames_from c (suc k) n) ≡ true → Passes test c (suc k) n) → Passes test c k (suc n)
-    go (inl e) later = record { place = k; least = omega arith; most = omega arith; passes = e }
-    go (inr e) later =
-        let p = later e in
-        record { place = p.place; least = omega (arith, p.least); most = omega (arith, p.most); passes = p.passes }
+    go : (test f ≡ true) ⊎ (list_any test fs ≡ true) → (list_any test fs ≡ true → Passes test fs) → Passes test (f ∷ fs)
+    go (inl e) later = record { place = 0; below = omega arith; passes = e }
+    go (inr e) later = let p = later e in record { place = suc p.place; below = omega (arith, p.below); passes = p.passes }
 
-any_one : (test : ConvoyFrame → Bool) (c : Convoy) (k many j : ℕ) → k ≤ j → j < k + many → test (frame_at c j) ≡ true
-    → any_frame test (frames_from c k many) ≡ true
-any_one test c k zero j least most e = absurd (omega arith)
-any_one test c k (suc n) j least most e = go (eqb j k) refl (any_one test c (suc k) n j)
-  where
-    go : (b : Bool) → eqb j k ≡ b → (suc k ≤ j → j < suc k + n → test (frame_at c j) ≡ true → any_frame test (frames_from c (suc k) n) ≡ true)
-        → test (frame_at c k) || any_frame test (frames_from c (suc k) n) ≡ true
-    go true is later = or_left _ _ (ap (λ (i : ℕ). test (frame_at c i)) (sym (eqb-true j k is)) ∙ e)
-    go false is later = or_right (test (frame_at c k)) _ (later (omega (arith, eqb-false j k is)) (omega arith) e)
+any_one : (test : ConvoyFrame → Bool) (c : List ConvoyFrame) (j : ℕ) → j < length c → test (frame_at c j) ≡ true → list_any test c ≡ true
+any_one test [] j l e = absurd (omega arith)
+any_one test (f ∷ fs) zero l e = or_left _ _ e
+any_one test (f ∷ fs) (suc j) l e = or_right (test f) _ (any_one test fs j (omega arith) e)
 
--- two frames of so many from k on overlap
-record Two (c : Convoy) (k many : ℕ) : Type 0 where
+-- two frames of the list overlap
+record Two (c : List ConvoyFrame) : Type 0 where
   first : ℕ
   second : ℕ
-  least : k ≤ first
   order : first < second
-  most : second < k + many
+  below : second < length c
   overlap : do_frames_overlap (frame_at c first) (frame_at c second) ≡ true
 
-Two-found : (c : Convoy) (k many : ℕ) → any_overlap (frames_from c k many) ≡ true → Two c k many
-Two-found c k zero e = absurd (true≢false (sym e))
-Two-found c k (suc n) e =
-    go (or-true (any_frame (do_frames_overlap (frame_at c k)) (frames_from c (suc k) n)) (any_overlap (frames_from c (suc k) n)) e) (Two-found c (suc k) n)
+Two-found : (c : List ConvoyFrame) → any_overlap c ≡ true → Two c
+Two-found [] e = absurd (true≢false (sym e))
+Two-found (f ∷ fs) e = go (or-true (list_any (do_frames_overlap f) fs) (any_overlap fs) e) (Two-found fs)
   where
-    go : (any_frame (do_frames_overlap (frame_at c k)) (frames_from c (suc k) n) ≡ true) ⊎ (any_overlap (frames_from c (suc k) n) ≡ true)
-        → (any_overlap (frames_from c (suc k) n) ≡ true → Two c (suc k) n) → Two c k (suc n)
+    go : (list_any (do_frames_overlap f) fs ≡ true) ⊎ (any_overlap fs ≡ true) → (any_overlap fs ≡ true → Two fs) → Two (f ∷ fs)
     go (inl e) later =
-        let p = any_found (do_frames_overlap (frame_at c k)) c (suc k) n e in
-        record {
-          first = k;
-          second = p.place;
-          least = omega arith;
-          order = omega (arith, p.least);
-          most = omega (arith, p.most);
-          overlap = p.passes;
-        }
+        let p = any_found (do_frames_overlap f) fs e in
+        record { first = 0; second = suc p.place; order = omega arith; below = omega (arith, p.below); overlap = p.passes }
     go (inr e) later =
         let t = later e in
         record {
-          first = t.first;
-          second = t.second;
-          least = omega (arith, t.least);
-          order = t.order;
-          most = omega (arith, t.most);
+          first = suc t.first;
+          second = suc t.second;
+          order = omega (arith, t.order);
+          below = omega (arith, t.below);
           overlap = t.overlap;
         }
 
-two_one : (c : Convoy) (k many i j : ℕ) → k ≤ i → i < j → j < k + many → do_frames_overlap (frame_at c i) (frame_at c j) ≡ true
-    → any_overlap (frames_from c k many) ≡ true
-two_one c k zero i j least order most e = absurd (omega arith)
-two_one c k (suc n) i j least order most e = go (eqb i k) refl (two_one c (suc k) n i j)
-  where
-    go : (b : Bool) → eqb i k ≡ b
-        → (suc k ≤ i → i < j → j < suc k + n → do_frames_overlap (frame_at c i) (frame_at c j) ≡ true → any_overlap (frames_from c (suc k) n) ≡ true)
-        → any_frame (do_frames_overlap (frame_at c k)) (frames_from c (suc k) n) || any_overlap (frames_from c (suc k) n) ≡ true
-    go true is later =
-        let here = eqb-true i k is in
-        or_left _ _ (any_one (do_frames_overlap (frame_at c k)) c (suc k) n j (omega arith) (omega arith)
-        (ap (λ (x : ℕ). do_frames_overlap (frame_at c x) (frame_at c j)) (sym here) ∙ e))
-    go false is later = or_right (any_frame (do_frames_overlap (frame_at c k)) (frames_from c (suc k) n)) _
-        (later (omega (arith, eqb-false i k is)) order (omega arith) e)
+two_one : (c : List ConvoyFrame) (i j : ℕ) → i < j → j < length c → do_frames_overlap (frame_at c i) (frame_at c j) ≡ true → any_overlap c ≡ true
+two_one [] i j order l e = absurd (omega arith)
+two_one (f ∷ fs) i zero order l e = absurd (omega arith)
+two_one (f ∷ fs) zero (suc j) order l e = or_left _ _ (any_one (do_frames_overlap f) fs j (omega arith) e)
+two_one (f ∷ fs) (suc i) (suc j) order l e =
+    or_right (list_any (do_frames_overlap f) fs) _ (two_one fs i j (omega arith) (omega arith) e)
 
 -- ---- 18
 
-module _ (c : Convoy) (n : Lengths) where
+module _ (c : List ConvoyFrame) (n : Lengths) where
   Broken-yes : broken_parts c n ≡ true → Broken c n
   unfolding broken_parts
-  Broken-yes e = go (or-true (ltb 64 c.count) (any_outside n (frames_of c) || any_overlap (frames_of c)) e)
+  Broken-yes e = go (or-true (ltb 64 (length c)) (any_outside n c || any_overlap c) e)
     where
-      more : (any_outside n (frames_of c) ≡ true) ⊎ (any_overlap (frames_of c) ≡ true) → Broken c n
+      more : (any_outside n c ≡ true) ⊎ (any_overlap c ≡ true) → Broken c n
       more (inl e) =
-          let p = any_found (λ (f : ConvoyFrame). is_frame_outside f n) c 0 c.count e in
-          outside p.place (omega (arith, p.most)) (outside_yes (frame_at c p.place) n p.passes)
+          let p = any_found (λ (f : ConvoyFrame). is_frame_outside f n) c e in
+          outside p.place p.below (outside_yes (frame_at c p.place) n p.passes)
       more (inr e) =
-          let t = Two-found c 0 c.count e in
-          overlapping t.first t.second t.order (omega (arith, t.most))
-          (Overlap-yes (frame_at c t.first) (frame_at c t.second) t.overlap)
+          let t = Two-found c e in
+          overlapping t.first t.second t.order t.below (Overlap-yes (frame_at c t.first) (frame_at c t.second) t.overlap)
 
-      go : (ltb 64 c.count ≡ true) ⊎ (any_outside n (frames_of c) || any_overlap (frames_of c) ≡ true) → Broken c n
-      go (inl e) = too_many (ltb-true 64 c.count e)
-      go (inr e) = more (or-true (any_outside n (frames_of c)) (any_overlap (frames_of c)) e)
+      go : (ltb 64 (length c) ≡ true) ⊎ (any_outside n c || any_overlap c ≡ true) → Broken c n
+      go (inl e) = too_many (ltb-true 64 (length c) e)
+      go (inr e) = more (or-true (any_outside n c) (any_overlap c) e)
 
   Broken-found : Broken c n → broken_parts c n ≡ true
   unfolding broken_parts
-  Broken-found (too_many l) = or_left _ _ (lt-ltb 64 c.count l)
+  Broken-found (too_many l) = or_left _ _ (lt-ltb 64 (length c) l)
   Broken-found (outside k l x) =
-      or_right (ltb 64 c.count) _ (or_left _ _
-      (any_one (λ (f : ConvoyFrame). is_frame_outside f n) c 0 c.count k (omega arith) (omega arith) (outside_found (frame_at c k) n x)))
+      or_right (ltb 64 (length c)) _ (or_left _ _
+      (any_one (λ (f : ConvoyFrame). is_frame_outside f n) c k l (outside_found (frame_at c k) n x)))
   Broken-found (overlapping j k l m x) =
-      or_right (ltb 64 c.count) _ (or_right (any_outside n (frames_of c)) _
-      (two_one c 0 c.count j k (omega arith) l (omega arith) (Overlap-found (frame_at c j) (frame_at c k) x)))
+      or_right (ltb 64 (length c)) _ (or_right (any_outside n c) _
+      (two_one c j k l m (Overlap-found (frame_at c j) (frame_at c k) x)))
 
 pub broken_is_exact : BrokenIsExact
 broken_is_exact c n = (Broken-yes c n, Broken-found c n)
 
 -- what is known where the test says no
-pub record Unbroken (c : Convoy) (n : Lengths) : Type 0 where
-  pub few : c.count ≤ 64
-  pub inside : (k : ℕ) → k < c.count → FrameOutside (frame_at c k) n → ⊥
-  pub apart : (j k : ℕ) → j < k → k < c.count → FramesOverlap (frame_at c j) (frame_at c k) → ⊥
+pub record Unbroken (c : List ConvoyFrame) (n : Lengths) : Type 0 where
+  pub few : length c ≤ 64
+  pub inside : (k : ℕ) → k < length c → FrameOutside (frame_at c k) n → ⊥
+  pub apart : (j k : ℕ) → j < k → k < length c → FramesOverlap (frame_at c j) (frame_at c k) → ⊥
 
-pub unbroken : (c : Convoy) (n : Lengths) → broken_parts c n ≡ false → Unbroken c n
+pub unbroken : (c : List ConvoyFrame) (n : Lengths) → broken_parts c n ≡ false → Unbroken c n
 unfolding broken_parts
 unbroken c n e = record {
-  few = few;
+  few = ltb-false 64 (length c) (or-false (ltb 64 (length c)) (any_outside n c || any_overlap c) e).0;
   inside = λ k l x. no e (Broken-found c n (outside k l x));
   apart = λ j k l m x. no e (Broken-found c n (overlapping j k l m x));
 }
-  where
-    few : c.count ≤ 64
-    few = ltb-false 64 c.count (or-false (ltb 64 c.count) (any_outside n (frames_of c) || any_overlap (frames_of c)) e).0
 
 -- a part that is not outside is inside
 pub is_Inside : (p : BufferPart) (n : ℕ) → ((Inside p n → ⊥) → ⊥) → Inside p n

@@ -1,19 +1,16 @@
 -- Laws of putting a text into a list: one byte, a text behind another, and a text at the start.
 -- Assumes nothing.
-use Prim.Native.Nat.{ℕ, ◌+◌, ◌≤◌, ◌<◌}
+use Prim.Native.Nat.{ℕ, ◌≤◌}
 use mathlib.Core.Path.{◌≡◌, refl, sym, ap, ◌∙◌}
-use mathlib.Core.List.{List, [], ◌∷◌, ◌++◌, append_assoc}
+use mathlib.Core.List.{List, [], ◌++◌, append_assoc}
 use native.Mathlib.Nat.{zero-add}
-use native.Mathlib.Numerals.{add-one}
 use native.Mathlib.Omega.{arith}
-use lib.ListN.{length, take, drop, set, length-append}
-use lib.Seq.{set_split, take_at, drop_at, drop-drop, length-take-le}
+use lib.ListN.{length, take, drop, length-append}
+use lib.Seq.{take_at, drop_at, drop-drop, length-take-le}
 use Rattle.frame_request.specs.Reply.{Begins}
 use Rattle.frame_request.proofs.Reply.{Begins-more}
-use Rattle.counts_request.specs.Puts.{Puts}
-
-pub Puts-byte : (b a : ℕ) (o : List ℕ) → a < length o → Puts (b ∷ []) a o (a + 1) (set o a b)
-Puts-byte b a o l = record { size = refl; is = rw (add-one a) (set_split o a b l) }
+use Rattle.counts_request.specs.declared.Text.{Text}
+use Rattle.counts_request.specs.Puts.{Puts, PutsInto}
 
 pub Puts-more : {s e o p q : List ℕ} {a b c : ℕ} → a ≤ length o → Puts s a o b p → Puts e b p c q → Puts (s ++ e) a o c q
 Puts-more {s} {e} {o} {p} {q} {a} {b} {c} l f g =
@@ -26,6 +23,14 @@ Puts-more {s} {e} {o} {p} {q} {a} {b} {c} l f g =
       size = omega (arith, f.size, g.size, length-append s e);
       is = g.is ∙ rw (low, past) (simp append_assoc);
     }
+
+-- the same of the output that a `Text` fills
+pub PutsInto-more : {s e : List ℕ} {old mid new : Text} → old.at ≤ length old.output.now → PutsInto s old mid → PutsInto e mid new → PutsInto (s ++ e) old new
+PutsInto-more l f g = record { size = g.size ∙ f.size; loan = g.loan ∙ f.loan; puts = Puts-more l f.puts g.puts }
+
+-- and of a text by another name
+pub PutsInto-as : {s t : List ℕ} {old new : Text} → s ≡ t → PutsInto s old new → PutsInto t old new
+PutsInto-as same p = rw (← same) p
 
 -- a text at the start of a list
 pub Begins-first : {text o q : List ℕ} {n : ℕ} → n ≡ length text → q ≡ text ++ drop n o → Begins text o n q

@@ -2,13 +2,15 @@
 -- Assumes nothing.
 use Prim.Native.Nat.{ℕ, ◌≤◌}
 use mathlib.Core.Path.{◌≡◌, sym, ap, ◌∙◌}
-use mathlib.Core.Bool.{true, false}
+use mathlib.Core.Bool.{true}
 use mathlib.Core.List.{List}
 use native.Mathlib.Omega.{arith}
-use borrow.Author.Tests.{ne_eqb, eqb-true, not-false}
+use borrow.Author.Tests.{ne_eqb}
 use lib.ListN.{length, take}
+use Rattle.std.proofs.Common.{Option, Some, None, cond}
+use Rattle.yuv_support.specs.declared.YuvRange.{YuvRange}
+use Rattle.yuv_support.specs.declared.YuvStandardMatrix.{YuvStandardMatrix}
 use lib.Seq.{take_all, length-take-le}
-use Rattle.yuv_error.proofs.Accepted.{neither}
 use Rattle.definitions.proofs.Planes.{below?}
 use Rattle.colour_counts.specs.Counts.{count_of}
 use Rattle.frame_request.specs.Reply.{refusal_line}
@@ -18,14 +20,18 @@ pub malformed-reply : (input : List ℕ) → malformed input ≡ true → reply 
 unfolding reply
 malformed-reply input e = rw e
 
-pub lines-reply : (input : List ℕ) → malformed input ≡ false → reply input ≡ lines (count_of (range_of input) (matrix_of input)) 256
-unfolding reply
-lines-reply input e = rw e
+-- what an input asks for, and what is written for it
+abbrev asked : List ℕ → Option (YuvRange × YuvStandardMatrix)
+asked input = cond (malformed input) None (Some (range_of input, matrix_of input))
 
--- what is not malformed has two bytes
-pub two_bytes : (input : List ℕ) → malformed input ≡ false → length input ≡ 2
-unfolding malformed
-two_bytes input e = eqb-true (length input) 2 (not-false _ (neither _ _ e).0)
+pub asked-reply : (input : List ℕ) {range : YuvRange} {matrix : YuvStandardMatrix} → Some (range, matrix) ≡ asked input
+    → reply input ≡ lines (count_of range matrix) 256
+unfolding reply
+asked-reply input e = grind arith
+
+pub none-reply : (input : List ℕ) → None ≡ asked input → reply input ≡ refusal_line 1
+unfolding reply
+none-reply input e = grind arith
 
 -- the bytes that the program reads, 3 at most, decide what it writes: all longer inputs are malformed, as 3 bytes are
 long_malformed : (input : List ℕ) → 3 ≤ length input → malformed input ≡ true

@@ -1,19 +1,21 @@
 -- Key i of a list is its number i above place i. Sorted keys name records, and have their crossings; there are as many as records.
 -- Assumes nothing.
-use Prim.Native.Nat.{ℕ, zero, suc, ◌+◌, ◌*◌, ◌/◌, ◌%◌, ◌^◌, ◌≤◌, ◌<◌}
-use mathlib.Core.Path.{◌≡◌, refl, sym, ◌∙◌, ap}
-use mathlib.Core.List.{List, [], ◌∷◌, map}
-use native.Mathlib.Omega.{arith}
-use lib.ListN.{length, get_or, length-map, get_or-map}
+use Rattle.std.proofs.Common.{◌≡◌, sym, ◌∙◌, ap, ap₂, arith, ℕ, zero, suc, ◌+◌, ◌/◌, ◌%◌, ◌^◌, ◌≤◌, ◌<◌, false, List, [], ◌∷◌, ◌++◌, map, length, get_or, take, set, take-suc, add-one}
+use lib.ListN.{length-map, get_or-map}
+use Rattle.std.specs.List.Sorted.{IsSortedBy, IsNonDecreasingBy}
+use Rattle.std.specs.Ordering.{is_lt, nat_cmp, ordering_then}
+use Rattle.std.proofs.lemmas.List.{take_more_set, take_all, map-append, get_or-map as get_or-mapped}
+use Rattle.std.proofs.lemmas.List.Sorted.{IsNonDecreasingBy-from_all_adjacent}
 use Rattle.merge_sort.specs.Order.{All, Sorted}
 use Rattle.merge_sort.specs.Ascending.{sorted, key, keys_from}
-use Rattle.merge_sort.proofs.Permuted.{permuted_length}
+use Rattle.merge_sort.proofs.Permuted.{permuted_length, All-at}
 use Rattle.merge_sort.proofs.Insertion.{sorted-Ordered, sorted_all}
 use Rattle.merge_sort.proofs.Keys.{keys_length, keys_named}
 use Rattle.shift_file.specs.declared.ShiftForm.{ShiftForm}
 use Rattle.shift_file.specs.File.{ShiftRecord, EachAllowed, HasFile}
 use Rattle.shift_reader.specs.Entry.{no_record, nth}
-use Rattle.crossing_keys.specs.Keys.{crossing_of, crossings_of}
+use Rattle.crossing_keys.specs.declared.key.Key.{Key}
+use Rattle.crossing_keys.specs.Keys.{crossing_of, crossings_of, number_of}
 
 key_at : (cs : List ℕ) (i k : ℕ) → k < length cs → get_or (keys_from i cs) k 0 ≡ key (get_or cs k 0) (i + k)
 unfolding keys_from
@@ -51,3 +53,46 @@ crossings_below form (r ∷ rs) i few e = (omega (arith, e.0.crossing), crossing
 -- a crossing has 32 bits
 pub keys_below : (form : ShiftForm) (rs : List ShiftRecord) → HasFile form rs → All (λ k. k / 4096 < 256 ^ 4) (sorted (keys_from 0 (crossings_of rs)))
 keys_below form rs h = sorted_all _ _ (crossings_below form rs 0 (omega (arith, h.few)) h.each)
+
+-- ---- keys of the code
+
+-- one key more is written
+pub keys_more : (ns : List ℕ) (keys : List Key) (i : ℕ) (k : Key) → i < length keys → i < length ns → number_of k ≡ get_or ns i 0
+    → map number_of (take i keys) ≡ take i ns → map number_of (take (i + 1) (set keys i k)) ≡ take (i + 1) ns
+keys_more ns keys i k h n e done =
+    ap (map number_of) (take_more_set keys i k h) ∙ map-append number_of (take i keys) (k ∷ []) ∙ ap₂ (λ (a : List ℕ) (x : ℕ). a ++ x ∷ []) done e
+    ∙ sym (take-suc ns i 0 n) ∙ ap (λ (m : ℕ). take m ns) (sym (add-one i))
+
+pub keys_all : (ns : List ℕ) (keys : List Key) (i : ℕ) → length keys ≤ i → length ns ≤ i → map number_of (take i keys) ≡ take i ns → map number_of keys ≡ ns
+keys_all ns keys i h n done = ap (map number_of) (sym (take_all i keys h)) ∙ done ∙ take_all i ns n
+
+-- a key has its crossing and its place in its number
+module _ (keys : List Key) (i : ℕ) (d : Key) (h : i < length keys) where
+  its_number : get_or (map number_of keys) i 0 ≡ number_of (get_or keys i d)
+  its_number = get_or-mapped number_of keys i d 0 h
+
+  pub its_crossing : get_or (map number_of keys) i 0 / 4096 ≡ (get_or keys i d).crossing
+  its_crossing = let below = (get_or keys i d).in_file in omega (arith, its_number)
+
+  pub its_place : get_or (map number_of keys) i 0 % 4096 ≡ (get_or keys i d).place
+  its_place = let below = (get_or keys i d).in_file in omega (arith, its_number)
+
+-- the places of a file's keys are those of its records
+module _ (rs : List ShiftRecord) (keys : List Key) (few : length rs ≤ 4096) (e : map number_of keys ≡ sorted (keys_from 0 (crossings_of rs))) where
+  pub place_below : (i : ℕ) (d : Key) → i < length keys → (get_or keys i d).place < length rs
+  place_below i d h =
+      let long = length-map keys number_of in
+      let named : All (λ k. k % 4096 < length rs) (map number_of keys) = rw e (keys_place rs few) in
+      let within = All-at (λ k. k % 4096 < length rs) 0 (map number_of keys) i named (omega (arith, long, h)) in
+      omega (arith, its_place keys i d h, within)
+
+  pub as_many : length keys ≡ length rs
+  as_many = sym (length-map keys number_of) ∙ ap length e ∙ sorted_long rs
+
+-- keys compare as their numbers do
+by_number : (a b : Key) → is_lt (ordering_then (nat_cmp a.crossing b.crossing) (nat_cmp a.place b.place)) ≡ false → number_of b ≤ number_of a
+by_number a b h = grind arith
+
+pub keys_in_order : (keys : List Key) → IsSortedBy (λ (a b : Key). is_lt (ordering_then (nat_cmp a.crossing b.crossing) (nat_cmp a.place b.place))) keys
+    → IsNonDecreasingBy number_of keys
+keys_in_order keys s = IsNonDecreasingBy-from_all_adjacent number_of keys (λ k d h. by_number (get_or keys (k + 1) d) (get_or keys k d) (s k d (omega arith) h))

@@ -3,7 +3,7 @@
 use Rattle.std.specs.Prelude.{ℕ, ◌+◌, ◌*◌, ◌/◌, cond, ℤ, pos, negsuc, nat_abs, ◌+ℤ◌, ◌*ℤ◌}
 use Rattle.std.specs.Int.Signed.{lt_z}
 use Rattle.yuv_support.specs.Range.{yuv_range}
-use Rattle.forward_transform.specs.declared.CbCrForwardTransformI32.{CbCrForwardTransformI32}
+use Rattle.forward_transform.specs.declared.CbCrForwardTransform.{CbCrForwardTransform}
 use Rattle.built_coefficients.specs.Built.{forward_transform}
 use Rattle.definitions.specs.declared.YuvSettings.{YuvSettings}
 
@@ -26,7 +26,7 @@ abbrev pub held_between : (lo hi : ℕ) → ℤ → ℕ
 held_between lo hi z = cond (lt_z z (pos lo)) lo (at_most hi z)
 
 -- RULES 4.1, 4.3: the weights of a frame
-abbrev pub weights_of : YuvSettings → CbCrForwardTransformI32
+abbrev pub weights_of : YuvSettings → CbCrForwardTransform ℤ
 weights_of s = forward_transform s.range s.matrix
 
 -- RULES 1.4: by

@@ -8,7 +8,7 @@ use sharp_gamma::{SharpYuvGammaTransfer, TableRounding};
 use yuv_support::{YuvChromaSubsampling, YuvRange, YuvSourceChannels, YuvStandardMatrix};
 
 // How a frame is converted: travels as one value.
-#[derive(Clone, Copy)]
+#[derive(Clone, Copy, Debug, PartialEq)]
 pub struct YuvSettings {
     pub channels: YuvSourceChannels,
     pub sampling: YuvChromaSubsampling,
@@ -19,7 +19,7 @@ pub struct YuvSettings {
 }
 
 // Where a frame stands in a larger source: its first column and row, and the source's size.
-#[derive(Clone, Copy)]
+#[derive(Clone, Copy, Debug, PartialEq, Eq, Hash)]
 pub struct Window {
     pub left: u32,
     pub top: u32,
@@ -28,7 +28,7 @@ pub struct Window {
 }
 
 // A frame's size, its place in its source, settings and plane strides: what an opening fixes and a frame call is given.
-#[derive(Clone, Copy)]
+#[derive(Clone, Copy, Debug, PartialEq)]
 pub struct FrameDescription {
     pub width: u32,
     pub height: u32,
@@ -40,7 +40,7 @@ pub struct FrameDescription {
 }
 
 // A band of a frame: `rows` rows after the first `done`, `stride` bytes apart in their source, which has its full width.
-#[derive(Clone, Copy)]
+#[derive(Clone, Copy, Debug, PartialEq)]
 pub struct Band {
     pub frame: FrameDescription,
     pub done: u32,
@@ -53,9 +53,7 @@ pub fn row_size(frame: FrameDescription) -> usize
     requires { frame.width ≤ 16384 }
     ensures { result ≡ row_size frame }
 {
-    let settings = frame.settings;
-    let channels = settings.channels;
-    frame.width as usize * channels.get_channels_count()
+    frame.width as usize * frame.settings.channels.get_channels_count()
 }
 
 // Where they start in a row of rows `stride` bytes apart.
@@ -64,9 +62,6 @@ pub fn row_start(frame: FrameDescription, row: usize, stride: usize) -> usize
     requires row_bound { row_start frame stride row < 18446744073709551616 }
     ensures { result ≡ row_start frame stride row }
 {
-    let window = frame.window;
-    let settings = frame.settings;
-    let channels = settings.channels;
-    let count = channels.get_channels_count();
-    row * stride + window.left as usize * count
+    let count = frame.settings.channels.get_channels_count();
+    row * stride + frame.window.left as usize * count
 }

@@ -3,7 +3,8 @@
 use Prim.Native.Nat.{ℕ}
 use mathlib.Core.Path.{◌≡◌, sym, ap, subst, ◌∙◌}
 use mathlib.Core.List.{List}
-use Rattle.yuv_error.specs.declared.YuvAnswer.{YuvAnswer}
+use Rattle.std.specs.Prelude.{Result}
+use Rattle.yuv_error.specs.declared.YuvError.{YuvError}
 use Rattle.yuv_error.specs.Numbers.{Numbers, numbers_of, answer_of}
 use Rattle.yuv_error.proofs.Numbers.{found}
 use Rattle.frame_calls.specs.Lists.{numbers_told, answer_told, done_told}
@@ -24,7 +25,7 @@ module _ (k : ExportedConvoy) (p : ConvoyKept k) where
 
   pub convoy_met : ConvoyPost (as_convoy k)
   convoy_met =
-      subst (λ (a : YuvAnswer). ConvoyPost (convoy_with k (record { answer = a; done = done_told k.told }))) (sym answer)
+      subst (λ (a : Result Unit YuvError). ConvoyPost (convoy_with k (record { answer = a; done = done_told k.told }))) (sym answer)
       (subst (λ (n : ℕ). ConvoyPost (convoy_with k (record { answer = p.result.answer; done = n }))) (sym done) p.answered)
 
   pub convoy_told : numbers_of (as_convoy k).result.answer ≡ numbers_told k.number k.told

@@ -11,8 +11,7 @@ use borrow.Author.Tests.{eq-eqb, ne_eqb}
 use lib.ListN.{length, take}
 use Rattle.yuv_support.specs.Matrix.{accepted as accepted_matrix}
 use Rattle.yuv_error.specs.declared.YuvError.{YuvError}
-use Rattle.yuv_error.specs.declared.YuvAnswer.{YuvAnswer}
-use Rattle.yuv_error.specs.declared.YuvAnswer.TheVariants.{Finished, Refused}
+use Rattle.std.specs.Prelude.{Result, Ok, Err}
 use Rattle.yuv_error.specs.Numbers.{Numbers, numbers, numbers_of}
 use Rattle.yuv_error.specs.Rules.{Rule, rule, first_numbers, matrix_rules}
 use Rattle.yuv_error.specs.Lowest.{Lowest, in_order}
@@ -33,8 +32,6 @@ use Rattle.band_calls.specs.BandCall.{OpenPost, rules_of as band_rules}
 use Rattle.band_calls.proofs.Post as band
 use Rattle.band_lists.proofs.SameImage.{others_equal}
 use Rattle.band_lists.proofs.Demand3 as lists
-use Rattle.frame_request.specs.declared.Response.{Response}
-use Rattle.frame_request.specs.declared.Response.TheVariants.{Planes, Refused as Refuses}
 use Rattle.frame_request.specs.Request.{request_rules, response_numbers, RequestPost}
 use Rattle.frame_request.specs.Reply.{refusal_line, reply}
 use Rattle.colour_counts.specs.Counts.{count_of}
@@ -96,13 +93,13 @@ moves_in_order WithoutSettings file room = refl
 moves_in_order WithSettings file room = refl
 
 -- a refusal's number is not 0
-refusal : (a : YuvAnswer) → 1 ≤ (numbers_of a).number → (e : YuvError) × (a ≡ Refused e)
-refusal Finished l = absurd (omega arith)
-refusal (Refused e) l = (e, refl)
+refusal : (a : Result Unit YuvError) → 1 ≤ (numbers_of a).number → (e : YuvError) × (a ≡ Err e)
+refusal (Ok done) l = absurd (omega arith)
+refusal (Err e) l = (e, refl)
 
-request_writes_nothing : {input output output' : List ℕ} (r : Response) → RequestPost input output r output' → 1 ≤ (response_numbers r).number → output' ≡ output
-request_writes_nothing (Planes n) p l = absurd (omega arith)
-request_writes_nothing (Refuses e) p l = painted_same p.written
+request_writes_nothing : {input output output' : List ℕ} (r : Result ℕ YuvError) → RequestPost input output r output' → 1 ≤ (response_numbers r).number → output' ≡ output
+request_writes_nothing (Ok n) p l = absurd (omega arith)
+request_writes_nothing (Err e) p l = painted_same p.written
 
 -- a check that is refused says no
 says_no : (form : ShiftForm) (file summary : List ℕ) (r : SummaryVerdict) → CheckPost form file summary r → 1 ≤ (numbers_of r.answer).number
@@ -118,17 +115,17 @@ says_no form file summary r p l = p.verdict ∙ no (is_file form file) (ap (λ (
 finds_nothing : (form : ShiftForm) (file summary : List ℕ) (crossing : ℕ) (r : SummaryFinding) → FindPost form file summary crossing r
     → 1 ≤ (numbers_of r.answer).number → r.found ≡ Nowhere
 finds_nothing form file summary crossing r p l =
-    p.found ∙ ap (λ (a : YuvAnswer). found_told a (found_among crossing (records_in form file))) (refusal r.answer l).1
+    p.found ∙ ap (λ (a : Result Unit YuvError). found_told a (found_among crossing (records_in form file))) (refusal r.answer l).1
 
 -- reading a Y4M file that is refused leaves the entries as they were
 y4m_unread : {file : List ℕ} {first : ℕ} {before after : List ℕ} {r : Y4mReading} {e : YuvError} → Y4mReadPost file first before r after
-    → r.answer ≡ Refused e → after ≡ before
+    → r.answer ≡ Err e → after ≡ before
 unfolding entries_of
 y4m_unread {r = r} p is = let none : r.told ≡ 0 = rw is at p.told in p.entries ∙ rw none
 
 -- and tells 0 five times
 y4m_untold : {file : List ℕ} {first : ℕ} {before after : List ℕ} {r : Y4mReading} {e : YuvError} → Y4mReadPost file first before r after
-    → r.answer ≡ Refused e → r.width ∷ r.height ∷ r.sampling ∷ r.count ∷ r.told ∷ [] ≡ 0 ∷ 0 ∷ 0 ∷ 0 ∷ 0 ∷ []
+    → r.answer ≡ Err e → r.width ∷ r.height ∷ r.sampling ∷ r.count ∷ r.told ∷ [] ≡ 0 ∷ 0 ∷ 0 ∷ 0 ∷ 0 ∷ []
 y4m_untold {r = r} p is =
     let width : r.width ≡ 0 = rw is at p.width in
     let height : r.height ≡ 0 = rw is at p.height in
@@ -171,7 +168,7 @@ demand_1 = record {
   opening = λ d r p. lowest (opening_rules d) refl p.answered;
   band = λ k p. record {
     lowest = lowest (band_rules k) refl p.answered;
-    writes_nothing = λ l. band.refused_writes_nothing {k = k} (λ n. ap (λ (a : YuvAnswer). taken a n) (refusal k.result.answer l).1) p;
+    writes_nothing = λ l. band.refused_writes_nothing {k = k} (λ n. ap (λ (a : Result Unit YuvError). taken a n) (refusal k.result.answer l).1) p;
   };
   counts = λ range matrix before a after p. record {
     lowest = lowest (matrix_rules matrix) refl p.answered;
@@ -327,10 +324,10 @@ module _ (k : FrameCall) where
   }
 
   module _ (p : FramePost k) where
-    finishes : WholeFrame k → k.answer ≡ Finished
+    finishes : WholeFrame k → k.answer ≡ Ok tt
     finishes w = is_finished k.answer (ap (λ (x : Numbers). x.number) (p.answered ∙ frame_passes (sized w) (lent w)))
 
-    pub whole : k.answer ≡ Finished → WholeFrame k
+    pub whole : k.answer ≡ Ok tt → WholeFrame k
     whole is =
         let a = call_Accepted k is p in
         let o = a.lent in
@@ -377,8 +374,8 @@ demand_3 = record {
   calls = lists.demand_3;
   linked = λ o bands p z kept chained.
       let d = frame_of_opening o in
-      let opened : OpenPost d (handed d Finished (done_told o.told)) = rw (open_done p) (open_accepted p z) in (
-        (lists.demand_3 d (handed d Finished (done_told o.told)) (as_bands bands) (record { met = opened; accepted = refl }) (all_met bands kept) chained).0,
+      let opened : OpenPost d (handed d (Ok tt) (done_told o.told)) = rw (open_done p) (open_accepted p z) in (
+        (lists.demand_3 d (handed d (Ok tt) (done_told o.told)) (as_bands bands) (record { met = opened; accepted = refl }) (all_met bands kept) chained).0,
         refused_kept bands kept,
       );
   linked_frames = λ k p z. frame_accepted p z;

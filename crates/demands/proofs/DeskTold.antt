@@ -5,38 +5,40 @@ use mathlib.Core.Path.{◌≡◌, refl, sym, ap, subst, ◌∙◌}
 use mathlib.Core.Bool.{true}
 use mathlib.Core.List.{List}
 use native.Mathlib.Omega.{arith}
-use Rattle.yuv_error.specs.declared.YuvAnswer.TheVariants.{Finished, Refused}
+use Rattle.std.specs.Prelude.{Option, None, Some, Result, Ok, Err, is_err}
+use Rattle.yuv_error.specs.declared.YuvError.{YuvError}
 use Rattle.yuv_error.specs.Numbers.{Numbers, numbers_of}
 use Rattle.yuv_error.specs.Rules.{first_numbers}
 use Rattle.yuv_error.specs.Lowest.{in_order, Lowest}
 use Rattle.yuv_error.proofs.Lowest.{first_is_lowest}
-use Rattle.desk_places.specs.declared.Next.{Next}
-use Rattle.desk_places.specs.declared.Next.TheVariants.{NoneWaiting, Turn}
+use Rattle.desk_places.specs.declared.Turn.{Turn}
 use Rattle.desk_places.specs.Places.{next_waiting}
 use Rattle.desk_bands.specs.Buffers.{Buffers}
 use Rattle.desk.specs.declared.Served.{Served}
-use Rattle.desk.specs.declared.Served.TheVariants.{Nobody, Camera}
 use Rattle.desk.specs.DeskCall.{StepCall, StepPost}
 use Rattle.desk.specs.Told.{Tells, none_converted}
 use Rattle.desk.proofs.Right.{steps_are_right}
 use Rattle.desk_calls.specs.Calls.{served_numbers}
 use Rattle.demands.specs.Demands.{turn_rules_of, step_rules}
 
-turn_first : (n : Next) (k : StepCall) → Tells n k → served_numbers k.result.served ≡ first_numbers (turn_rules_of n k.lent)
-turn_first NoneWaiting k told = rw told
-turn_first (Turn c f b) k told = rw told.served told.answered
+turn_first : (n : Option Turn) (k : StepCall) → Tells n k → served_numbers k.result.served ≡ first_numbers (turn_rules_of n k.lent)
+turn_first None k told = rw told
+turn_first (Some t) k told = rw told.served told.answered
 
-turn_in_order : (n : Next) (lent : Buffers) → in_order 0 (turn_rules_of n lent) ≡ true
-turn_in_order NoneWaiting lent = refl
-turn_in_order (Turn c f b) lent = refl
+turn_in_order : (n : Option Turn) (lent : Buffers) → in_order 0 (turn_rules_of n lent) ≡ true
+turn_in_order None lent = refl
+turn_in_order (Some t) lent = refl
 
-none_converted_lem : (s : Served) → 1 ≤ (served_numbers s).number → none_converted s ≡ true
-none_converted_lem Nobody l = refl
-none_converted_lem (Camera c Finished) l = absurd (omega arith)
-none_converted_lem (Camera c (Refused e)) l = refl
+refused : (a : Result Unit YuvError) → 1 ≤ (numbers_of a).number → is_err a ≡ true
+refused (Ok done) l = absurd (omega arith)
+refused (Err e) l = refl
+
+none_converted_lem : (s : Option Served) → 1 ≤ (served_numbers s).number → none_converted s ≡ true
+none_converted_lem None l = refl
+none_converted_lem (Some s) l = refused s.answer l
 
 module _ (k : StepCall) (p : StepPost k) where
-  abbrev next : Next
+  abbrev next : Option Turn
   next = next_waiting k.desk.places k.desk.from
 
   pub step_Lowest : Lowest (step_rules k) (served_numbers k.result.served)

@@ -11,7 +11,7 @@ use Rattle.yuv_support.specs.declared.YuvRange.{YuvRange}
 use Rattle.yuv_support.specs.declared.YuvStandardMatrix.{YuvStandardMatrix}
 use Rattle.sharp_gamma.specs.declared.SharpYuvGammaTransfer.{SharpYuvGammaTransfer}
 use Rattle.sharp_gamma.specs.declared.TableRounding.{TableRounding}
-use Rattle.yuv_error.specs.declared.YuvAnswer.TheVariants.{Finished}
+use Rattle.std.specs.Prelude.{Ok}
 use Rattle.yuv_error.specs.Numbers.{Numbers, numbers}
 use Rattle.yuv_error.specs.Rules.{first_numbers}
 use Rattle.yuv_error.specs.Known.{Sized}
@@ -45,13 +45,13 @@ use Rattle.grey.proofs.Worked.{source, right, rectangle}
 use Rattle.demands.specs.Demands.{tally_image, GreyAfter, GreyBands, GreyFrame, GreyAnswer, Grey}
 
 -- of a finished frame
-planes_of : (k : FrameCall) → FramePost k → k.answer ≡ Finished → GreyRows k.frame k.frame.height (image_of k)
+planes_of : (k : FrameCall) → FramePost k → k.answer ≡ Ok tt → GreyRows k.frame k.frame.height (image_of k)
     → GreyPlanes k.frame k.frame.height (image_of k) k.y' k.u' k.v'
 planes_of k p is grey =
     let o = (call_Accepted k is p).lent in
     planes_grey k.frame k.frame.height _ o.sized (le_refl _) grey o.planes (rw is at p.planes)
 
-frames : (k : FrameCall) → FramePost k → k.answer ≡ Finished → GreyFrame k
+frames : (k : FrameCall) → FramePost k → k.answer ≡ Ok tt → GreyFrame k
 frames k p is grey = planes_of k p is grey
 
 bands : (d : FrameDescription) (opening : FrameAnswer) (calls : List BandCall) → Fresh d opening → AllMet calls → Chained opening.state none calls
@@ -114,8 +114,8 @@ grey = record {
   linked_frames = λ k p z. let f = frame_accepted p z in frames (as_frame k) f.1 f.0;
   linked_bands = λ o bs p z kept chained.
       let d = frame_of_opening o in
-      let opened : OpenPost d (handed d Finished (done_told o.told)) = rw (open_done p) (open_accepted p z) in
-      bands d (handed d Finished (done_told o.told)) (as_bands bs) (record { met = opened; accepted = refl }) (all_met bs kept) chained;
+      let opened : OpenPost d (handed d (Ok tt) (done_told o.told)) = rw (open_done p) (open_accepted p z) in
+      bands d (handed d (Ok tt) (done_told o.told)) (as_bands bs) (record { met = opened; accepted = refl }) (all_met bs kept) chained;
   black_and_white = λ k p is limited grey r x l m.
       let s = k.frame.settings in
       subst (λ (range : YuvRange). LumaOfGrey range (grey_of s (image_of k r x)) (get_or k.y' (r * k.frame.y_stride + x) 0)) limited
@@ -126,7 +126,7 @@ grey = record {
 
 -- a grey pixel beside a red one, which is no part of the frame: its planes are the grey, and no tint
 pub beside_red : (matrix : YuvStandardMatrix) (transfer : SharpYuvGammaTransfer) (rounding : TableRounding) (y u v y' u' v' : List ℕ)
-    → FramePost (frame_call (right matrix transfer rounding) 6 source y u v Finished y' u' v') → (get_or y' 0 0 ≡ 77) × (get_or u' 0 0 ≡ 128) × (get_or v' 0 0 ≡ 128)
+    → FramePost (frame_call (right matrix transfer rounding) 6 source y u v (Ok tt) y' u' v') → (get_or y' 0 0 ≡ 77) × (get_or u' 0 0 ≡ 128) × (get_or v' 0 0 ≡ 128)
 unfolding source_image pixels_of row_bytes
 beside_red matrix transfer rounding y u v y' u' v' p =
     let planes = grey.frames _ p refl (rectangle matrix transfer rounding) in

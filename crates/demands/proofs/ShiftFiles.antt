@@ -21,8 +21,7 @@ use Rattle.sharp_gamma.specs.declared.SharpYuvGammaTransfer.{SharpYuvGammaTransf
 use Rattle.sharp_gamma.specs.declared.SharpYuvGammaTransfer.TheVariants.{Srgb, Rec709, Gamma2p2, Gamma2p8}
 use Rattle.setting_codes.specs.Codes.{sampling_codes, sampling_code, range_code, matrix_code, transfer_code}
 use Rattle.yuv_support.specs.Sampling.{chroma_height}
-use Rattle.yuv_error.specs.declared.YuvAnswer.{YuvAnswer}
-use Rattle.yuv_error.specs.declared.YuvAnswer.TheVariants.{Finished}
+use Rattle.std.specs.Prelude.{Ok}
 use Rattle.yuv_error.specs.Numbers.{Numbers, numbers, numbers_of}
 use Rattle.yuv_error.specs.Rules.{Rule, rule, first_numbers}
 use Rattle.yuv_error.proofs.Numbers.{is_finished}
@@ -87,7 +86,7 @@ told kind form file first before r after rs f p is =
 
 module _ (form : ShiftForm) (records before : List ℕ) (r : ShiftWritten) (after : List ℕ) (p : WritePost form records before r after) where
   -- the file at the front, and the rest
-  front : r.answer ≡ Finished → (take r.size after ≡ file_made form records) × (drop r.size after ≡ drop r.size before)
+  front : r.answer ≡ Ok tt → (take r.size after ≡ file_made form records) × (drop r.size after ≡ drop r.size before)
   front is =
       let size : r.size ≡ length (file_made form records) = rw is at p.size in
       let made : after ≡ file_made form records ++ drop (length (file_made form records)) before = rw is at p.written in
@@ -97,12 +96,12 @@ module _ (form : ShiftForm) (records before : List ℕ) (r : ShiftWritten) (afte
     made_is : file_made form records ≡ file_of form rs
     made_is = ap (file_of form) (these_records form records rs b)
 
-    pub its_file : r.answer ≡ Finished → IsFileOf form (take r.size after) rs
+    pub its_file : r.answer ≡ Ok tt → IsFileOf form (take r.size after) rs
     its_file is = record { has = b.has; same = sym ((front is).0 ∙ made_is) }
 
 -- ---- one record
 
-module _ (f : RecordFrame) (y u v before : List ℕ) (r : ShiftWritten) (after : List ℕ) (p : RecordPost f y u v before r after) (is : r.answer ≡ Finished) where
+module _ (f : RecordFrame) (y u v before : List ℕ) (r : ShiftWritten) (after : List ℕ) (p : RecordPost f y u v before r after) (is : r.answer ≡ Ok tt) where
   abbrev last : List Rule
   last = output_rules (length (bytes_of (record_made f y u v))) (length before)
 
@@ -149,7 +148,7 @@ frame_of k form crossing settings = record {
   v_stride = k.frame.v_stride;
 }
 
-module _ (k : FrameCall) (p : FramePost k) (is : k.answer ≡ Finished) (form : ShiftForm) (crossing : ℕ) (settings : SettingCodes)
+module _ (k : FrameCall) (p : FramePost k) (is : k.answer ≡ Ok tt) (form : ShiftForm) (crossing : ℕ) (settings : SettingCodes)
     (e : k.frame.settings.sampling ≡ frame_sampling (frame_of k form crossing settings)) where
   abbrev d : FrameDescription
   d = k.frame
@@ -183,7 +182,7 @@ module _ (k : FrameCall) (p : FramePost k) (is : k.answer ≡ Finished) (form : 
 
   -- no condition of a record holds of them
   record_of_frame : (before : List ℕ) (r : ShiftWritten) (after : List ℕ) → codes_allowed form (settings_of f) ≡ true
-      → RecordPost f k.y' k.u' k.v' before r after → record_size f ≤ length before → r.answer ≡ Finished
+      → RecordPost f k.y' k.u' k.v' before r after → record_size f ≤ length before → r.answer ≡ Ok tt
   record_of_frame before r after codes q room =
       let w = whole k p is in
       let l = lengths in
@@ -280,7 +279,7 @@ shift_files = record {
       sym (its_file form _ before r after p rs tail is).same ∙ f.same;
   made = λ f y u v before r after by bu bv c p is. record_made_lem f y u v before r after p is by bu bv c;
   frame_accepted = λ k f before r after p is o.
-      subst (λ (g : RecordFrame). RecordPost g k.y' k.u' k.v' before r after → record_size g ≤ length before → r.answer ≡ Finished)
+      subst (λ (g : RecordFrame). RecordPost g k.y' k.u' k.v' before r after → record_size g ≤ length before → r.answer ≡ Ok tt)
       (frame_is k f o) (record_of_frame k p is f.form f.crossing f.settings o.sampling before r after o.codes);
   frame = λ k f p is o.
       subst (λ (g : RecordFrame). RecordBytes k (record_made g k.y' k.u' k.v')) (frame_is k f o)

@@ -11,7 +11,7 @@ use lib.Dec.{ltb, eqb}
 use lib.ListN.{length, get_or, take, drop}
 use lib.Seq.{take_at, drop_at}
 use borrow.Author.Tests.{ltb-true, lt-ltb, le-ltb, eqb-true, eq-eqb}
-use Rattle.yuv_error.specs.declared.YuvAnswer.TheVariants.{Finished}
+use Rattle.std.specs.Prelude.{Ok}
 use Rattle.yuv_error.specs.Numbers.{Numbers, numbers, numbers_of}
 use Rattle.yuv_error.proofs.Numbers.{is_finished}
 use Rattle.little_endian.specs.Number.{Bytes}
@@ -113,7 +113,7 @@ not_plain rs q = go (are_plain rs) refl
 
 -- ---- what is written
 
-module _ (from : ShiftForm) (file before : List ℕ) (r : ShiftWritten) (after : List ℕ) (p : MovePost from file before r after) (is : r.answer ≡ Finished) where
+module _ (from : ShiftForm) (file before : List ℕ) (r : ShiftWritten) (after : List ℕ) (p : MovePost from file before r after) (is : r.answer ≡ Ok tt) where
   front : (take r.size after ≡ moved_file from file) × (drop r.size after ≡ drop r.size before)
   front =
       let size : r.size ≡ length (moved_file from file) = rw is at p.size in
@@ -134,7 +134,7 @@ twice WithoutSettings = refl
 twice WithSettings = refl
 
 module _ (from : ShiftForm) (file before : List ℕ) (r : ShiftWritten) (after : List ℕ) (bytes : Bytes file) (p : MovePost from file before r after)
-    (is : r.answer ≡ Finished) (before₂ : List ℕ) (r₂ : ShiftWritten) (after₂ : List ℕ)
+    (is : r.answer ≡ Ok tt) (before₂ : List ℕ) (r₂ : ShiftWritten) (after₂ : List ℕ)
     (q : MovePost (other_form from) (take r.size after) before₂ r₂ after₂) (room : length file ≤ length before₂) where
   abbrev rs : List ShiftRecord
   rs = records_in from file
@@ -148,7 +148,7 @@ module _ (from : ShiftForm) (file before : List ℕ) (r : ShiftWritten) (after :
   again : moved_file (other_form from) (take r.size after) ≡ file
   again = rw there (there_and_back from file rs its_file (tests from file before r after p is).1)
 
-  finishes : r₂.answer ≡ Finished
+  finishes : r₂.answer ≡ Ok tt
   finishes =
       let f = its_moved from file before r after p is rs its_file in
       let may : may_move (other_form from) (records_in (other_form from) (take r.size after)) ≡ true = rw (its_records _ _ _ f) (may_return from rs) in
@@ -156,7 +156,7 @@ module _ (from : ShiftForm) (file before : List ℕ) (r : ShiftWritten) (after :
       (answered_by (other_form from) (take r.size after) before₂ r₂ after₂ q
       ∙ rw (is_checked _ _ _ f, may, again, le-ltb (length before₂) (length file) room))
 
-  returned : (r₂.answer ≡ Finished) × (take r₂.size after₂ ≡ file)
+  returned : (r₂.answer ≡ Ok tt) × (take r₂.size after₂ ≡ file)
   returned = (finishes, (front (other_form from) (take r.size after) before₂ r₂ after₂ q finishes).0 ∙ again)
 
 -- ---- a file of one form is none of the other

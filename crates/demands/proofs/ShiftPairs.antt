@@ -6,8 +6,8 @@ use mathlib.Core.List.{List, [], ◌∷◌}
 use mathlib.Core.Logic.{◌↔◌, ◌⊎◌, inl, inr, ⊎_elim}
 use native.Mathlib.Omega.{arith}
 use lib.ListN.{get_or}
-use Rattle.yuv_error.specs.declared.YuvAnswer.{YuvAnswer}
-use Rattle.yuv_error.specs.declared.YuvAnswer.TheVariants.{Finished}
+use Rattle.std.specs.Prelude.{Result, Ok}
+use Rattle.yuv_error.specs.declared.YuvError.{YuvError}
 use Rattle.yuv_error.specs.Numbers.{Numbers, numbers, numbers_of}
 use Rattle.yuv_error.proofs.Numbers.{is_finished}
 use Rattle.little_endian.specs.Number.{Bytes}
@@ -94,7 +94,7 @@ module _ (k : ExportedPairing) (b : Bytes k.ours) (d : Bytes k.theirs) (p : Pair
 
 module _ (our_form : ShiftForm) (ours : List ℕ) (their_form : ShiftForm) (theirs : List ℕ) (r : Pairing) (rs ss : List ShiftRecord)
     (f : IsFileOf our_form ours rs) (g : IsFileOf their_form theirs ss) (p : PairingPost our_form ours their_form theirs r) where
-  finished : r.answer ≡ Finished
+  finished : r.answer ≡ Ok tt
   finished =
       let answered : numbers_of r.answer ≡ numbers 0 0 0 = rw (is_checked our_form ours rs f, is_checked their_form theirs ss g) at p.answered in
       is_finished r.answer (ap (λ (x : Numbers). x.number) answered)
@@ -113,12 +113,12 @@ module _ (our_form their_form : ShiftForm) (k : ExportedPairing) (rs ss : List S
   in_their_forms : PairingPost our_form k.ours their_form k.theirs p.pairing
   in_their_forms = rw (form_of our_form k.ours rs f, form_of their_form k.theirs ss g) at p.paired
 
-  done : p.pairing.answer ≡ Finished
+  done : p.pairing.answer ≡ Ok tt
   done = finished our_form k.ours their_form k.theirs p.pairing rs ss f g in_their_forms
 
   linked_report : k.report' ≡ report_numbers (report_of (record { our_form = our_form; ours = rs; their_form = their_form; theirs = ss }))
   linked_report =
-      p.report ∙ ap (λ (a : YuvAnswer). numbers_after a p.pairing.report k.report) done
+      p.report ∙ ap (λ (a : Result Unit YuvError). numbers_after a p.pairing.report k.report) done
       ∙ ap report_numbers (its_report our_form k.ours their_form k.theirs p.pairing rs ss f g in_their_forms)
 
 pub shift_pairs : ShiftPairs
@@ -140,7 +140,7 @@ shift_pairs = record {
   linked_theirs_broken = linked_theirs;
   linked_untouched = λ k p e. pairing_writes_nothing p (omega arith);
   linked = λ our_form their_form k rs ss f g p. (
-    p.number ∙ ap (λ (a : YuvAnswer). (numbers_of a).number) (done our_form their_form k rs ss f g p),
+    p.number ∙ ap (λ (a : Result Unit YuvError). (numbers_of a).number) (done our_form their_form k rs ss f g p),
     p.told ∙ ap (λ (n : ℕ). n ∷ []) (none_broken our_form k.ours their_form k.theirs p.pairing rs ss f g (in_their_forms our_form their_form k rs ss f g p)),
     linked_report our_form their_form k rs ss f g p,
   );

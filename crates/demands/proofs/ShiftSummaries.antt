@@ -10,8 +10,8 @@ use native.Mathlib.Omega.{arith}
 use lib.Dec.{ltb, leb, eqb}
 use lib.ListN.{length, take, drop, length-append, drop_of_length-le}
 use borrow.Author.Tests.{ltb-true, ltb-false, lt-ltb, leb-true, le-leb, eq-eqb}
-use Rattle.yuv_error.specs.declared.YuvAnswer.{YuvAnswer}
-use Rattle.yuv_error.specs.declared.YuvAnswer.TheVariants.{Finished}
+use Rattle.std.specs.Prelude.{Result, Ok}
+use Rattle.yuv_error.specs.declared.YuvError.{YuvError}
 use Rattle.yuv_error.specs.Numbers.{Numbers, numbers, numbers_of}
 use Rattle.little_endian.specs.Number.{Bytes}
 use Rattle.shift_file.specs.declared.ShiftForm.{ShiftForm}
@@ -134,7 +134,7 @@ module _ (form : ShiftForm) (file added : List ℕ) where
       same = Bytes-append rs r ∙ ap₂ (λ (a b : List ℕ). a ++ b) (sym (after_pairs form rs) ∙ ap (drop (records_at form (length rs))) g.old.same) g.new;
     }
 
-    its_updated : (before : List ℕ) (a : YuvAnswer) (after : List ℕ) → Bytes file → Bytes added → UpdatePost form file added before a after → a ≡ Finished
+    its_updated : (before : List ℕ) (a : Result Unit YuvError) (after : List ℕ) → Bytes file → Bytes added → UpdatePost form file added before a after → a ≡ Ok tt
         → Left form (rs ++ r ∷ []) (13 * (length rs + 1)) before after
     its_updated before a after bf ba p done = rw new_record at (summaries.updated form file added before a after rs g.old bf ba p done).1
 

@@ -12,8 +12,8 @@ use lib.Dec.{ltb, leb}
 use lib.ListN.{length, take, drop, length-append}
 use lib.Seq.{take_at, drop_at}
 use borrow.Author.Tests.{ltb-true, ltb-false, lt-ltb, le-leb, eq-eqb}
-use Rattle.yuv_error.specs.declared.YuvAnswer.{YuvAnswer}
-use Rattle.yuv_error.specs.declared.YuvAnswer.TheVariants.{Finished}
+use Rattle.std.specs.Prelude.{Result, Ok}
+use Rattle.yuv_error.specs.declared.YuvError.{YuvError}
 use Rattle.yuv_error.specs.Numbers.{Numbers, numbers, numbers_of}
 use Rattle.yuv_error.proofs.Numbers.{is_finished}
 use Rattle.shift_file.specs.File.{is_side}
@@ -71,7 +71,7 @@ module _ (file : List ℕ) (first : ℕ) (before : List ℕ) (r : Y4mReading) (a
   read_19 = each_none (by_19 (is_y4m file) (numbers 0 0 0) (some_file file) (λ z. omega arith) (ap (λ (x : Numbers). x.number) p.answered))
 
   module _ (f : Y4mFile) (i : IsFileOf file f) where
-    done : r.answer ≡ Finished
+    done : r.answer ≡ Ok tt
     done = is_finished r.answer (ap (λ (x : Numbers). x.number) p.answered ∙ rw ((some_file file).1 (f, i)))
 
     same : file_in file ≡ f
@@ -195,10 +195,10 @@ module _ (code w h : ℕ) (b before : List ℕ) (r : Y4mWritten) (after : List �
       let t = is_16 (can_write code w h (length b)) (ltb (length before) (length made)) (can_be code w h b ps q) by_tests in
       (λ z. ltb-true (length before) (length made) (t.0 z), λ l. t.1 (lt-ltb (length before) (length made) l))
 
-  module _ (most : length before < 2 ^ 64) (is : r.answer ≡ Finished) where
+  module _ (most : length before < 2 ^ 64) (is : r.answer ≡ Ok tt) where
     tests : (can_write code w h (length b) ≡ true) × (ltb (length before) (length made) ≡ false)
     tests =
-        passed (can_write code w h (length b)) (ltb (length before) (length made)) (ap (λ (a : YuvAnswer). (numbers_of a).number) (sym is) ∙ by_tests)
+        passed (can_write code w h (length b)) (ltb (length before) (length made)) (ap (λ (a : Result Unit YuvError). (numbers_of a).number) (sym is) ∙ by_tests)
 
     short : length made < 2 ^ 64
     short = omega (arith, ltb-false (length before) (length made) tests.1)
@@ -254,11 +254,11 @@ module _ (f : PictureFrame) (y u v : List ℕ) where
         let t = is_16 (picture_allowed f (length y) (length u) (length v)) (ltb (length before) (length picture)) (allowed k) by_both in
         (λ z. ltb-true (length before) (length picture) (t.0 z), λ l. t.1 (lt-ltb (length before) (length picture) l))
 
-    module _ (is : r.answer ≡ Finished) where
+    module _ (is : r.answer ≡ Ok tt) where
       picture_tests : picture_allowed f (length y) (length u) (length v) ≡ true
       picture_tests =
           (passed (picture_allowed f (length y) (length u) (length v)) (ltb (length before) (length picture))
-          (ap (λ (a : YuvAnswer). (numbers_of a).number) (sym is) ∙ by_both)).0
+          (ap (λ (a : Result Unit YuvError). (numbers_of a).number) (sym is) ∙ by_both)).0
 
       picture_front : (take r.size after ≡ picture) × (drop r.size after ≡ drop r.size before)
       picture_front =
@@ -317,7 +317,7 @@ frame_is k f o = λ i. record {
   v_stride = sym o.v_stride i;
 }
 
-module _ (k : FrameCall) (p : FramePost k) (is : k.answer ≡ Finished) where
+module _ (k : FrameCall) (p : FramePost k) (is : k.answer ≡ Ok tt) where
   abbrev d : FrameDescription
   d = k.frame
 

@@ -6,13 +6,12 @@
 -- Counts.antt, `shift_files` of ShiftFiles.antt, `shift_moves` of ShiftMoves.antt, `shift_summaries` of ShiftSummaries.antt, `shift_pairs` of
 -- ShiftPairs.antt, `y4m_files` of Y4mFiles.antt, `convoys` of Convoys.antt and `desks` of Desks.antt.
 -- Assumes nothing.
-use Rattle.std.specs.Prelude.{ℕ, ◌+◌, ◌*◌, ◌-◌, ◌/◌, ◌^◌, ◌≤◌, ◌<◌, min, ◌≡◌, true, false, List, [], ◌∷◌, ◌++◌, ◌↔◌, ◌⊎◌, T, length, get_or, take, drop}
+use Rattle.std.specs.Prelude.{ℕ, ◌+◌, ◌*◌, ◌-◌, ◌/◌, ◌^◌, ◌≤◌, ◌<◌, min, ◌≡◌, true, false, List, [], ◌∷◌, ◌++◌, ◌↔◌, ◌⊎◌, T, length, get_or, take, drop, Result, Ok, Option, None, Some}
 use Rattle.yuv_support.specs.declared.YuvRange.{YuvRange}
 use Rattle.yuv_support.specs.declared.YuvRange.TheVariants.{Limited}
 use Rattle.yuv_support.specs.declared.YuvStandardMatrix.{YuvStandardMatrix}
 use Rattle.yuv_support.specs.Matrix.{accepted}
-use Rattle.yuv_error.specs.declared.YuvAnswer.{YuvAnswer}
-use Rattle.yuv_error.specs.declared.YuvAnswer.TheVariants.{Finished}
+use Rattle.yuv_error.specs.declared.YuvError.{YuvError}
 use Rattle.yuv_error.specs.Numbers.{Numbers, numbers, numbers_of}
 use Rattle.yuv_error.specs.Rules.{Rule, rule, matrix_rules}
 use Rattle.yuv_error.specs.Lowest.{NoneHolds, Lowest}
@@ -31,7 +30,6 @@ use Rattle.band_calls.specs.declared.FrameAnswer.{FrameAnswer}
 use Rattle.band_calls.specs.BandCall.{OpenPost, BandCall, rules_of as band_rules, BandPost, Untouched}
 use Rattle.band_lists.specs.BandLists.{OthersEqual, Fresh, AllMet, Tally, no_rows, tally_of, Accepted, none, call, first_call, last_call, Chained, After}
 use Rattle.band_lists.specs.BandLists as calls
-use Rattle.frame_request.specs.declared.Response.{Response}
 use Rattle.frame_request.specs.Request.{frame_of, source_stride, request_rules, luma_size, output_size, answer_at, response_numbers, RequestPost}
 use Rattle.frame_request.specs.Reply.{first_bytes, refusal_line, reply as reply_to, Begins}
 use Rattle.frame_calls.specs.Calls.{ExportedFrame, rules_of_frame, FrameKept}
@@ -102,15 +100,14 @@ use Rattle.y4m_calls.specs.Calls.{ExportedY4mPicture, frame_of_picture, rules_of
 use Rattle.frame_calls.specs.Lists.{answer_told}
 use Rattle.buffer_parts.specs.Parts.{part_of, TestsAreExact}
 use Rattle.convoy_parts.specs.declared.ConvoyFrame.{ConvoyFrame}
-use Rattle.convoy_parts.specs.Parts.{frame_at, frames_of, Broken, BrokenIsExact}
+use Rattle.convoy_parts.specs.Parts.{frame_at, Broken, BrokenIsExact}
 use Rattle.convoy.specs.declared.ConvoyAnswer.{ConvoyAnswer}
 use Rattle.convoy.specs.Run.{planes_of as three_planes, parts_of, Run, ConvoyCall, ConvoyPost}
 use Rattle.convoy.specs.Turn.{turn_rules, convoy_rules}
 use Rattle.convoy.specs.Alone.{Unwritten as ConvoyUnwritten, AsAlone, OneOutcome}
-use Rattle.convoy_calls.specs.Numbers.{numbers_at, custom_at, frame_of as convoy_frame}
+use Rattle.convoy_calls.specs.Numbers.{numbers_at, custom_at, frame_of as convoy_frame, convoy_of}
 use Rattle.convoy_calls.specs.Calls.{ExportedConvoy, convoy_with, ConvoyKept}
-use Rattle.desk_places.specs.declared.Next.{Next}
-use Rattle.desk_places.specs.declared.Next.TheVariants.{NoneWaiting, Turn}
+use Rattle.desk_places.specs.declared.Turn.{Turn}
 use Rattle.desk_places.specs.Places.{next_waiting}
 use Rattle.desk_places.specs.Means.{TestsAreExact as DeskTestsAreExact, TurnIsExact}
 use Rattle.desk_bands.specs.Buffers.{Buffers, serve_rules}
@@ -147,9 +144,9 @@ abbrev pub as_convoy : ExportedConvoy → ConvoyCall
 as_convoy k = convoy_with k (record { answer = answer_told k.number k.told; done = done_told k.told })
 
 -- RULES 16.4: the rules of a step are those of the band whose turn it is, and none where no band waits
-abbrev pub turn_rules_of : Next → (lent : Buffers) → List Rule
-turn_rules_of NoneWaiting lent = []
-turn_rules_of (Turn c f b) lent = serve_rules f b lent
+abbrev pub turn_rules_of : Option Turn → (lent : Buffers) → List Rule
+turn_rules_of None lent = []
+turn_rules_of (Some t) lent = serve_rules t.frame t.band lent
 
 -- RULES 16.4
 abbrev pub step_rules : StepCall → List Rule
@@ -163,7 +160,7 @@ pub record Demand1 : Type 0 where
   pub frame : (k : FrameCall) → FramePost k → Answered (frame_rules k) (numbers_of k.answer) (Unwritten k)
   pub opening : (d : FrameDescription) (r : FrameAnswer) → OpenPost d r → Lowest (opening_rules d) (numbers_of r.answer)
   pub band : (k : BandCall) → BandPost k → Answered (band_rules k) (numbers_of k.result.answer) (Untouched k)
-  pub counts : (range : YuvRange) (matrix : YuvStandardMatrix) (before : List ℕ) (a : YuvAnswer) (after : List ℕ) → CountsPost range matrix before a after
+  pub counts : (range : YuvRange) (matrix : YuvStandardMatrix) (before : List ℕ) (a : Result Unit YuvError) (after : List ℕ) → CountsPost range matrix before a after
       → Answered (matrix_rules matrix) (numbers_of a) (after ≡ before)
   pub shift_reading : (kind : EntryKind) (form : ShiftForm) (file : List ℕ) (first : ℕ) (before : List ℕ) (r : ShiftReading) (after : List ℕ)
       → ReadPost kind form file first before r after → Answered (file_rules form file) (numbers_of r.answer) (after ≡ before)
@@ -173,14 +170,14 @@ pub record Demand1 : Type 0 where
       → Answered (record_rules f y u v (length before)) (numbers_of r.answer) (after ≡ before)
   pub shift_moving : (from : ShiftForm) (file before : List ℕ) (r : ShiftWritten) (after : List ℕ) → MovePost from file before r after
       → Answered (move_rules from file (length before)) (numbers_of r.answer) (after ≡ before)
-  pub summary_build : (form : ShiftForm) (file before : List ℕ) (a : YuvAnswer) (after : List ℕ) → BuildPost form file before a after
+  pub summary_build : (form : ShiftForm) (file before : List ℕ) (a : Result Unit YuvError) (after : List ℕ) → BuildPost form file before a after
       → Answered (build_rules form file (length before)) (numbers_of a) (after ≡ before)
   -- these two are lent nothing to write in: refused, the one says no and the other finds nothing
   pub summary_check : (form : ShiftForm) (file summary : List ℕ) (r : SummaryVerdict) → CheckPost form file summary r
       → Lowest (file_rules form file) (numbers_of r.answer) × (1 ≤ (numbers_of r.answer).number → r.is_summary ≡ false)
   pub summary_find : (form : ShiftForm) (file summary : List ℕ) (crossing : ℕ) (r : SummaryFinding) → FindPost form file summary crossing r
       → Lowest (find_rules form file summary) (numbers_of r.answer) × (1 ≤ (numbers_of r.answer).number → r.found ≡ Nowhere)
-  pub summary_update : (form : ShiftForm) (file added before : List ℕ) (a : YuvAnswer) (after : List ℕ) → UpdatePost form file added before a after
+  pub summary_update : (form : ShiftForm) (file added before : List ℕ) (a : Result Unit YuvError) (after : List ℕ) → UpdatePost form file added before a after
       → Answered (update_rules form file added before) (numbers_of a) (after ≡ before)
   pub shift_pairing : (our_form : ShiftForm) (ours : List ℕ) (their_form : ShiftForm) (theirs : List ℕ) (r : Pairing)
       → PairingPost our_form ours their_form theirs r → Lowest (pairing_rules our_form ours their_form theirs) (numbers_of r.answer)
@@ -197,7 +194,7 @@ pub record Demand1 : Type 0 where
   pub desk_opening : (k : OpenCall) → DeskOpenPost k → Answered (desk_open_rules k) (numbers_of k.result.answer) (k.result.desk ≡ k.desk)
   pub desk_offer : (k : OfferCall) → OfferPost k → Answered (offer_rules k) (numbers_of k.result.answer) (k.result.desk ≡ k.desk)
   pub desk_step : (k : StepCall) → StepPost k → Answered (step_rules k) (served_numbers k.result.served) (k.left ≡ k.lent)
-  pub request : (input output : List ℕ) (response : Response) (output' : List ℕ) → RequestPost input output response output'
+  pub request : (input output : List ℕ) (response : Result ℕ YuvError) (output' : List ℕ) → RequestPost input output response output'
       → Answered (request_rules input) (response_numbers response) (output' ≡ output)
   -- and what the program writes for it: the planes where no condition holds, or the line of the first number whose condition holds
   pub reply : (input output : List ℕ) (n : ℕ) (output' : List ℕ) → Begins (reply_to input) output n output' → Replied input (take n output')
@@ -277,7 +274,7 @@ pub record FrameBytes (k : FrameCall) : Type 0 where
 -- RULES 2.4, 2.5, 3.4, 3.5, 7.8
 pub record Demand2 : Type 0 where
   -- every such frame is answered with finished work, and no other is
-  pub finished : (k : FrameCall) → FramePost k → (k.answer ≡ Finished) ↔ WholeFrame k
+  pub finished : (k : FrameCall) → FramePost k → (k.answer ≡ Ok tt) ↔ WholeFrame k
   pub planes : (k : FrameCall) → FramePost k → WholeFrame k → FrameBytes k
   pub linear : (t : SharpYuvGammaTransfer) (r : TableRounding) (v n : ℕ) → v < 256
       → T (under_curve (curve_of t) (place r 65535 n) (v over 255)) ↔ n ≤ linear_entry t r v
@@ -297,7 +294,7 @@ pub record Demand3 : Type 0 where
       × RefusedKept bands
   -- and their accepted frame calls are among the frame calls that it speaks of
   pub linked_frames : (k : ExportedFrame) → FrameKept k → k.number ≡ 0
-      → ((as_frame k).answer ≡ Finished) × FramePost (as_frame k)
+      → ((as_frame k).answer ≡ Ok tt) × FramePost (as_frame k)
 
 -- ---- Grey stays grey: where R = G = B in each pixel of the rectangle, every finished chroma byte is 128, and in full range each finished luma byte is
 -- that pixel's grey; in limited range that of black is 16 and that of white 235. For every accepted call, window, transfer, rounding and matrix.
@@ -327,7 +324,7 @@ GreyAnswer d image answer =
 
 -- RULES 6.5
 pub record Grey : Type 0 where
-  pub frames : (k : FrameCall) → FramePost k → k.answer ≡ Finished → GreyFrame k
+  pub frames : (k : FrameCall) → FramePost k → k.answer ≡ Ok tt → GreyFrame k
   -- every list of band calls, under demand 3's proviso
   pub bands : (d : FrameDescription) (opening : FrameAnswer) (calls : List BandCall)
       → Fresh d opening → AllMet calls → Chained opening.state none calls → GreyBands d calls
@@ -336,7 +333,7 @@ pub record Grey : Type 0 where
   pub linked_bands : (o : ExportedOpening) (bands : List ExportedBand) → OpenKept o → o.number ≡ 0 → AllKept bands
       → Chained (opened_state o) none (as_bands bands) → GreyBands (frame_of_opening o) (as_bands bands)
   -- black and white in one frame of limited range, in every accepted matrix
-  pub black_and_white : (k : FrameCall) → FramePost k → k.answer ≡ Finished → k.frame.settings.range ≡ Limited
+  pub black_and_white : (k : FrameCall) → FramePost k → k.answer ≡ Ok tt → k.frame.settings.range ≡ Limited
       → GreyRows k.frame k.frame.height (image_of k) → (r x : ℕ) → r < k.frame.height → x < k.frame.width
       → let v = grey_of k.frame.settings (image_of k r x) in let luma = get_or k.y' (r * k.frame.y_stride + x) 0 in
       (v ≡ 0 → luma ≡ 16) × (v ≡ 255 → luma ≡ 235)
@@ -356,10 +353,10 @@ EachCounted range matrix counts = (y : ℕ) → y < 256 → get_or counts y 0 �
 
 -- RULES 5.3, 10.4
 pub record Counts : Type 0 where
-  pub counted : (range : YuvRange) (matrix : YuvStandardMatrix) (before : List ℕ) (a : YuvAnswer) (after : List ℕ) → CountsPost range matrix before a after
-      → a ≡ Finished → EachCounted range matrix after
-  pub add_up : (range : YuvRange) (matrix : YuvStandardMatrix) (before : List ℕ) (a : YuvAnswer) (after : List ℕ) → CountsPost range matrix before a after
-      → a ≡ Finished → sum_below (λ y. get_or after y 0) 256 ≡ colours
+  pub counted : (range : YuvRange) (matrix : YuvStandardMatrix) (before : List ℕ) (a : Result Unit YuvError) (after : List ℕ) → CountsPost range matrix before a after
+      → a ≡ Ok tt → EachCounted range matrix after
+  pub add_up : (range : YuvRange) (matrix : YuvStandardMatrix) (before : List ℕ) (a : Result Unit YuvError) (after : List ℕ) → CountsPost range matrix before a after
+      → a ≡ Ok tt → sum_below (λ y. get_or after y 0) 256 ≡ colours
   pub linked : (k : ExportedCounts) → CountsKept k → k.number ≡ 0 → EachCounted (range_of_counts k) (matrix_of_counts k) k.counts'
   pub total : Total
   pub every_colour : EveryColour
@@ -429,19 +426,19 @@ pub record ShiftFiles : Type 0 where
   pub write_refused : (form : ShiftForm) (records before : List ℕ) (r : ShiftWritten) (after : List ℕ) → Bytes records
       → WritePost form records before r after → ((numbers_of r.answer).number ≡ 15) ↔ NoRecords form records
   pub written : (form : ShiftForm) (records before : List ℕ) (r : ShiftWritten) (after : List ℕ) (rs : List ShiftRecord)
-      → BackToBack form records rs → WritePost form records before r after → r.answer ≡ Finished
+      → BackToBack form records rs → WritePost form records before r after → r.answer ≡ Ok tt
       → IsFileOf form (take r.size after) rs × (drop r.size after ≡ drop r.size before)
   -- what follows a file's pairs, written, is the file
   pub written_again : (form : ShiftForm) (file before : List ℕ) (r : ShiftWritten) (after : List ℕ) (rs : List ShiftRecord)
-      → IsFileOf form file rs → WritePost form (drop (records_at form (length rs)) file) before r after → r.answer ≡ Finished → take r.size after ≡ file
+      → IsFileOf form file rs → WritePost form (drop (records_at form (length rs)) file) before r after → r.answer ≡ Ok tt → take r.size after ≡ file
   -- a record from planes, which has its place in a file
   pub made : (f : RecordFrame) (y u v before : List ℕ) (r : ShiftWritten) (after : List ℕ) → Bytes y → Bytes u → Bytes v → f.crossing < 4294967296
-      → RecordPost f y u v before r after → r.answer ≡ Finished
+      → RecordPost f y u v before r after → r.answer ≡ Ok tt
       → Allowed f.form (record_made f y u v) × (take r.size after ≡ bytes_of (record_made f y u v))
   -- of the planes of a frame: it is made wherever it has room, and its planes are the frame's without padding
-  pub frame_accepted : (k : FrameCall) (f : RecordFrame) (before : List ℕ) (r : ShiftWritten) (after : List ℕ) → FramePost k → k.answer ≡ Finished
-      → OfFrame k f → RecordPost f k.y' k.u' k.v' before r after → record_size f ≤ length before → r.answer ≡ Finished
-  pub frame : (k : FrameCall) (f : RecordFrame) → FramePost k → k.answer ≡ Finished → OfFrame k f → RecordBytes k (record_made f k.y' k.u' k.v')
+  pub frame_accepted : (k : FrameCall) (f : RecordFrame) (before : List ℕ) (r : ShiftWritten) (after : List ℕ) → FramePost k → k.answer ≡ Ok tt
+      → OfFrame k f → RecordPost f k.y' k.u' k.v' before r after → record_size f ≤ length before → r.answer ≡ Ok tt
+  pub frame : (k : FrameCall) (f : RecordFrame) → FramePost k → k.answer ≡ Ok tt → OfFrame k f → RecordBytes k (record_made f k.y' k.u' k.v')
   -- any settings of a frame may be recorded as they are, and say its sampling
   pub frame_codes : (s : YuvSettings) → (codes_allowed WithSettings (codes_of s) ≡ true) × (sampling_of WithSettings (codes_of s) ≡ s.sampling)
 
@@ -475,12 +472,12 @@ pub record ShiftMoves : Type 0 where
       → may_move from rs ≡ true → MovePost from file before r after → ((numbers_of r.answer).number ≡ 16) ↔ (length before < length (moved_file from file))
   -- and otherwise the file of the moved records
   pub moved_there : (from : ShiftForm) (file before : List ℕ) (r : ShiftWritten) (after : List ℕ) (rs : List ShiftRecord) → IsFileOf from file rs
-      → MovePost from file before r after → r.answer ≡ Finished
+      → MovePost from file before r after → r.answer ≡ Ok tt
       → IsFileOf (other_form from) (take r.size after) (moved (other_form from) rs) × (drop r.size after ≡ drop r.size before)
   -- which moved back, wherever there is room, is the same file
   pub moved_back : (from : ShiftForm) (file before : List ℕ) (r : ShiftWritten) (after : List ℕ) → Bytes file → MovePost from file before r after
-      → r.answer ≡ Finished → (before₂ : List ℕ) (r₂ : ShiftWritten) (after₂ : List ℕ) → MovePost (other_form from) (take r.size after) before₂ r₂ after₂
-      → length file ≤ length before₂ → (r₂.answer ≡ Finished) × (take r₂.size after₂ ≡ file)
+      → r.answer ≡ Ok tt → (before₂ : List ℕ) (r₂ : ShiftWritten) (after₂ : List ℕ) → MovePost (other_form from) (take r.size after) before₂ r₂ after₂
+      → length file ≤ length before₂ → (r₂.answer ≡ Ok tt) × (take r₂.size after₂ ≡ file)
   -- a reader of one form answers 15 to a file of the other
   pub other_reader : (kind : EntryKind) (form : ShiftForm) (file : List ℕ) (rs : List ShiftRecord) → IsFileOf form file rs
       → (first : ℕ) (before : List ℕ) (r : ShiftReading) (after : List ℕ) → ReadPost kind (other_form form) file first before r after
@@ -509,12 +506,12 @@ pub record Grows (form : ShiftForm) (file added : List ℕ) (rs : List ShiftReco
 pub record ShiftSummaries : Type 0 where
   pub one_summary : OneSummary
   -- building
-  pub build_refused : (form : ShiftForm) (file before : List ℕ) (a : YuvAnswer) (after : List ℕ) → Bytes file → BuildPost form file before a after
+  pub build_refused : (form : ShiftForm) (file before : List ℕ) (a : Result Unit YuvError) (after : List ℕ) → Bytes file → BuildPost form file before a after
       → ((numbers_of a).number ≡ 15) ↔ NoFile form file
-  pub build_short : (form : ShiftForm) (file before : List ℕ) (a : YuvAnswer) (after : List ℕ) (rs : List ShiftRecord) → IsFileOf form file rs
+  pub build_short : (form : ShiftForm) (file before : List ℕ) (a : Result Unit YuvError) (after : List ℕ) (rs : List ShiftRecord) → IsFileOf form file rs
       → BuildPost form file before a after → ((numbers_of a).number ≡ 17) ↔ (length before < 13 * length rs)
-  pub built : (form : ShiftForm) (file before : List ℕ) (a : YuvAnswer) (after : List ℕ) (rs : List ShiftRecord) → IsFileOf form file rs
-      → BuildPost form file before a after → a ≡ Finished → Left form rs (13 * length rs) before after
+  pub built : (form : ShiftForm) (file before : List ℕ) (a : Result Unit YuvError) (after : List ℕ) (rs : List ShiftRecord) → IsFileOf form file rs
+      → BuildPost form file before a after → a ≡ Ok tt → Left form rs (13 * length rs) before after
   -- checking
   pub check_refused : (form : ShiftForm) (file summary : List ℕ) (r : SummaryVerdict) → Bytes file → CheckPost form file summary r
       → ((numbers_of r.answer).number ≡ 15) ↔ NoFile form file
@@ -526,31 +523,31 @@ pub record ShiftSummaries : Type 0 where
   pub find_mismatch : (form : ShiftForm) (file summary : List ℕ) (crossing : ℕ) (r : SummaryFinding) (rs : List ShiftRecord) → IsFileOf form file rs
       → Bytes summary → FindPost form file summary crossing r → ((numbers_of r.answer).number ≡ 17) ↔ (HasSummary form rs summary → ⊥)
   pub found : (form : ShiftForm) (file summary : List ℕ) (crossing : ℕ) (r : SummaryFinding) (rs : List ShiftRecord) → IsFileOf form file rs
-      → FindPost form file summary crossing r → r.answer ≡ Finished → (k : ℕ) → (r.found ≡ At k) ↔ IsFirst crossing rs k
+      → FindPost form file summary crossing r → r.answer ≡ Ok tt → (k : ℕ) → (r.found ≡ At k) ↔ IsFirst crossing rs k
   -- and it is a part of the file, where the reader tells that it stands
   pub found_part : (form : ShiftForm) (file summary : List ℕ) (crossing : ℕ) (r : SummaryFinding) (rs : List ShiftRecord) (k : ℕ) → IsFileOf form file rs
-      → FindPost form file summary crossing r → r.answer ≡ Finished → r.found ≡ At k
+      → FindPost form file summary crossing r → r.answer ≡ Ok tt → r.found ≡ At k
       → take (length (bytes_of (nth rs k))) (drop (offset_of form rs k) file) ≡ bytes_of (nth rs k)
   pub found_none : (form : ShiftForm) (file summary : List ℕ) (crossing : ℕ) (r : SummaryFinding) (rs : List ShiftRecord) → IsFileOf form file rs
-      → FindPost form file summary crossing r → r.answer ≡ Finished → (r.found ≡ Nowhere) ↔ NoRecordOf crossing rs
+      → FindPost form file summary crossing r → r.answer ≡ Ok tt → (r.found ≡ Nowhere) ↔ NoRecordOf crossing rs
   -- updating
-  pub update_refused : (form : ShiftForm) (file added before : List ℕ) (a : YuvAnswer) (after : List ℕ) → Bytes file → Bytes added
+  pub update_refused : (form : ShiftForm) (file added before : List ℕ) (a : Result Unit YuvError) (after : List ℕ) → Bytes file → Bytes added
       → UpdatePost form file added before a after
       → ((numbers_of a).number ≡ 15) ↔ ((rs : List ShiftRecord) (r : ShiftRecord) → Grows form file added rs r → ⊥)
-  pub update_mismatch : (form : ShiftForm) (file added before : List ℕ) (a : YuvAnswer) (after : List ℕ) (rs : List ShiftRecord) (r : ShiftRecord)
+  pub update_mismatch : (form : ShiftForm) (file added before : List ℕ) (a : Result Unit YuvError) (after : List ℕ) (rs : List ShiftRecord) (r : ShiftRecord)
       → Grows form file added rs r → Bytes before → UpdatePost form file added before a after
       → ((numbers_of a).number ≡ 17) ↔ ((13 * (length rs + 1) ≤ length before) × HasSummary form rs before → ⊥)
-  pub updated : (form : ShiftForm) (file added before : List ℕ) (a : YuvAnswer) (after : List ℕ) (rs : List ShiftRecord) (r : ShiftRecord)
-      → Grows form file added rs r → Bytes file → Bytes added → UpdatePost form file added before a after → a ≡ Finished
+  pub updated : (form : ShiftForm) (file added before : List ℕ) (a : Result Unit YuvError) (after : List ℕ) (rs : List ShiftRecord) (r : ShiftRecord)
+      → Grows form file added rs r → Bytes file → Bytes added → UpdatePost form file added before a after → a ≡ Ok tt
       → Left form (rs ++ r ∷ []) (13 * (length rs + 1)) before after
   -- and the file that the writer makes of the old records and the new one is that of the records that it is a summary of
   pub grown : (form : ShiftForm) (file added before : List ℕ) (w : ShiftWritten) (after : List ℕ) (rs : List ShiftRecord) (r : ShiftRecord)
-      → Grows form file added rs r → WritePost form (drop (records_at form (length rs)) file ++ added) before w after → w.answer ≡ Finished
+      → Grows form file added rs r → WritePost form (drop (records_at form (length rs)) file ++ added) before w after → w.answer ≡ Ok tt
       → IsFileOf form (take w.size after) (rs ++ r ∷ [])
   -- of which a summary built afresh has the same bytes
-  pub afresh : (form : ShiftForm) (file added before : List ℕ) (a : YuvAnswer) (after : List ℕ) (rs : List ShiftRecord) (r : ShiftRecord)
-      → Grows form file added rs r → Bytes file → Bytes added → UpdatePost form file added before a after → a ≡ Finished
-      → (grown before₂ : List ℕ) (b : YuvAnswer) (after₂ : List ℕ) → IsFileOf form grown (rs ++ r ∷ []) → BuildPost form grown before₂ b after₂ → b ≡ Finished
+  pub afresh : (form : ShiftForm) (file added before : List ℕ) (a : Result Unit YuvError) (after : List ℕ) (rs : List ShiftRecord) (r : ShiftRecord)
+      → Grows form file added rs r → Bytes file → Bytes added → UpdatePost form file added before a after → a ≡ Ok tt
+      → (grown before₂ : List ℕ) (b : Result Unit YuvError) (after₂ : List ℕ) → IsFileOf form grown (rs ++ r ∷ []) → BuildPost form grown before₂ b after₂ → b ≡ Ok tt
       → take (13 * (length rs + 1)) after ≡ take (13 * (length rs + 1)) after₂
   -- for who links the library, the same calls in the form that the file has
   pub linked_build : (k : ExportedBuild) (p : BuildKept k) (form : ShiftForm) (rs : List ShiftRecord) → IsFileOf form k.file rs
@@ -584,7 +581,7 @@ pub record ShiftPairs : Type 0 where
       → PairingPost our_form ours their_form theirs r → (r.broken ≡ 2) ↔ (((rs : List ShiftRecord) × IsFileOf our_form ours rs) × NoFile their_form theirs)
   pub reported : (our_form : ShiftForm) (ours : List ℕ) (their_form : ShiftForm) (theirs : List ℕ) (r : Pairing) (rs ss : List ShiftRecord)
       → IsFileOf our_form ours rs → IsFileOf their_form theirs ss → PairingPost our_form ours their_form theirs r
-      → (r.answer ≡ Finished) × (r.report ≡ report_of (record { our_form = our_form; ours = rs; their_form = their_form; theirs = ss }))
+      → (r.answer ≡ Ok tt) × (r.report ≡ report_of (record { our_form = our_form; ours = rs; their_form = their_form; theirs = ss }))
   -- for who links the library: the same, and then the report is as it was
   pub linked_refused : (k : ExportedPairing) → Bytes k.ours → Bytes k.theirs → PairingKept k
       → (k.number ≡ 15) ↔ (NoFile (form_in k.ours) k.ours ⊎ NoFile (form_in k.theirs) k.theirs)
@@ -674,7 +671,7 @@ pub record PictureWritten (code w h : ℕ) (k : PictureCall) : Type 0 where
   pub width : k.frame.width ≡ w
   pub height : k.frame.height ≡ h
   pub met : PicturePost k.frame k.y k.u k.v k.output k.result k.output'
-  pub finished : k.result.answer ≡ Finished
+  pub finished : k.result.answer ≡ Ok tt
 
 -- RULES 14.7
 abbrev pub AllWritten : (code w h : ℕ) → List PictureCall → Type 0
@@ -719,7 +716,7 @@ pub record Y4mFiles : Type 0 where
   pub refused : (file : List ℕ) (first : ℕ) (before : List ℕ) (r : Y4mReading) (after : List ℕ) → Y4mReadPost file first before r after
       → ((numbers_of r.answer).number ≡ 19) ↔ NoY4m file
   pub read : (file : List ℕ) (first : ℕ) (before : List ℕ) (r : Y4mReading) (after : List ℕ) → Y4mReadPost file first before r after
-      → (f : Y4mFile) → IsY4mOf file f → (r.answer ≡ Finished) × Y4mTold file f first before r after
+      → (f : Y4mFile) → IsY4mOf file f → (r.answer ≡ Ok tt) × Y4mTold file f first before r after
   -- of writing: 19, then 16, which tells the size, and otherwise the file of these planes. No buffer has 2^64 bytes.
   pub write_refused : (code w h : ℕ) (pictures before : List ℕ) (r : Y4mWritten) (after : List ℕ) → Y4mWritePost code w h pictures before r after
       → ((numbers_of r.answer).number ≡ 19) ↔ NoPictures code w h pictures
@@ -730,14 +727,14 @@ pub record Y4mFiles : Type 0 where
       → ((numbers_of r.answer).number ≡ 16 → r.size ≡ in_word (length (y4m_made code w h pictures)))
       × ((numbers_of r.answer).number ≡ 19 → r.size ≡ 0)
   pub written : (code w h : ℕ) (pictures before : List ℕ) (r : Y4mWritten) (after : List ℕ) → Y4mWritePost code w h pictures before r after
-      → length before < 2 ^ 64 → r.answer ≡ Finished
+      → length before < 2 ^ 64 → r.answer ≡ Ok tt
       → (take r.size after ≡ y4m_made code w h pictures) × ((f : Y4mFile) × Y4mOf code w h pictures (take r.size after) f)
       × (drop r.size after ≡ drop r.size before)
   -- read back, it tells the sides, the sampling and the planes that were given
   pub written_read : (code w h : ℕ) (pictures before : List ℕ) (r : Y4mWritten) (after : List ℕ) → Y4mWritePost code w h pictures before r after
-      → length before < 2 ^ 64 → r.answer ≡ Finished
+      → length before < 2 ^ 64 → r.answer ≡ Ok tt
       → (first : ℕ) (before₂ : List ℕ) (r₂ : Y4mReading) (after₂ : List ℕ) → Y4mReadPost (take r.size after) first before₂ r₂ after₂
-      → (r₂.answer ≡ Finished)
+      → (r₂.answer ≡ Ok tt)
       × ((f : Y4mFile) × Y4mOf code w h pictures (take r.size after) f × Y4mTold (take r.size after) f first before₂ r₂ after₂)
   -- of one picture: the same
   pub picture_refused : (f : PictureFrame) (y u v before : List ℕ) (r : Y4mWritten) (after : List ℕ) → PicturePost f y u v before r after
@@ -748,16 +745,16 @@ pub record Y4mFiles : Type 0 where
       → ((numbers_of r.answer).number ≡ 16 → r.size ≡ length (picture_bytes (picture_made f y u v)))
       × ((numbers_of r.answer).number ≡ 19 → r.size ≡ 0)
   pub picture_written : (f : PictureFrame) (y u v before : List ℕ) (r : Y4mWritten) (after : List ℕ) → PicturePost f y u v before r after
-      → r.answer ≡ Finished
+      → r.answer ≡ Ok tt
       → (take r.size after ≡ picture_bytes (picture_made f y u v)) × (drop r.size after ≡ drop r.size before)
   -- a file, of no picture too, and pictures written after it one by one
   pub one_by_one : (code w h : ℕ) (pictures before : List ℕ) (r : Y4mWritten) (after : List ℕ) → Y4mWritePost code w h pictures before r after
-      → length before < 2 ^ 64 → r.answer ≡ Finished → (ks : List PictureCall) → AllWritten code w h ks
+      → length before < 2 ^ 64 → r.answer ≡ Ok tt → (ks : List PictureCall) → AllWritten code w h ks
       → (f : Y4mFile) × Y4mOf code w h (pictures ++ planes_given ks) (take r.size after ++ bytes_written ks) f
   -- of the planes of a frame: a picture is made wherever it has room, and its planes are the frame's without padding
-  pub frame_whole : (k : FrameCall) (f : PictureFrame) → FramePost k → k.answer ≡ Finished → PictureOfFrame k f
+  pub frame_whole : (k : FrameCall) (f : PictureFrame) → FramePost k → k.answer ≡ Ok tt → PictureOfFrame k f
       → WholePicture f k.y' k.u' k.v'
-  pub frame : (k : FrameCall) (f : PictureFrame) → FramePost k → k.answer ≡ Finished → PictureOfFrame k f
+  pub frame : (k : FrameCall) (f : PictureFrame) → FramePost k → k.answer ≡ Ok tt → PictureOfFrame k f
       → let p = picture_made f k.y' k.u' k.v' in PlaneBytes k p.y p.u p.v
   -- for who links the library: the number and what is told say the same
   pub linked_refused : (k : ExportedY4mReading) → Y4mReadingKept k → (k.number ≡ 19) ↔ NoY4m k.file
@@ -767,11 +764,11 @@ pub record Y4mFiles : Type 0 where
   pub linked_write_refused : (k : ExportedY4mWriting) → Y4mWritingKept k
       → (k.number ≡ 19) ↔ NoPictures (sampling_given k.numbers) (width_given k.numbers) (height_given k.numbers) k.pictures
   pub linked_written : (k : ExportedY4mWriting) (p : Y4mWritingKept k) → k.number ≡ 0
-      → (p.written.answer ≡ Finished) × (k.told ≡ p.written.size ∷ [])
+      → (p.written.answer ≡ Ok tt) × (k.told ≡ p.written.size ∷ [])
   pub linked_picture_refused : (k : ExportedY4mPicture) → Y4mPictureKept k
       → (k.number ≡ 19) ↔ (WholePicture (frame_of_picture k.numbers) k.y k.u k.v → ⊥)
   pub linked_picture_written : (k : ExportedY4mPicture) (p : Y4mPictureKept k) → k.number ≡ 0
-      → (p.written.answer ≡ Finished) × (k.told ≡ p.written.size ∷ [])
+      → (p.written.answer ≡ Ok tt) × (k.told ≡ p.written.size ∷ [])
 
 -- ---- A convoy: up to 64 frames in one call. 18 is answered, before any frame is begun, exactly where there are more, a part reaches outside its
 -- buffer, or plane parts of two frames overlap. Otherwise the effect is that of single calls in order, up to the first that is refused: its place
@@ -801,24 +798,29 @@ pub record Convoys : Type 0 where
       → (numbers_of k.result.answer ≡ numbers 18 0 0) × (k.result.done ≡ 0) × (k.after ≡ k.before)
   -- otherwise single calls in order, which have one outcome; and each frame is as if its call were the only one
   pub in_order : (k : ConvoyCall) → ConvoyPost k → (IsBroken k → ⊥)
-      → Run k.source (frames_of k.convoy) k.before k.result.answer k.result.done k.after
+      → Run k.source k.convoy k.before k.result.answer k.result.done k.after
   pub one_outcome : OneOutcome
   pub each_alone : (k : ConvoyCall) → ConvoyPost k → (IsBroken k → ⊥) → AsAlone k
   -- of no frame before the place that is told does a condition hold, and of that frame the refusal is the first that does
   pub first_refused : (k : ConvoyCall) → ConvoyPost k → (IsBroken k → ⊥) → 1 ≤ (numbers_of k.result.answer).number
-      → (k.result.done < k.convoy.count) × Lowest (turn_rules (frame_at k.convoy k.result.done)) (numbers_of k.result.answer)
+      → (k.result.done < length k.convoy) × Lowest (turn_rules (frame_at k.convoy k.result.done)) (numbers_of k.result.answer)
       × ((j : ℕ) → j < k.result.done → NoneHolds (turn_rules (frame_at k.convoy j)))
   -- where none has one, all are finished; and no frame at all is finished work
   pub accepted : (k : ConvoyCall) → ConvoyPost k → (IsBroken k → ⊥)
-      → ((j : ℕ) → j < k.convoy.count → NoneHolds (turn_rules (frame_at k.convoy j)))
-      → (k.result.answer ≡ Finished) × (k.result.done ≡ k.convoy.count)
-  pub no_frames : (k : ConvoyCall) → ConvoyPost k → k.convoy.count ≡ 0
-      → (k.result.answer ≡ Finished) × (k.result.done ≡ 0) × (k.after ≡ k.before)
+      → ((j : ℕ) → j < length k.convoy → NoneHolds (turn_rules (frame_at k.convoy j)))
+      → (k.result.answer ≡ Ok tt) × (k.result.done ≡ length k.convoy)
+  pub no_frames : (k : ConvoyCall) → ConvoyPost k → length k.convoy ≡ 0
+      → (k.result.answer ≡ Ok tt) × (k.result.done ≡ 0) × (k.after ≡ k.before)
   -- for who links the library: the number and what is told are those of such a call
   pub linked : (k : ExportedConvoy) → ConvoyKept k
       → ConvoyPost (as_convoy k) × (numbers_of (as_convoy k).result.answer ≡ numbers_told k.number k.told)
-  pub linked_frame : (k : ExportedConvoy) (j : ℕ) → j < 64
+  pub linked_count : (k : ExportedConvoy) → length (as_convoy k).convoy ≡ k.count
+  pub linked_frame : (k : ExportedConvoy) (j : ℕ) → j < k.count
       → frame_at (as_convoy k).convoy j ≡ convoy_frame k.numbers k.customs k.parts j
+  -- and so for all 64 frames that the numbers have room for, given or not, of which the convoy is the first ones
+  pub linked_room : (k : ExportedConvoy) (j : ℕ) → j < 64
+      → frame_at (convoy_of 64 k.numbers k.customs k.parts) j ≡ convoy_frame k.numbers k.customs k.parts j
+  pub linked_first : (k : ExportedConvoy) → k.count ≤ 64 → take k.count (convoy_of 64 k.numbers k.customs k.parts) ≡ (as_convoy k).convoy
   -- a finished frame has the planes that `segvartin_call_frame` leaves, and the refused one its answer
   pub linked_finished : (k : ExportedConvoy) → ConvoyKept k → (IsBroken (as_convoy k) → ⊥) → (j : ℕ) → j < done_told k.told
       → (e : ExportedFrame) → FrameKept e → SingleOf k j e

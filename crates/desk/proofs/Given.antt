@@ -1,7 +1,7 @@
 -- What an opening and an offer that were not refused were given.
 -- Assumes nothing.
-use Prim.Native.Nat.{ℕ, ◌<◌}
-use mathlib.Core.Path.{◌≡◌, refl, sym, ◌∙◌}
+use Prim.Native.Nat.{◌<◌}
+use mathlib.Core.Path.{◌≡◌, refl}
 use mathlib.Core.Bool.{true, false, not, true≢false}
 use mathlib.Core.List.{◌++◌}
 use native.Mathlib.Omega.{arith}

@@ -1,4 +1,3 @@
 -- Laws of the desk's calls.
 pub mod Given
-pub mod Post
 pub mod Right

@@ -4,33 +4,30 @@ use Prim.Native.Nat.{ℕ}
 use mathlib.Core.Path.{◌≡◌, refl, sym, ap, ◌∙◌}
 use mathlib.Core.Bool.{true, true≢false}
 use Rattle.yuv_error.specs.declared.YuvError.{YuvError}
-use Rattle.yuv_error.specs.declared.YuvAnswer.{YuvAnswer}
-use Rattle.yuv_error.specs.declared.YuvAnswer.TheVariants.{Finished, Refused}
-use Rattle.desk_places.specs.declared.Next.{Next}
-use Rattle.desk_places.specs.declared.Next.TheVariants.{NoneWaiting, Turn}
+use Rattle.std.specs.Prelude.{Result, Ok, Err, Option, None, Some}
+use Rattle.desk_places.specs.declared.Turn.{Turn}
 use Rattle.desk_places.specs.Places.{next_waiting}
 use Rattle.desk_bands.proofs.Right.{served_right}
-use Rattle.desk.specs.declared.Served.TheVariants.{Camera}
-use Rattle.desk.specs.DeskCall.{StepCall, Stepped}
+use Rattle.desk.specs.DeskCall.{StepCall, Stepped, served_by}
 use Rattle.desk.specs.Told.{Tells, none_converted, StepsAreRight}
 
-tells : (n : Next) (k : StepCall) → Stepped n k → Tells n k
-tells NoneWaiting k s = s.served
-tells (Turn c f b) k s = record {
+tells : (n : Option Turn) (k : StepCall) → Stepped n k → Tells n k
+tells None k s = s.served
+tells (Some t) k s = record {
   answer = s.call.answer;
   served = s.served;
-  answered = (served_right f b k.lent s.call k.left s.met).answered;
+  answered = (served_right t.frame t.band k.lent s.call k.left s.met).answered;
 }
 
-is_refused : (c : ℕ) (a : YuvAnswer) → none_converted (Camera c a) ≡ true → (e : YuvError) × (a ≡ Refused e)
-is_refused c Finished none = absurd (true≢false (sym none))
-is_refused c (Refused e) none = (e, refl)
+is_refused : (c : ℕ) (a : Result Unit YuvError) → none_converted (served_by c a) ≡ true → (e : YuvError) × (a ≡ Err e)
+is_refused c (Ok done) none = absurd (true≢false (sym none))
+is_refused c (Err e) none = (e, refl)
 
-unwritten : (n : Next) (k : StepCall) → Stepped n k → none_converted k.result.served ≡ true → k.left ≡ k.lent
-unwritten NoneWaiting k s none = s.buffers
-unwritten (Turn c f b) k s none =
-    let r = is_refused c s.call.answer (sym (ap none_converted s.served) ∙ none) in
-    ((served_right f b k.lent s.call k.left s.met).refused {e = r.0} r.1).1
+unwritten : (n : Option Turn) (k : StepCall) → Stepped n k → none_converted k.result.served ≡ true → k.left ≡ k.lent
+unwritten None k s none = s.buffers
+unwritten (Some t) k s none =
+    let r = is_refused t.camera s.call.answer (sym (ap none_converted s.served) ∙ none) in
+    ((served_right t.frame t.band k.lent s.call k.left s.met).refused {e = r.0} r.1).1
 
 pub steps_are_right : StepsAreRight
 steps_are_right = record {

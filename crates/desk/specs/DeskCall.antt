@@ -1,8 +1,7 @@
 -- An opening, an offer and a step: what they are given, answer and leave. docs/RULES.md, 16.1 to 16.4.
 -- Assumes nothing.
-use Rattle.std.specs.Prelude.{ℕ, ◌+◌, ◌%◌, ◌≡◌, not, List, [], ◌∷◌, ◌++◌, ltb}
-use Rattle.yuv_error.specs.declared.YuvAnswer.{YuvAnswer}
-use Rattle.yuv_error.specs.declared.YuvAnswer.TheVariants.{Finished, Refused}
+use Rattle.std.specs.Prelude.{ℕ, ◌+◌, ◌%◌, ◌≡◌, not, List, [], ◌∷◌, ◌++◌, ltb, Result, Ok, Err, Option, None, Some}
+use Rattle.yuv_error.specs.declared.YuvError.{YuvError}
 use Rattle.yuv_error.specs.Numbers.{numbers_of}
 use Rattle.yuv_error.specs.Rules.{Rule, rule, first_numbers}
 use Rattle.yuv_error.specs.Lent.{opening_rules}
@@ -17,16 +16,30 @@ use Rattle.desk_places.specs.declared.OpenFrame.{OpenFrame}
 use Rattle.desk_places.specs.declared.WaitingBand.{WaitingBand}
 use Rattle.desk_places.specs.declared.Slot.{Slot}
 use Rattle.desk_places.specs.declared.Slot.TheVariants.{Idle}
-use Rattle.desk_places.specs.declared.Place.{Place}
-use Rattle.desk_places.specs.declared.Next.{Next}
-use Rattle.desk_places.specs.declared.Next.TheVariants.{NoneWaiting, Turn}
+use Rattle.desk_places.specs.declared.Turn.{Turn}
 use Rattle.desk_places.specs.Places.{slot_in, with_slot, no_frames, is_open, is_waiting, are_inside, overlaps_open, offered, next_waiting, after_band}
 use Rattle.desk.specs.declared.Desk.{Desk}
-use Rattle.desk.specs.declared.DeskAnswer.{DeskAnswer}
 use Rattle.desk.specs.declared.Served.{Served}
-use Rattle.desk.specs.declared.Served.TheVariants.{Nobody, Camera}
-use Rattle.desk.specs.declared.StepAnswer.{StepAnswer}
 use Rattle.desk_bands.specs.Buffers.{Buffers, ServePost}
+
+-- RULES 16.2, 16.3: what an opening or an offer hands back: the desk as it left it, and its answer
+pub record DeskAnswer : Type 0 where
+  pub desk : Desk
+  pub answer : Result Unit YuvError
+
+abbrev pub desk_answer : Desk → Result Unit YuvError → DeskAnswer
+desk_answer d a = record { desk = d; answer = a }
+
+-- RULES 16.4: what a step hands back: the desk as it left it, and whose band it served, if one waited, with what became of it
+pub record StepAnswer : Type 0 where
+  pub desk : Desk
+  pub served : Option Served
+
+abbrev pub step_result : Desk → Option Served → StepAnswer
+step_result d s = record { desk = d; served = s }
+
+abbrev pub served_by : (c : ℕ) → Result Unit YuvError → Option Served
+served_by c a = Some (record { camera = c; answer = a })
 
 -- RULES 16.1: no frame is open, and camera 0 is asked first
 abbrev pub fresh : Desk
@@ -41,18 +54,18 @@ abbrev pub put_slot : Desk → ℕ → Slot → Desk
 put_slot d c s = record { places = with_slot d.places c s; from = d.from }
 
 -- RULES 16.2, 16.3: the desk that an accepted call leaves; a refused one hands it back as it is
-abbrev pub left_by : YuvAnswer → (accepted as_it_was : Desk) → Desk
-left_by Finished e d = e
-left_by (Refused x) e d = d
+abbrev pub left_by : Result Unit YuvError → (accepted as_it_was : Desk) → Desk
+left_by (Ok done) e d = e
+left_by (Err x) e d = d
 
 -- ---- an opening
 
 -- RULES 16.2: 21, the number is above 31; 23, it has a frame
-abbrev pub number_rules : List Place → (camera : ℕ) → List Rule
+abbrev pub number_rules : List Slot → (camera : ℕ) → List Rule
 number_rules ps c = rule 21 (ltb 31 c) 0 0 ∷ rule 23 (is_open (slot_in ps c)) 0 0 ∷ []
 
 -- RULES 16.2: 18, a part reaches outside its buffer, or overlaps an open frame's part of that buffer
-abbrev pub part_rules : List Place → FrameParts → BufferLengths → List Rule
+abbrev pub part_rules : List Slot → FrameParts → BufferLengths → List Rule
 part_rules ps w n = rule 18 (not (are_inside w n)) 0 0 ∷ rule 18 (overlaps_open ps w 32) 0 0 ∷ []
 
 -- RULES 16.2: what an opening was given, and what it handed back
@@ -83,7 +96,7 @@ pub record OpenPost (k : OpenCall) : Type 0 where
 -- ---- an offer
 
 -- RULES 16.3: 21, the number is above 31 or has no frame; 22, a band of it waits
-abbrev pub waiting_rules : List Place → (camera : ℕ) → List Rule
+abbrev pub waiting_rules : List Slot → (camera : ℕ) → List Rule
 waiting_rules ps c =
     let s = slot_in ps c in
     rule 21 (ltb 31 c) 0 0 ∷ rule 21 (not (is_open s)) 0 0 ∷ rule 22 (is_waiting s) 0 0 ∷ []
@@ -130,7 +143,7 @@ served_desk d c f s = record { places = with_slot d.places c (after_band f s); f
 
 -- RULES 16.4: with nobody waiting a step does nothing
 pub record NothingDone (k : StepCall) : Type 0 where
-  pub served : k.result.served ≡ Nobody
+  pub served : k.result.served ≡ None
   pub desk : k.result.desk ≡ k.desk
   pub buffers : k.left ≡ k.lent
 
@@ -138,13 +151,13 @@ pub record NothingDone (k : StepCall) : Type 0 where
 pub record BandServed (k : StepCall) (c : ℕ) (f : OpenFrame) (b : WaitingBand) : Type 0 where
   pub call : FrameAnswer
   pub met : ServePost f b k.lent call k.left
-  pub served : k.result.served ≡ Camera c call.answer
+  pub served : k.result.served ≡ served_by c call.answer
   pub desk : k.result.desk ≡ served_desk k.desk c f call.state
 
 -- RULES 16.4
-abbrev pub Stepped : Next → StepCall → Type 0
-Stepped NoneWaiting k = NothingDone k
-Stepped (Turn c f b) k = BandServed k c f b
+abbrev pub Stepped : Option Turn → StepCall → Type 0
+Stepped None k = NothingDone k
+Stepped (Some t) k = BandServed k t.camera t.frame t.band
 
 -- RULES 16.4: the next waiting camera after the one last served, going round
 abbrev pub StepPost : StepCall → Type 0

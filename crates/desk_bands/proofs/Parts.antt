@@ -8,7 +8,7 @@ use native.Mathlib.Omega.{arith}
 use borrow.Rule.Slice.PartMut.{mid_of, put_mid}
 use lib.ListN.{length, take, drop}
 use Rattle.yuv_error.specs.declared.YuvError.TheVariants.{PartsMismatch}
-use Rattle.yuv_error.specs.declared.YuvAnswer.TheVariants.{Refused}
+use Rattle.std.specs.Prelude.{Err}
 use Rattle.band_calls.specs.declared.FrameAnswer.{FrameAnswer}
 use Rattle.band_calls.specs.BandCall.{BandCall, band_call, BandPost}
 use Rattle.buffer_parts.specs.declared.BufferPart.{BufferPart}
@@ -20,16 +20,9 @@ use Rattle.desk_places.specs.declared.BufferLengths.{BufferLengths}
 use Rattle.desk_places.specs.declared.OpenFrame.{OpenFrame}
 use Rattle.desk_places.specs.declared.WaitingBand.{WaitingBand}
 use Rattle.desk_places.specs.Places.{are_inside}
-use Rattle.desk_bands.specs.Buffers.{Buffers, buffers_of, lengths_of, are_lent, band_call_in, Converted, ServePost}
+use Rattle.desk_bands.specs.Buffers.{Buffers, buffers_of, lengths_of, are_lent, AllInside, band_call_in, Converted, ServePost}
 
 -- every part lies in its buffer
-pub record AllInside (f : OpenFrame) (b : WaitingBand) (p : Buffers) : Type 0 where
-  pub source : Inside b.source (length p.source)
-  pub y : Inside f.parts.y (length p.y)
-  pub u : Inside f.parts.u (length p.u)
-  pub v : Inside f.parts.v (length p.v)
-  pub carried : Inside f.parts.carried (length p.carried)
-
 pub all_inside : (f : OpenFrame) (b : WaitingBand) (p : Buffers) → are_lent f b p ≡ true → AllInside f b p
 all_inside f b p e =
     let w = f.parts in
@@ -47,7 +40,7 @@ all_inside f b p e =
 
 -- ---- the call on the parts, and the buffers with what it left in their place
 
-module _ (f : OpenFrame) (b : WaitingBand) (p : Buffers) (r : FrameAnswer) (y u v carried : List ℕ) (inside : are_lent f b p ≡ true) where
+module _ (f : OpenFrame) (b : WaitingBand) (p : Buffers) (r : FrameAnswer) (y u v carried : List ℕ) (all : AllInside f b p) where
   abbrev w : FrameParts
   w = f.parts
 
@@ -61,7 +54,6 @@ module _ (f : OpenFrame) (b : WaitingBand) (p : Buffers) (r : FrameAnswer) (y u 
       (part_of w.v p.v) (part_of w.carried p.carried) r y u v carried)
       → Converted f b p r with_parts
   converted ys us vs cs post =
-      let all = all_inside f b p inside in
       record {
         met = subst BandPost (λ i. band_call f.state b.rows b.stride (part_of b.source p.source) (part_of w.y p.y)
             (part_of w.u p.u) (part_of w.v p.v) (part_of w.carried p.carried) r
@@ -90,7 +82,7 @@ lent_is p buffer = ap (λ (n : ℕ). take n (drop p.offset buffer)) (part_size p
 size_of : (p : BufferPart) (buffer bytes : List ℕ) → Inside p (length buffer) → length bytes ≡ length (lent_of p buffer) → length bytes ≡ p.length
 size_of p buffer bytes inside e = e ∙ ap length (lent_is p buffer) ∙ part_length p buffer inside
 
-module _ (f : OpenFrame) (b : WaitingBand) (p : Buffers) (r : FrameAnswer) (y u v carried : List ℕ) (inside : are_lent f b p ≡ true)
+module _ (f : OpenFrame) (b : WaitingBand) (p : Buffers) (r : FrameAnswer) (y u v carried : List ℕ) (all : AllInside f b p)
     (ys : length y ≡ length (lent_of f.parts.y p.y)) (us : length u ≡ length (lent_of f.parts.u p.u))
     (vs : length v ≡ length (lent_of f.parts.v p.v)) (cs : length carried ≡ length (lent_of f.parts.carried p.carried)) where
   abbrev x : FrameParts
@@ -98,18 +90,21 @@ module _ (f : OpenFrame) (b : WaitingBand) (p : Buffers) (r : FrameAnswer) (y u 
 
   pub serve_inside : BandPost (band_call f.state b.rows b.stride (lent_of b.source p.source) (lent_of x.y p.y)
       (lent_of x.u p.u) (lent_of x.v p.v) (lent_of x.carried p.carried) r y u v carried)
-      → ServePost f b p r (buffers_of p.source (back_of x.y p.y y) (back_of x.u p.u u) (back_of x.v p.v v)
+      → Converted f b p r (buffers_of p.source (back_of x.y p.y y) (back_of x.u p.u u) (back_of x.v p.v v)
       (back_of x.carried p.carried carried))
   serve_inside post =
-      let all = all_inside f b p inside in
       let on_parts = subst BandPost (λ i. band_call f.state b.rows b.stride (lent_is b.source p.source i) (lent_is x.y p.y i)
       (lent_is x.u p.u i) (lent_is x.v p.v i) (lent_is x.carried p.carried i) r y u v carried) post in
-      let made = converted f b p r y u v carried inside (size_of x.y p.y y all.y ys) (size_of x.u p.u u all.u us)
+      let made = converted f b p r y u v carried all (size_of x.y p.y y all.y ys) (size_of x.u p.u u all.u us)
       (size_of x.v p.v v all.v vs) (size_of x.carried p.carried carried all.carried cs) on_parts in
-      subst (ServePost f b p r) (λ i. buffers_of p.source (sym (put_is x.y p.y y (part_size x.y)) i) (sym (put_is x.u p.u u (part_size x.u)) i)
-      (sym (put_is x.v p.v v (part_size x.v)) i) (sym (put_is x.carried p.carried carried (part_size x.carried)) i)) (rw inside made)
+      subst (Converted f b p r) (λ i. buffers_of p.source (sym (put_is x.y p.y y (part_size x.y)) i) (sym (put_is x.u p.u u (part_size x.u)) i)
+      (sym (put_is x.v p.v v (part_size x.v)) i) (sym (put_is x.carried p.carried carried (part_size x.carried)) i)) made
+
+pub serve_lent : (f : OpenFrame) (b : WaitingBand) (p : Buffers) (r : FrameAnswer) (q : Buffers) → are_lent f b p ≡ true → Converted f b p r q
+    → ServePost f b p r q
+serve_lent f b p r q inside made = rw inside made
 
 -- 18
 pub serve_outside : (f : OpenFrame) (b : WaitingBand) (p : Buffers) → are_lent f b p ≡ false
-    → ServePost f b p (record { state = f.state; answer = Refused PartsMismatch }) p
+    → ServePost f b p (record { state = f.state; answer = Err PartsMismatch }) p
 serve_outside f b p out = rw out (record { answer = refl; buffers = refl })

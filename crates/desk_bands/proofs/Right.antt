@@ -12,7 +12,6 @@ use lib.ListN.{length, get_or}
 use lib.Seq.{ext_get_or}
 use Rattle.yuv_error.specs.declared.YuvError.{YuvError}
 use Rattle.yuv_error.specs.declared.YuvError.TheVariants.{PartsMismatch}
-use Rattle.yuv_error.specs.declared.YuvAnswer.TheVariants.{Refused}
 use Rattle.yuv_error.specs.Numbers.{numbers, numbers_of}
 use Rattle.yuv_error.specs.Rules.{first_numbers}
 use Rattle.yuv_error.specs.Lent.{taken}

@@ -1,15 +1,14 @@
 -- The shared buffers, a frame's parts of them, and a band served from them: docs/RULES.md, 16.1 and 16.4.
 -- Assumes nothing.
-use Rattle.std.specs.Prelude.{ℕ, ◌≡◌, Bool, true, false, not, ◌&&◌, List, ◌∷◌, length}
+use Rattle.std.specs.Prelude.{ℕ, ◌≡◌, Bool, true, false, not, ◌&&◌, List, ◌∷◌, length, Err}
 use Rattle.yuv_error.specs.declared.YuvError.{YuvError}
 use Rattle.yuv_error.specs.declared.YuvError.TheVariants.{PartsMismatch}
-use Rattle.yuv_error.specs.declared.YuvAnswer.TheVariants.{Refused}
 use Rattle.yuv_error.specs.Numbers.{numbers_of}
 use Rattle.yuv_error.specs.Rules.{Rule, rule, first_numbers}
 use Rattle.yuv_error.specs.Lent.{lengths_of as lengths_lent}
 use Rattle.band_calls.specs.declared.FrameAnswer.{FrameAnswer}
 use Rattle.band_calls.specs.BandCall.{band_rules, BandCall, band_call, BandPost}
-use Rattle.buffer_parts.specs.Parts.{is_inside, part_of, Elsewhere}
+use Rattle.buffer_parts.specs.Parts.{Inside, is_inside, part_of, Elsewhere}
 use Rattle.desk_places.specs.declared.FrameParts.{FrameParts}
 use Rattle.desk_places.specs.declared.BufferLengths.{BufferLengths}
 use Rattle.desk_places.specs.declared.OpenFrame.{OpenFrame}
@@ -34,6 +33,14 @@ lengths_of p = record { y = length p.y; u = length p.u; v = length p.v; carried 
 -- RULES 16.4: the band and every part of the frame lie in the buffers now lent
 abbrev pub are_lent : OpenFrame → WaitingBand → Buffers → Bool
 are_lent f b p = is_inside b.source (length p.source) && are_inside f.parts (lengths_of p)
+
+-- RULES 16.4: the same as facts
+pub record AllInside (f : OpenFrame) (b : WaitingBand) (p : Buffers) : Type 0 where
+  pub source : Inside b.source (length p.source)
+  pub y : Inside f.parts.y (length p.y)
+  pub u : Inside f.parts.u (length p.u)
+  pub v : Inside f.parts.v (length p.v)
+  pub carried : Inside f.parts.carried (length p.carried)
 
 -- RULES 16.1: a frame's planes and its carried row, as they stand in the buffers
 pub record FramePlanes : Type 0 where
@@ -68,7 +75,7 @@ pub record Converted (f : OpenFrame) (b : WaitingBand) (lent : Buffers) (r : Fra
 
 -- RULES 16.4: 18; the state is as it was and nothing is written
 pub record Outside (f : OpenFrame) (lent : Buffers) (r : FrameAnswer) (left : Buffers) : Type 0 where
-  pub answer : r ≡ record { state = f.state; answer = Refused PartsMismatch }
+  pub answer : r ≡ record { state = f.state; answer = Err PartsMismatch }
   pub buffers : left ≡ lent
 
 -- RULES 16.4: the first where every part lies in the buffers now lent, else the second
@@ -90,4 +97,4 @@ serve_rules f b lent =
 -- RULES 7.1, 7.2, 16.4: the answer is that of the first of these that holds, and a band that is refused changes no byte and no state
 pub record ServedRight (f : OpenFrame) (b : WaitingBand) (lent : Buffers) (r : FrameAnswer) (left : Buffers) : Type 0 where
   pub answered : numbers_of r.answer ≡ first_numbers (serve_rules f b lent)
-  pub refused : {e : YuvError} → r.answer ≡ Refused e → (r.state ≡ f.state) × (left ≡ lent)
+  pub refused : {e : YuvError} → r.answer ≡ Err e → (r.state ≡ f.state) × (left ≡ lent)

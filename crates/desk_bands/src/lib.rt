@@ -1,12 +1,11 @@
 // A band served at the front desk (RULES 16.4): the band call on the frame's parts of the shared buffers.
 #![tactic(auto)]
 
-ghost use Rattle.std.specs.Prelude.{◌≡◌, true};
-ghost use Rattle.desk_bands.specs.Buffers.{buffers_of, are_lent, ServePost};
+ghost use Rattle.desk_bands.specs.Buffers.{buffers_of, AllInside, Converted, ServePost};
 
 use band_calls::FrameAnswer;
 use desk_places::{BufferLengths, OpenFrame, WaitingBand};
-use yuv_error::{YuvAnswer, YuvError};
+use yuv_error::YuvError;
 
 // The band call on the frame's parts of the buffers, all of which lie inside.
 fn band_in_parts(
@@ -18,36 +17,25 @@ fn band_in_parts(
     v: &mut [u8],
     carried: &mut [u8],
 ) -> FrameAnswer
-    requires { are_lent frame band (buffers_of source.now y.old u.old v.old carried.old) ≡ true }
-    ensures { ServePost frame band
+    requires { AllInside frame band (buffers_of source.now y.old u.old v.old carried.old) }
+    ensures { Converted frame band
         (buffers_of source.now y.old u.old v.old carried.old) result
         (buffers_of source.now y.new u.new v.new carried.new) }
 {
-    let state = frame.state;
     let parts = frame.parts;
-    let source_part = band.source;
-    let y_part = parts.y;
-    let u_part = parts.u;
-    let v_part = parts.v;
-    let carried_part = parts.carried;
-    let source_at = source_part.offset;
-    let source_end = source_at + source_part.length;
-    let y_at = y_part.offset;
-    let y_end = y_at + y_part.length;
-    let u_at = u_part.offset;
-    let u_end = u_at + u_part.length;
-    let v_at = v_part.offset;
-    let v_end = v_at + v_part.length;
-    let carried_at = carried_part.offset;
-    let carried_end = carried_at + carried_part.length;
-    state.band(
+    let source_end = band.source.offset + band.source.length;
+    let y_end = parts.y.offset + parts.y.length;
+    let u_end = parts.u.offset + parts.u.length;
+    let v_end = parts.v.offset + parts.v.length;
+    let carried_end = parts.carried.offset + parts.carried.length;
+    frame.state.band(
         band.rows,
-        &source[source_at..source_end],
+        &source[band.source.offset..source_end],
         band.stride,
-        &mut y[y_at..y_end],
-        &mut u[u_at..u_end],
-        &mut v[v_at..v_end],
-        &mut carried[carried_at..carried_end],
+        &mut y[parts.y.offset..y_end],
+        &mut u[parts.u.offset..u_end],
+        &mut v[parts.v.offset..v_end],
+        &mut carried[parts.carried.offset..carried_end],
     )
 }
 
@@ -65,21 +53,18 @@ pub fn serve_band(
         (buffers_of source.now y.old u.old v.old carried.old) result
         (buffers_of source.now y.new u.new v.new carried.new) }
 {
-    let state = frame.state;
-    let parts = frame.parts;
-    let source_part = band.source;
     let lens = BufferLengths {
         y: y.len(),
         u: u.len(),
         v: v.len(),
         carried: carried.len(),
     };
-    if buffer_parts::is_inside(source_part, source.len()) & parts.are_inside(lens) {
+    if band.source.is_inside(source.len()) && frame.parts.are_inside(lens) {
         band_in_parts(frame, band, source, y, u, v, carried)
     } else {
         FrameAnswer {
-            state,
-            answer: YuvAnswer::Refused(YuvError::PartsMismatch),
+            state: frame.state,
+            answer: Err(YuvError::PartsMismatch),
         }
     }
 }

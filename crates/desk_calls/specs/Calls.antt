@@ -1,25 +1,19 @@
 -- What the desk's calls that came as numbers answer and leave: docs/RULES.md, 10.10.
 -- Assumes nothing.
-use Rattle.std.specs.Prelude.{ℕ, ◌<◌, ◌≡◌, List, [], ◌∷◌, ◌++◌, Float}
-use Rattle.yuv_error.specs.declared.YuvAnswer.{YuvAnswer}
-use Rattle.yuv_error.specs.declared.YuvAnswer.TheVariants.{Finished, Refused}
+use Rattle.std.specs.Prelude.{ℕ, ◌<◌, ◌≡◌, List, [], ◌∷◌, ◌++◌, Float, Result, Ok, Err, Option, None, Some}
+use Rattle.yuv_error.specs.declared.YuvError.{YuvError}
 use Rattle.yuv_error.specs.Numbers.{Numbers, numbers, numbers_of}
 use Rattle.yuv_error.specs.Rules.{Rule, first_numbers}
 use Rattle.yuv_error.specs.Lent.{opening_rules}
-use Rattle.definitions.specs.declared.FrameDescription.{FrameDescription}
 use Rattle.call_numbers.specs.Codes.{at, description_of, number_rules as code_rules}
 use Rattle.desk_places.specs.declared.FrameParts.{FrameParts}
 use Rattle.desk_places.specs.declared.BufferLengths.{BufferLengths}
 use Rattle.desk_places.specs.declared.WaitingBand.{WaitingBand}
-use Rattle.desk_places.specs.declared.Slot.{Slot}
 use Rattle.desk_places.specs.declared.Slot.TheVariants.{Idle}
 use Rattle.desk_bands.specs.Buffers.{Buffers}
 use Rattle.desk.specs.declared.Desk.{Desk}
-use Rattle.desk.specs.declared.DeskAnswer.{DeskAnswer}
 use Rattle.desk.specs.declared.Served.{Served}
-use Rattle.desk.specs.declared.Served.TheVariants.{Nobody, Camera}
-use Rattle.desk.specs.declared.StepAnswer.{StepAnswer}
-use Rattle.desk.specs.DeskCall.{slot_at, put_slot, left_by, number_rules, part_rules, opened_frame, OfferCall, offer_call, OfferPost, StepCall, step_call, StepPost}
+use Rattle.desk.specs.DeskCall.{slot_at, put_slot, left_by, number_rules, part_rules, opened_frame, OfferCall, offer_call, OfferPost, StepCall, step_call, StepPost, DeskAnswer, StepAnswer}
 use Rattle.convoy_calls.specs.Numbers.{part_at}
 use Rattle.desk_numbers.specs.Numbers.{DeskNumbers, desk_of, put_place, ask_first}
 
@@ -38,9 +32,9 @@ abbrev pub band_given : (band place : List ℕ) → WaitingBand
 band_given band place = record { rows = at band 0; stride = at band 1; source = part_at place 0 }
 
 -- RULES 10.10: the numbers that an accepted opening or offer leaves; a refused one changes none
-abbrev pub numbers_left : YuvAnswer → (accepted as_it_was : DeskNumbers) → DeskNumbers
-numbers_left Finished a b = a
-numbers_left (Refused e) a b = b
+abbrev pub numbers_left : Result Unit YuvError → (accepted as_it_was : DeskNumbers) → DeskNumbers
+numbers_left (Ok done) a b = a
+numbers_left (Err e) a b = b
 
 -- RULES 10.10: the place of the camera as it stands at the desk that was handed back
 abbrev pub place_left : DeskNumbers → (camera : ℕ) → DeskAnswer → DeskNumbers
@@ -141,24 +135,24 @@ exported_desk_step before lent number told after left =
     record { before = before; lent = lent; number = number; told = told; after = after; left = left }
 
 -- RULES 10.10: the answer of the camera that was served, finished work where there was none
-abbrev pub served_numbers : Served → Numbers
-served_numbers Nobody = numbers 0 0 0
-served_numbers (Camera c a) = numbers_of a
+abbrev pub served_numbers : Option Served → Numbers
+served_numbers None = numbers 0 0 0
+served_numbers (Some s) = numbers_of s.answer
 
 -- RULES 10.10: whether there was one, and its number
-abbrev pub served_told : Served → List ℕ
-served_told Nobody = 0 ∷ 0 ∷ []
-served_told (Camera c a) = 1 ∷ c ∷ []
+abbrev pub served_told : Option Served → List ℕ
+served_told None = 0 ∷ 0 ∷ []
+served_told (Some s) = 1 ∷ s.camera ∷ []
 
 -- RULES 10.10: the place of the camera that was served, and who is asked first
-abbrev pub step_left : DeskNumbers → Served → Desk → DeskNumbers
-step_left n Nobody d = n
-step_left n (Camera c a) d = ask_first (put_place n c (slot_at d c)) d.from
+abbrev pub step_left : DeskNumbers → Option Served → Desk → DeskNumbers
+step_left n None d = n
+step_left n (Some s) d = ask_first (put_place n s.camera (slot_at d s.camera)) d.from
 
 -- RULES 16.1, 16.4: the camera that was served is one of the 32, and so is the one that is asked next
-abbrev pub ServedBelow : Served → Desk → Type 0
-ServedBelow Nobody d = Unit {0}
-ServedBelow (Camera c a) d = (c < 32) × (d.from < 32)
+abbrev pub ServedBelow : Option Served → Desk → Type 0
+ServedBelow None d = Unit {0}
+ServedBelow (Some s) d = (s.camera < 32) × (d.from < 32)
 
 -- RULES 10.10
 abbrev pub step_with : ExportedDeskStep → StepAnswer → StepCall

@@ -2,37 +2,34 @@
 // which a call writes the place of one camera anew. `desk_steps` has the step.
 #![tactic(auto)]
 
-ghost use Rattle.std.specs.Prelude.{◌≡◌, ◌<◌, length};
+ghost use Rattle.std.specs.Prelude.{◌≡◌, ◌<◌, OnOk};
+ghost use Rattle.desk.specs.DeskCall.{desk_answer};
 ghost use Rattle.desk_numbers.specs.Numbers.{desk_numbers};
 ghost use Rattle.desk_calls.specs.Calls.{place_left, parts_of, lengths_of, DescribedOpen, exported_desk_open, DeskOpenKept};
 ghost use Rattle.desk_calls.specs.Calls.{exported_desk_offer, DeskOfferKept};
 
-use desk::{Desk, DeskAnswer};
+use desk::Desk;
 use desk_places::{BufferLengths, FrameParts, WaitingBand};
-use yuv_error::{YuvAnswer, YuvError};
+use yuv_error::YuvError;
 
 // Writes what an opening or an offer made of the camera's place; a refused one made nothing of it.
 fn put_answer(
     camera: u32,
-    answered: DeskAnswer,
-    numbers: &mut [u32],
-    customs: &mut [f32],
-    parts: &mut [u64],
+    desk: Desk,
+    answer: Result<(), YuvError>,
+    numbers: &mut [u32; 609],
+    customs: &mut [f32; 64],
+    parts: &mut [u64; 320],
 )
-    requires camera_bound { answered.answer ≡ YuvAnswer.Finished → camera < 32 }
-    requires numbers_len { (length numbers.old ≡ 609) × ((length customs.old ≡ 64) × (length parts.old ≡ 320)) }
+    requires { OnOk answer (camera < 32) }
     ensures { desk_numbers numbers.new customs.new parts.new
-        ≡ place_left (desk_numbers numbers.old customs.old parts.old) camera answered }
+        ≡ place_left (desk_numbers numbers.old customs.old parts.old) camera (desk_answer desk answer) }
 {
-    let answer = answered.answer;
     match answer {
-        YuvAnswer::Refused(_) => {}
-        YuvAnswer::Finished => {
-            let desk = answered.desk;
+        Err(_) => {}
+        Ok(()) => {
             let c = camera as usize;
-            let place = desk.places[c];
-            let slot = place.slot;
-            desk_numbers::put_place(c, slot, numbers, customs, parts);
+            desk_numbers::put_place(c, desk.places[c], numbers, customs, parts);
         }
     }
 }
@@ -63,22 +60,19 @@ fn lengths_of(lengths: &[u64; 4]) -> BufferLengths
 
 // Opens the frame that the numbers describe; 1, where they have no meaning, stands before 2.
 fn open_described(
-    desk: Desk,
+    desk: &mut Desk,
     camera: u32,
     described: &[u32],
     custom: &[f32; 2],
     parts: FrameParts,
     lens: BufferLengths,
-) -> DeskAnswer
-    ensures { DescribedOpen desk camera described.now custom.now parts lens result }
+) -> Result<(), YuvError>
+    ensures { DescribedOpen desk.old camera described.now custom.now parts lens (desk_answer desk.new result) }
 {
     if call_numbers::is_malformed(0, described) {
-        let places = desk.places;
-        let number = desk::check_number(places, camera);
-        let taken = desk::check_parts(places, parts, lens);
-        let malformed = YuvAnswer::Refused(YuvError::MalformedRequest);
-        let answer = number.and(taken).and(malformed);
-        return DeskAnswer { desk, answer };
+        desk::check_number(desk.places, camera)?;
+        desk::check_parts(desk.places, parts, lens)?;
+        return Err(YuvError::MalformedRequest);
     }
     let frame = call_numbers::describe_after(0, described, custom);
     desk.open(camera, frame, parts, lens)
@@ -101,17 +95,16 @@ pub fn call_desk_open(
         (desk_numbers numbers.old customs.old parts.old) result told.new
         (desk_numbers numbers.new customs.new parts.new)) }
 {
-    let desk = desk_numbers::desk_of(numbers, customs, parts);
-    let opened = open_described(
-        desk,
+    let mut desk = desk_numbers::desk_of(numbers, customs, parts);
+    let answer = open_described(
+        &mut desk,
         camera,
         described,
         custom,
         parts_of(frame_parts),
         lengths_of(lengths),
     );
-    let answer = opened.answer;
-    put_answer(camera, opened, numbers, customs, parts);
+    put_answer(camera, desk, answer, numbers, customs, parts);
     call_numbers::tell_answer(answer, told)
 }
 
@@ -129,15 +122,13 @@ pub fn call_desk_offer(
         (desk_numbers numbers.old customs.old parts.old) result
         (desk_numbers numbers.new customs.new parts.new)) }
 {
-    let desk = desk_numbers::desk_of(numbers, customs, parts);
+    let mut desk = desk_numbers::desk_of(numbers, customs, parts);
     let waiting = WaitingBand {
         rows: band[0],
         stride: band[1],
         source: convoy_calls::part_at(place, 0),
     };
-    let offered = desk.offer(camera, waiting, convoy_calls::as_place(place[2]));
-    let answer = offered.answer;
-    put_answer(camera, offered, numbers, customs, parts);
-    let numbered = error_numbers::answer_numbers(answer);
-    numbered.number
+    let answer = desk.offer(camera, waiting, convoy_calls::as_place(place[2]));
+    put_answer(camera, desk, answer, numbers, customs, parts);
+    error_numbers::answer_numbers(answer).number
 }

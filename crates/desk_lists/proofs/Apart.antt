@@ -1,9 +1,9 @@
 -- No two open frames share a byte: an opening tests it, and no other call opens a frame. So a band served writes no other frame's planes.
 -- Assumes nothing.
-use Prim.Native.Nat.{ℕ, ◌<◌}
-use mathlib.Core.Path.{◌≡◌, refl, sym, ap, subst, ◌∙◌}
+use Prim.Native.Nat.{ℕ}
+use mathlib.Core.Path.{◌≡◌, refl, sym, subst, ◌∙◌}
 use mathlib.Core.Bool.{Bool, true, false, cond, true≢false}
-use mathlib.Core.Logic.{◌⊎◌, inl, inr, ⊎_elim}
+use mathlib.Core.Logic.{inl, inr, ⊎_elim}
 use borrow.Author.Tests.{eqb-true, eqb-false}
 use lib.Dec.{eqb, leb}
 use Rattle.band_calls.specs.declared.FrameState.{FrameState}
@@ -15,12 +15,11 @@ use Rattle.desk_places.specs.declared.OpenFrame.{OpenFrame}
 use Rattle.desk_places.specs.declared.WaitingBand.{WaitingBand}
 use Rattle.desk_places.specs.declared.Slot.{Slot}
 use Rattle.desk_places.specs.declared.Slot.TheVariants.{Free, Idle, Waiting}
-use Rattle.desk_places.specs.declared.Next.TheVariants.{Turn}
-use Rattle.desk_places.specs.Places.{is_open, overlaps_slot, overlaps_open, offered, next_waiting, with_state, after_band}
+use Rattle.desk_places.specs.Places.{is_open, overlaps_slot, offered, next_waiting, with_state, after_band, its_turn}
 use Rattle.desk_places.specs.Means.{ShareByte}
 use Rattle.desk_places.proofs.Taken.{overlaps_none}
 use Rattle.desk_places.proofs.Means.{share_exact}
-use Rattle.desk_bands.specs.Buffers.{Buffers, FramePlanes, planes_in, ElsewhereKept}
+use Rattle.desk_bands.specs.Buffers.{Buffers, planes_in, ElsewhereKept}
 use Rattle.desk.specs.declared.Desk.{Desk}
 use Rattle.desk.specs.DeskCall.{slot_at, OpenCall, opened_frame, OpenPost, OfferCall, OfferPost, StepCall, BandServed}
 use Rattle.desk_lists.specs.Isolation.{is_finished}
@@ -114,7 +113,7 @@ module _ (k : OfferCall) (whole : Whole k.desk) (apart : Apart k.desk) (post : O
       (before_offer (slot_at k.desk k.camera) w (subst (λ (s : Slot). HasParts s w) (if_true _ new (slot_at k.desk a) own) h')))
       (λ own. subst (λ (s : Slot). HasParts s w) (if_false _ new (slot_at k.desk a) own) h')) apart
 
-module _ (k : StepCall) (c : ℕ) (f : OpenFrame) (b : WaitingBand) (turn : next_waiting k.desk.places k.desk.from ≡ Turn c f b)
+module _ (k : StepCall) (c : ℕ) (f : OpenFrame) (b : WaitingBand) (turn : next_waiting k.desk.places k.desk.from ≡ its_turn c f b)
     (served : BandServed k c f b) (whole : Whole k.desk) (apart : Apart k.desk) where
   abbrev new_state : FrameState
   new_state = served.call.state

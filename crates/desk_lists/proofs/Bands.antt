@@ -1,12 +1,12 @@
 -- Lists of band calls, and of what became of a camera's bands: one more at the end.
 -- Assumes nothing.
 use mathlib.Core.Path.{◌≡◌, refl, ap}
-use mathlib.Core.Bool.{Bool, true, false, cond}
+use mathlib.Core.Bool.{true, false, cond}
 use mathlib.Core.List.{List, [], ◌∷◌, ◌++◌}
 use Rattle.definitions.specs.declared.FrameDescription.{FrameDescription}
 use Rattle.band_calls.specs.declared.FrameState.{FrameState}
 use Rattle.band_calls.specs.BandCall.{BandCall, BandPost}
-use Rattle.band_lists.specs.BandLists.{AllMet, is_accepted, Tally, counted, tally_of, Accepted, none, call, last_call, Follows, Either, Chained}
+use Rattle.band_lists.specs.BandLists.{AllMet, is_accepted, Tally, counted, tally_of, Accepted, call, last_call, Follows, Either, Chained}
 use Rattle.desk_lists.specs.Isolation.{OwnBand, Turned, dropped, called, calls_of, band_of, bands_of}
 
 pub met_more : (ks : List BandCall) (k : BandCall) → AllMet ks → BandPost k → AllMet (ks ++ (k ∷ []))

@@ -2,7 +2,7 @@
 -- Assumes nothing.
 use Prim.Native.Nat.{ℕ, ◌+◌, ◌-◌, ◌/◌, ◌%◌}
 use mathlib.Core.Path.{◌≡◌, refl, sym, ap, ◌∙◌}
-use mathlib.Core.Bool.{Bool, true, false, cond, true≢false}
+use mathlib.Core.Bool.{true, false, cond, true≢false}
 use mathlib.Core.List.{List, [], ◌∷◌, ◌++◌}
 use native.Mathlib.Nat.{le_trans}
 use borrow.Author.Tests.{eqb-true}
@@ -11,8 +11,7 @@ use lib.ListN.{length}
 use Rattle.yuv_error.specs.declared.Lengths.{Lengths}
 use Rattle.yuv_error.specs.declared.YuvError.{YuvError}
 use Rattle.yuv_error.specs.declared.YuvError.TheVariants.{PartsMismatch}
-use Rattle.yuv_error.specs.declared.YuvAnswer.{YuvAnswer}
-use Rattle.yuv_error.specs.declared.YuvAnswer.TheVariants.{Finished, Refused}
+use Rattle.std.specs.Prelude.{Result, Ok, Err}
 use Rattle.yuv_error.specs.Numbers.{Numbers, numbers_of, answer_of}
 use Rattle.yuv_error.specs.Rules.{Rule, first_numbers}
 use Rattle.yuv_error.specs.Lent.{lengths_of, opening_rules, lent_rules}
@@ -56,9 +55,9 @@ band_Sayable s rows stride n carried =
     (both_Sayable (opening ++ row) lent (both_Sayable opening row (refl, (refl, (refl, (refl, (refl, tt))))) (refl, tt))
     (refl, (refl, (refl, (refl, (refl, (refl, (refl, (refl, (refl, (refl, (refl, (refl, tt))))))))))))) (refl, tt)
 
-is_refused : (a : YuvAnswer) → eqb (numbers_of a).number 0 ≡ false → (e : YuvError) × (a ≡ Refused e)
-is_refused Finished none = absurd (true≢false none)
-is_refused (Refused e) some = (e, refl)
+is_refused : (a : Result Unit YuvError) → eqb (numbers_of a).number 0 ≡ false → (e : YuvError) × (a ≡ Err e)
+is_refused (Ok done) none = absurd (true≢false none)
+is_refused (Err e) some = (e, refl)
 
 -- ---- a band call
 
@@ -81,12 +80,12 @@ module _ (s : FrameState) (rows stride : ℕ) (source y u v carried : List ℕ) 
       let few = le_trans (carried_few s.frame (s.done + rows)) a.carried_size in
       let c = can_paint _ (λ q. own_rows (band_of s rows stride) source (s.done + rows - 1) (q / 3) (q % 3)) carried few in
       record {
-        result = record { state = state_of s.frame (s.done + rows); answer = Finished };
+        result = record { state = state_of s.frame (s.done + rows); answer = Ok tt };
         y' = p.0;
         u' = p.1;
         v' = p.2;
         carried' = c.0;
-        met = finished s rows stride source y u v carried Finished (sym (band_passes s rows stride _ _ a)) refl p.3 c.1;
+        met = finished s rows stride source y u v carried (Ok tt) (sym (band_passes s rows stride _ _ a)) refl p.3 c.1;
       }
 
   can_refuse : eqb (first_numbers rules).number 0 ≡ false → CanCall s rows stride source y u v carried
@@ -122,9 +121,9 @@ can_convert f b p e =
     (part_of w.v p.v) (part_of w.carried p.carried) in
     record {
       call = c.result;
-      left = with_parts f b p c.result c.y' c.u' c.v' c.carried' e;
+      left = with_parts f b p c.result c.y' c.u' c.v' c.carried' all;
       source = refl;
-      met = rw e (converted f b p c.result c.y' c.u' c.v' c.carried' e
+      met = rw e (converted f b p c.result c.y' c.u' c.v' c.carried' all
           (c.met.planes.luma.size ∙ part_length w.y p.y all.y)
           (c.met.planes.cb.size ∙ part_length w.u p.u all.u) (c.met.planes.cr.size ∙ part_length w.v p.v all.v)
           (c.met.carry.size ∙ part_length w.carried p.carried all.carried) c.met);
@@ -133,13 +132,13 @@ can_convert f b p e =
 pub can_serve : (f : OpenFrame) (b : WaitingBand) (p : Buffers) → CanServe f b p
 can_serve f b p = (elim (are_lent f b p) as (λ t. are_lent f b p ≡ t → CanServe f b p) [
   | true ↦ can_convert f b p
-  | false ↦ λ e. record { call = record { state = f.state; answer = Refused PartsMismatch }; left = p; source = refl; met = serve_outside f b p e }
+  | false ↦ λ e. record { call = record { state = f.state; answer = Err PartsMismatch }; left = p; source = refl; met = serve_outside f b p e }
 ]) refl
 
 -- ---- the same, so that 18 computes
 
 abbrev pub serve_answer : OpenFrame → WaitingBand → Buffers → FrameAnswer
-serve_answer f b p = cond (are_lent f b p) (can_serve f b p).call (record { state = f.state; answer = Refused PartsMismatch })
+serve_answer f b p = cond (are_lent f b p) (can_serve f b p).call (record { state = f.state; answer = Err PartsMismatch })
 
 abbrev pub serve_left : OpenFrame → WaitingBand → Buffers → Buffers
 serve_left f b p = cond (are_lent f b p) (can_serve f b p).left p
@@ -151,7 +150,7 @@ pub record Served (f : OpenFrame) (b : WaitingBand) (p : Buffers) (r : FrameAnsw
 pub served : (f : OpenFrame) (b : WaitingBand) (p : Buffers) → Served f b p (serve_answer f b p) (serve_left f b p)
 served f b p =
     (elim (are_lent f b p) as (λ t. are_lent f b p ≡ t
-    → Served f b p (cond t (can_serve f b p).call (record { state = f.state; answer = Refused PartsMismatch }))
+    → Served f b p (cond t (can_serve f b p).call (record { state = f.state; answer = Err PartsMismatch }))
     (cond t (can_serve f b p).left p)) [
       | true ↦ λ e. record { met = (can_serve f b p).met; source = (can_serve f b p).source }
       | false ↦ λ e. record { met = serve_outside f b p e; source = refl }

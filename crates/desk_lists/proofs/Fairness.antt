@@ -1,8 +1,8 @@
 -- Fairness. The number of cameras to be asked before the waiting one falls with each step that does not serve it, and no other call changes it.
 -- Assumes nothing.
-use Prim.Native.Nat.{ℕ, suc, ◌+◌, ◌-◌, ◌%◌, ◌≤◌, ◌<◌}
+use Prim.Native.Nat.{ℕ, ◌+◌, ◌-◌, ◌%◌, ◌<◌}
 use mathlib.Core.Path.{◌≡◌, refl, sym, ap, subst, subst⁻¹, ◌∙◌}
-use mathlib.Core.Bool.{Bool, true, false, cond, ◌||◌, or-true, true≢false}
+use mathlib.Core.Bool.{true, false, or-true, true≢false}
 use mathlib.Core.Logic.{◌⊎◌, inl, inr, ⊎_elim}
 use mathlib.Core.List.{List, [], ◌∷◌, ◌++◌}
 use native.Mathlib.Omega.{arith}
@@ -10,17 +10,17 @@ use borrow.Author.Tests.{eqb-true, eqb-false, eq-eqb, ne_eqb}
 use lib.Dec.{eqb}
 use Rattle.desk_places.specs.declared.Slot.{Slot}
 use Rattle.desk_places.specs.declared.Slot.TheVariants.{Free, Idle, Waiting}
-use Rattle.desk_places.specs.declared.Next.{Next}
-use Rattle.desk_places.specs.declared.Next.TheVariants.{NoneWaiting, Turn}
-use Rattle.desk_places.specs.Places.{is_open, is_waiting, asked, next_waiting}
-use Rattle.desk_places.proofs.Turn.{next_Reached}
+use Rattle.desk_places.specs.declared.Turn.{Turn}
+use Rattle.desk_places.specs.Places.{is_open, is_waiting, asked}
+use Rattle.desk_places.proofs.NextTurn.{next_Reached}
 use Rattle.desk.specs.declared.Desk.{Desk}
 use Rattle.desk.specs.DeskCall.{fresh, slot_at, OpenCall, OpenPost, OfferCall, OfferPost, StepCall, Stepped, StepPost}
-use Rattle.desk_lists.specs.DeskLists.{DeskCall, opening, offering, step, Met, AllMet, given, handed_back, HandedOn, desk_after}
+use Rattle.desk_lists.specs.DeskLists.{DeskCall, opening, offering, step, AllMet, handed_back, HandedOn, desk_after}
 use Rattle.desk_lists.specs.DeskLists.{steps_in, tells, served_in, Fairness}
 use Rattle.desk_lists.specs.Isolation.{is_finished}
 use Rattle.desk_lists.proofs.Slots.{Whole, open_below, both?, if_false, is_finished_lem, opened, offered_to, open_Changed, offer_Changed}
 use Rattle.desk_lists.proofs.Slots.{served_slot, served_Whole, call_Whole}
+use Rattle.std.specs.Prelude.{Option}
 
 mod-add : (y z : ℕ) → (y % 32 + z) % 32 ≡ (y + z) % 32
 mod-add y z = omega arith
@@ -72,7 +72,7 @@ step_Queued {c} {p} k q post =
     let d = k.desk in
     let t = next_Reached d.places d.from p q.near (ap (λ (x : ℕ). is_waiting (slot_at d x)) q.place ∙ q.waiting) in
     let e = asked d.from t.k in
-    let s = subst (λ (n : Next). Stepped n k) t.turn post in
+    let s = subst (λ (n : Option Turn). Stepped n k) t.turn post in
     (elim (eqb t.k p) as (λ a. eqb t.k p ≡ a → (tells c k.result.served ≡ true) ⊎ ((n : ℕ) × ((n < p) × Queued c n k.result.desk))) [
       | true ↦ λ is. inl (ap (tells c) s.served ∙ eq-eqb e c (ap (asked d.from) (eqb-true t.k p is) ∙ q.place))
       | false ↦ λ is.

@@ -5,47 +5,41 @@ use mathlib.Core.Path.{◌≡◌, refl, sym, ap, subst, ◌∙◌}
 use mathlib.Core.Bool.{Bool, true, false, cond, ◌&&◌, ◌||◌}
 use mathlib.Core.List.{List, [], ◌∷◌, ◌++◌}
 use native.Mathlib.Omega.{arith}
-use borrow.Author.Tests.{eq-eqb, eqb-true, eqb-false}
+use borrow.Author.Tests.{eqb-true, eqb-false}
 use lib.Dec.{eqb}
 use lib.ListN.{get_or, drop}
 use lib.Seq.{get_or-take, get_or-drop}
 use Rattle.yuv_error.specs.declared.YuvError.{YuvError}
-use Rattle.yuv_error.specs.declared.YuvAnswer.{YuvAnswer}
-use Rattle.yuv_error.specs.declared.YuvAnswer.TheVariants.{Finished, Refused}
+use Rattle.std.specs.Prelude.{Result, Ok, Err, Option, None, Some}
 use Rattle.yuv_error.specs.Numbers.{Numbers, numbers, numbers_of, answer_of}
 use Rattle.yuv_error.specs.Rules.{Rule, rule, first_numbers}
 use Rattle.yuv_error.specs.Lent.{opening_rules}
 use Rattle.yuv_error.proofs.Numbers.{found}
 use Rattle.yuv_error.proofs.First.{numbered, first_append}
-use Rattle.call_numbers.specs.Codes.{at, description_of, is_malformed, number_rules as code_rules}
-use Rattle.desk_places.specs.declared.Slot.{Slot}
+use Rattle.call_numbers.specs.Codes.{at, description_of, is_malformed}
 use Rattle.desk_places.specs.declared.Slot.TheVariants.{Free, Idle}
-use Rattle.desk_places.specs.declared.Place.{Place}
 use Rattle.desk_places.specs.Places.{is_waiting, offered}
 use Rattle.desk.specs.declared.Desk.{Desk}
-use Rattle.desk.specs.declared.DeskAnswer.{DeskAnswer}
 use Rattle.desk.specs.declared.Served.{Served}
-use Rattle.desk.specs.declared.Served.TheVariants.{Nobody, Camera}
-use Rattle.desk.specs.declared.StepAnswer.{StepAnswer}
-use Rattle.desk.specs.DeskCall.{fresh, slot_at, number_rules, part_rules, open_call, opened_frame, OpenPost, offer_rules, OfferPost, StepPost}
-use Rattle.convoy_calls.proofs.Frames.{list_at}
+use Rattle.desk.specs.DeskCall.{fresh, slot_at, number_rules, part_rules, open_call, opened_frame, OpenPost, offer_rules, OfferPost, StepPost, served_by, DeskAnswer, StepAnswer}
+use Rattle.std.proofs.lemmas.List.FromFn.{get_or-map-range_with_len}
 use Rattle.desk_numbers.specs.Numbers.{DeskNumbers, of_camera, place_of, desk_of, fresh_numbers}
 use Rattle.desk_numbers.proofs.Decoded.{Sized, fresh_Sized, fresh_desk}
-use Rattle.desk_calls.specs.Calls.{ExportedDeskOpen, parts_of, lengths_of, place_left, described_rules, DeskOpenKept}
+use Rattle.desk_calls.specs.Calls.{ExportedDeskOpen, parts_of, lengths_of, DeskOpenKept}
 use Rattle.desk_calls.specs.Calls.{ExportedDeskOffer, band_given, offer_with, DeskOfferKept, ExportedDeskStep, served_numbers, served_told, step_with, DeskStepKept}
 use Rattle.desk_calls.proofs.Below.{opened_below, offered_below}
 use Rattle.desk_calls.proofs.Handed.{Are, answer_handed, step_handed}
 use Rattle.desk_lists.specs.DeskLists.{DeskCall, opening, offering, step, AllMet, HandedOn, desk_after, steps_in, tells}
 use Rattle.desk_lists.specs.DeskLists as lists
-use Rattle.desk_lists.specs.Isolation.{no_step, last_of, AsLeft, no_frame, history_of, OwnRows}
-use Rattle.desk_lists.specs.FromNumbers.{NumberedCall, open_numbers, offer_numbers, step_numbers, AllKept, before, after, NumbersHandedOn, numbers_after}
-use Rattle.desk_lists.specs.FromNumbers.{answer_told, handed, as_opening, as_offering, served_in, as_step, as_calls, AreCalls, NumbersAreCalls}
+use Rattle.desk_lists.specs.Isolation.{no_step, last_of, no_frame, history_of, OwnRows}
+use Rattle.desk_lists.specs.FromNumbers.{NumberedCall, open_numbers, offer_numbers, step_numbers, AllKept, after, NumbersHandedOn, numbers_after}
+use Rattle.desk_lists.specs.FromNumbers.{answer_told, handed, as_opening, as_offering, served_in, as_step, as_calls, NumbersAreCalls}
 use Rattle.desk_lists.specs.FromNumbers.{steps_of, told_in, NumberedFairness, NumberedPlanes}
 use Rattle.yuv_error.proofs.Plain.{alone}
 use Rattle.desk_lists.proofs.Fairness.{fairness}
 use Rattle.desk_lists.proofs.OwnBands.{planes_of_own_bands}
 
-told_is : (a : YuvAnswer) {number : ℕ} {told : List ℕ} → number ≡ (numbers_of a).number → told ≡ (numbers_of a).expected ∷ (numbers_of a).received ∷ []
+told_is : (a : Result Unit YuvError) {number : ℕ} {told : List ℕ} → number ≡ (numbers_of a).number → told ≡ (numbers_of a).expected ∷ (numbers_of a).received ∷ []
     → answer_told number told ≡ a
 told_is a is says = (λ i. answer_told (is i) (says i)) ∙ found a
 
@@ -93,9 +87,9 @@ module _ (k : ExportedDeskOpen) (p : DeskOpenKept k) (sized : Sized k.before) wh
   open_passed : k.number ≡ 1 → desk_of k.after ≡ desk_of k.before
   open_passed is = go p.result.answer refl
     where
-      go : (a : YuvAnswer) → p.result.answer ≡ a → desk_of k.after ≡ desk_of k.before
-      go Finished e = let z : ◌≡◌ {A = ℕ} 0 1 = rw (← is) (sym (p.number ∙ ap (λ (a : YuvAnswer). (numbers_of a).number) e)) in absurd (omega arith)
-      go (Refused x) e = ap desk_of (p.after ∙ rw e)
+      go : (a : Result Unit YuvError) → p.result.answer ≡ a → desk_of k.after ≡ desk_of k.before
+      go (Ok done) e = let z : ◌≡◌ {A = ℕ} 0 1 = rw (← is) (sym (p.number ∙ ap (λ (a : Result Unit YuvError). (numbers_of a).number) e)) in absurd (omega arith)
+      go (Err x) e = ap desk_of (p.after ∙ rw e)
 
 -- ---- an offer
 
@@ -120,10 +114,10 @@ module _ (k : ExportedDeskOffer) (p : DeskOfferKept k) (sized : Sized k.before) 
 
 -- ---- a step
 
-served_is : (s : Served) {number : ℕ} {told : List ℕ} → number ≡ (served_numbers s).number
+served_is : (s : Option Served) {number : ℕ} {told : List ℕ} → number ≡ (served_numbers s).number
     → told ≡ (served_numbers s).expected ∷ (served_numbers s).received ∷ served_told s → served_in number told ≡ s
-served_is Nobody is says = rw says
-served_is (Camera c a) is says = (λ i. served_in (is i) (says i)) ∙ ap (Camera c) (found a)
+served_is None is says = rw says
+served_is (Some s) is says = (λ i. served_in (is i) (says i)) ∙ ap (served_by s.camera) (found s.answer)
 
 module _ (k : ExportedDeskStep) (p : DeskStepKept k) (sized : Sized k.before) where
   stepped : Are k.after p.result.desk
@@ -219,7 +213,7 @@ steps_are (step_numbers k ∷ ks) = ap (λ (n : ℕ). n + 1) (steps_are ks)
 tells_told : (c number : ℕ) (told : List ℕ) → tells c (served_in number told) ≡ eqb (at told 2) 1 && eqb (at told 3) c
 tells_told c number told = go (eqb (at told 2) 1)
   where
-    go : (b : Bool) → tells c (cond b (Camera (at told 3) (answer_told number told)) Nobody) ≡ b && eqb (at told 3) c
+    go : (b : Bool) → tells c (cond b (served_by (at told 3) (answer_told number told)) None) ≡ b && eqb (at told 3) c
     go true = refl
     go false = refl
 
@@ -238,11 +232,11 @@ told_are c (step_numbers k ∷ ks) = λ i. tells_told c k.number k.told i || tol
 waits : (n : DeskNumbers) (c : ℕ) → c < 32 → at n.numbers (19 * c) ≡ 2 → is_waiting (slot_at (desk_of n) c) ≡ true
 unfolding desk_of place_of
 waits n c below is =
-    let place = list_at (place_of n) 0 32 c (record { slot = Free }) below ∙ ap (place_of n) (let e : 0 + c ≡ c = omega arith in e) in
+    let place = get_or-map-range_with_len (place_of n) 0 32 c c Free below (let e : 0 + c ≡ c = omega arith in e) in
     let first : at (of_camera 19 n.numbers c) 0 ≡ 2 =
     get_or-take 19 (drop (19 * c) n.numbers) 0 0 (omega arith) ∙ get_or-drop (19 * c) n.numbers 0 0
     ∙ ap (λ (i : ℕ). get_or n.numbers i 0) (let e : 19 * c + 0 ≡ 19 * c = omega arith in e) ∙ is in
-    ap (λ (p : Place). is_waiting p.slot) place ∙ rw first
+    ap is_waiting place ∙ rw first
 
 pub numbered_fairness : NumberedFairness
 numbered_fairness c earlier later kept hand below two steps =

@@ -2,13 +2,10 @@
 -- Assumes nothing.
 use Prim.Native.Nat.{ℕ}
 use mathlib.Core.Path.{◌≡◌, refl, sym, ap, subst, subst⁻¹, ◌∙◌}
-use mathlib.Core.Bool.{Bool, true, false, cond, ◌&&◌, true≢false}
+use mathlib.Core.Bool.{Bool, true, false, cond, true≢false}
 use mathlib.Core.List.{List, [], ◌∷◌, ◌++◌}
 use borrow.Author.Tests.{eqb-true}
 use lib.Dec.{eqb}
-use Rattle.definitions.specs.declared.FrameDescription.{FrameDescription}
-use Rattle.definitions.proofs.Finished.{finished_none}
-use Rattle.yuv_error.specs.declared.YuvAnswer.{YuvAnswer}
 use Rattle.band_calls.specs.declared.FrameAnswer.{FrameAnswer}
 use Rattle.band_calls.specs.BandCall.{BandCall}
 use Rattle.desk_places.specs.declared.FrameParts.{FrameParts}
@@ -16,24 +13,23 @@ use Rattle.desk_places.specs.declared.OpenFrame.{OpenFrame}
 use Rattle.desk_places.specs.declared.WaitingBand.{WaitingBand}
 use Rattle.desk_places.specs.declared.Slot.{Slot}
 use Rattle.desk_places.specs.declared.Slot.TheVariants.{Free, Idle, Waiting}
-use Rattle.desk_places.specs.declared.Next.{Next}
-use Rattle.desk_places.specs.declared.Next.TheVariants.{NoneWaiting, Turn}
-use Rattle.desk_places.specs.Places.{is_open, next_waiting, after_band}
-use Rattle.desk_bands.specs.Buffers.{Buffers, are_lent, planes_in, band_call_in, Converted, Outside, IfLent, ServePost}
+use Rattle.desk_places.specs.declared.Turn.{Turn}
+use Rattle.desk_places.specs.Places.{is_open, next_waiting, after_band, its_turn}
+use Rattle.desk_bands.specs.Buffers.{are_lent, planes_in, Converted, Outside, IfLent}
 use Rattle.desk.specs.declared.Desk.{Desk}
 use Rattle.desk.specs.declared.Served.{Served}
-use Rattle.desk.specs.declared.Served.TheVariants.{Nobody, Camera}
 use Rattle.desk.specs.DeskCall.{fresh, slot_at, OpenCall, opened_frame, OpenPost, OfferCall, OfferPost, StepCall, BandServed, Stepped}
 use Rattle.desk_lists.specs.DeskLists.{DeskCall, opening, offering, step, AllMet, HandedOn, desk_after, tells}
 use Rattle.desk_lists.specs.Isolation.{LastStep, no_step, last_step, last_of, PlanesBack, SameBand, BandsBack, source_after, AsLeft}
 use Rattle.desk_lists.specs.Isolation.{OwnBand, own_band}
-use Rattle.desk_lists.specs.Isolation.{Turned, dropped, called, calls_of, band_of, bands_of, History, no_frame, since, is_finished, call_in, turned_in}
+use Rattle.desk_lists.specs.Isolation.{dropped, called, calls_of, bands_of, History, no_frame, since, is_finished, call_in, turned_in}
 use Rattle.desk_lists.specs.Isolation.{and_turned, and_offered, and_served, noted, history_of, Isolated, Isolation}
 use Rattle.desk_lists.proofs.Slots.{Whole, both?, if_true, if_false, is_finished_lem, opened, offered_to, open_Changed, offer_Changed}
 use Rattle.desk_lists.proofs.Slots.{fresh_free, waits, served_slot, served_Whole}
 use Rattle.desk_lists.proofs.Bands.{calls_called, calls_dropped, bands_more}
 use Rattle.desk_lists.proofs.Apart.{HasParts, planes_kept, Apart, open_Apart, offer_Apart, served_Apart, served_clear}
 use Rattle.desk_lists.proofs.Kept.{Kept, other_offer, other_step, opens, offers, drops, serves}
+use Rattle.std.specs.Prelude.{Option, None, Some}
 
 -- of a camera's history
 abbrev KeptOf : ℕ → History → Slot → (source : List ℕ) → LastStep → Type 0
@@ -128,19 +124,19 @@ offer_Good c h before source l k good post back =
 
 module _ (c : ℕ) (h : History) (before : List ℕ) (l : LastStep) (k : StepCall) (good : Good c h k.desk before l) (back : PlanesBack l k.lent)
     (bands : BandsBack k.desk k.lent.source before) where
-  nothing_Good : Stepped NoneWaiting k → Good c (noted c (step k) h) k.result.desk k.lent.source (last_step k)
+  nothing_Good : Stepped None k → Good c (noted c (step k) h) k.result.desk k.lent.source (last_step k)
   nothing_Good s =
       let slot = ap (λ (x : Desk). slot_at x c) s.desk in
       record {
         whole = subst⁻¹ Whole s.desk good.whole;
         apart = subst⁻¹ Apart s.desk good.apart;
-        kept = subst⁻¹ (λ (x : Served). KeptOf c (and_served c k x h) (slot_at k.result.desk c) k.lent.source (last_step k)) s.served
+        kept = subst⁻¹ (λ (x : Option Served). KeptOf c (and_served c k x h) (slot_at k.result.desk c) k.lent.source (last_step k)) s.served
             (subst⁻¹ (λ (x : Slot). KeptOf c h x k.lent.source (last_step k)) slot
             (not_served c h k (slot_at k.desk c) before l slot (ap (tells c) s.served) back (bands c)
             (λ w _. ap (planes_in w) s.buffers) good.kept));
       }
 
-  module _ (e : ℕ) (f : OpenFrame) (b : WaitingBand) (turn : next_waiting k.desk.places k.desk.from ≡ Turn e f b)
+  module _ (e : ℕ) (f : OpenFrame) (b : WaitingBand) (turn : next_waiting k.desk.places k.desk.from ≡ its_turn e f b)
       (s : BandServed k e f b) where
     -- nothing but the served frame's parts was written
     bytes : (t : Bool) → IfLent t (Converted f b k.lent s.call k.left) (Outside f k.lent s.call k.left) → eqb e c ≡ false
@@ -178,7 +174,7 @@ module _ (c : ℕ) (h : History) (before : List ℕ) (l : LastStep) (k : StepCal
     served_Good = record {
       whole = served_Whole k e f b turn s good.whole;
       apart = served_Apart k e f b turn s good.whole good.apart;
-      kept = subst⁻¹ (λ (x : Served). KeptOf c (and_served c k x h) (slot_at k.result.desk c) k.lent.source (last_step k)) s.served
+      kept = subst⁻¹ (λ (x : Option Served). KeptOf c (and_served c k x h) (slot_at k.result.desk c) k.lent.source (last_step k)) s.served
           ((elim (eqb e c) as (λ t. eqb e c ≡ t
           → KeptOf c (cond t (and_turned h (turned_in (slot_at k.desk c) k s.call.answer)) h)
           (slot_at k.result.desk c) k.lent.source (last_step k)) [
@@ -187,10 +183,10 @@ module _ (c : ℕ) (h : History) (before : List ℕ) (l : LastStep) (k : StepCal
           ]) refl);
     }
 
-  step-Good : (n : Next) → next_waiting k.desk.places k.desk.from ≡ n → Stepped n k
+  step-Good : (n : Option Turn) → next_waiting k.desk.places k.desk.from ≡ n → Stepped n k
       → Good c (noted c (step k) h) k.result.desk k.lent.source (last_step k)
-  step-Good NoneWaiting turn s = nothing_Good s
-  step-Good (Turn e f b) turn s = served_Good e f b turn s
+  step-Good None turn s = nothing_Good s
+  step-Good (Some t) turn s = served_Good t.camera t.frame t.band turn s
 
 Good-after : (c : ℕ) (ks : List DeskCall) (h : History) (d : Desk) (source : List ℕ) (l : LastStep) → Good c h d source l → AllMet ks → HandedOn d ks
     → AsLeft l source ks → Good c (history_of c h ks) (desk_after d ks) (source_after source ks) (last_of l ks)

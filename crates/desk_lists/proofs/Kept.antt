@@ -1,18 +1,15 @@
 -- What is kept of one camera from call to call. A call that names another camera, or serves another, leaves its slot, bands and planes as they are;
 -- its own steps are band calls that demand 3 speaks of.
 -- Assumes nothing.
-use Prim.Native.Nat.{ℕ, zero, suc, ◌+◌, ◌≤◌, ◌<◌}
+use Prim.Native.Nat.{ℕ, ◌+◌, ◌≤◌}
 use mathlib.Core.Path.{◌≡◌, refl, sym, ap, subst, subst⁻¹, ◌∙◌}
-use mathlib.Core.Bool.{Bool, true, false, cond, true≢false}
+use mathlib.Core.Bool.{true, false, cond, true≢false}
 use mathlib.Core.List.{List, [], ◌∷◌, ◌++◌, append-nil}
 use native.Mathlib.Nat.{add-zero}
 use native.Mathlib.Omega.{arith}
-use borrow.Author.Tests.{eqb-true, eqb-false, eq-eqb, leb-true, leb-false}
-use lib.Dec.{eqb, leb}
-use lib.ListN.{get_or, replicate}
-use Rattle.yuv_error.specs.declared.YuvError.TheVariants.{PartsMismatch}
-use Rattle.yuv_error.specs.declared.YuvAnswer.{YuvAnswer}
-use Rattle.yuv_error.specs.declared.YuvAnswer.TheVariants.{Finished, Refused}
+use borrow.Author.Tests.{leb-true, leb-false}
+use lib.Dec.{leb}
+use Rattle.std.specs.Prelude.{Ok}
 use Rattle.yuv_error.specs.Rules.{first_numbers}
 use Rattle.yuv_error.specs.Lent.{opening_rules, taken}
 use Rattle.yuv_error.proofs.Accepted.{opened as opening_sized}
@@ -20,7 +17,7 @@ use Rattle.yuv_error.proofs.Accepts.{opening_passes}
 use Rattle.definitions.specs.declared.FrameDescription.{FrameDescription}
 use Rattle.band_calls.specs.declared.FrameState.{FrameState}
 use Rattle.band_calls.specs.declared.FrameAnswer.{FrameAnswer}
-use Rattle.band_calls.specs.BandCall.{state_of, BandCall, BandPost, Untouched}
+use Rattle.band_calls.specs.BandCall.{state_of, BandCall, BandPost}
 use Rattle.band_calls.proofs.Post.{refused_writes_nothing}
 use Rattle.band_lists.specs.BandLists.{Fresh, is_accepted, Tally, no_rows, tally_of, Accepted, none, call, first_call, last_call, Follows, Chained, After}
 use Rattle.band_lists.specs.BandLists as bands
@@ -33,7 +30,6 @@ use Rattle.desk_places.specs.declared.Slot.{Slot}
 use Rattle.desk_places.specs.declared.Slot.TheVariants.{Free, Idle, Waiting}
 use Rattle.desk_places.specs.Places.{is_open, with_state, after_band}
 use Rattle.desk_bands.specs.Buffers.{Buffers, FramePlanes, planes_in, band_call_in}
-use Rattle.desk.specs.declared.Desk.{Desk}
 use Rattle.desk.specs.DeskCall.{slot_at, opened_frame, StepCall}
 use Rattle.desk_lists.specs.DeskLists.{tells}
 use Rattle.desk_lists.specs.Isolation.{LastStep, no_step, last_step, SamePlanes, PlanesBack, SameBand, OwnBand, own_band, call_in, waiting_in}
@@ -42,7 +38,7 @@ use Rattle.desk_lists.proofs.Bands.{met_more, chained_more, last_more, tally_mor
 use Rattle.desk_lists.proofs.Apart.{HasParts}
 
 abbrev pub opening_of : FrameDescription → FrameAnswer
-opening_of d = record { state = state_of d 0; answer = Finished }
+opening_of d = record { state = state_of d 0; answer = Ok tt }
 
 -- the last step left the camera with these parts, where an own call was accepted
 abbrev pub Seated : LastStep → ℕ → FrameParts → Accepted → Type 0

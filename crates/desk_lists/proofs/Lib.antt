@@ -11,3 +11,4 @@ pub mod NotEmpty
 pub mod ThirtyOne
 pub mod WholeFrame
 pub mod FromNumbers
+pub mod Overlaps

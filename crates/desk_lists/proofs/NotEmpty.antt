@@ -7,7 +7,8 @@ use mathlib.Core.Bool.{Bool, true, false, cond, ◌&&◌, true≢false}
 use mathlib.Core.List.{List, [], ◌∷◌}
 use lib.Dec.{eqb}
 use lib.ListN.{length}
-use Rattle.yuv_error.specs.declared.YuvAnswer.{YuvAnswer}
+use Rattle.std.specs.Prelude.{Result, Option, None, Some}
+use Rattle.yuv_error.specs.declared.YuvError.{YuvError}
 use Rattle.yuv_error.specs.Numbers.{answer_of}
 use Rattle.yuv_error.specs.Rules.{first_numbers}
 use Rattle.definitions.specs.declared.FrameDescription.{FrameDescription}
@@ -17,15 +18,11 @@ use Rattle.desk_places.specs.declared.WaitingBand.{WaitingBand}
 use Rattle.desk_places.specs.declared.OpenFrame.{OpenFrame}
 use Rattle.desk_places.specs.declared.Slot.{Slot}
 use Rattle.desk_places.specs.declared.Slot.TheVariants.{Free, Idle, Waiting}
-use Rattle.desk_places.specs.declared.Next.{Next}
-use Rattle.desk_places.specs.declared.Next.TheVariants.{NoneWaiting, Turn}
+use Rattle.desk_places.specs.declared.Turn.{Turn}
 use Rattle.desk_places.specs.Places.{is_waiting, offered, next_waiting}
 use Rattle.desk_bands.specs.Buffers.{Buffers}
 use Rattle.desk.specs.declared.Desk.{Desk}
-use Rattle.desk.specs.declared.DeskAnswer.{DeskAnswer}
-use Rattle.desk.specs.declared.Served.TheVariants.{Nobody, Camera}
-use Rattle.desk.specs.declared.StepAnswer.{StepAnswer}
-use Rattle.desk.specs.DeskCall.{fresh, slot_at, put_slot, left_by, OpenCall, open_call, open_rules, opened_frame, OfferCall, offer_call, offer_rules}
+use Rattle.desk.specs.DeskCall.{fresh, slot_at, put_slot, left_by, OpenCall, open_call, open_rules, opened_frame, OfferCall, offer_call, offer_rules, served_by, StepAnswer}
 use Rattle.desk.specs.DeskCall.{step_call, served_desk, Stepped}
 use Rattle.desk_lists.specs.DeskLists.{DeskCall, opening, offering, step, AllMet, handed_back, HandedOn}
 use Rattle.desk_lists.specs.Isolation.{LastStep, no_step, last_step, SamePlanes, PlanesBack, SameBand, AsLeft, is_finished}
@@ -40,19 +37,19 @@ pub data Ask : Type 0 where
 
 -- ---- a call that keeps its promise
 
-abbrev pub open_answer : Desk → (camera : ℕ) → FrameDescription → FrameParts → BufferLengths → YuvAnswer
+abbrev pub open_answer : Desk → (camera : ℕ) → FrameDescription → FrameParts → BufferLengths → Result Unit YuvError
 open_answer d c frame w n = answer_of (first_numbers (open_rules (open_call d c frame w n (record { desk = d; answer = answer_of (first_numbers []) }))))
 
-abbrev pub offer_answer : Desk → (camera : ℕ) → WaitingBand → (len : ℕ) → YuvAnswer
+abbrev pub offer_answer : Desk → (camera : ℕ) → WaitingBand → (len : ℕ) → Result Unit YuvError
 offer_answer d c b n = answer_of (first_numbers (offer_rules (offer_call d c b n (record { desk = d; answer = answer_of (first_numbers []) }))))
 
-abbrev pub step_answer : Next → Desk → Buffers → StepAnswer
-step_answer NoneWaiting d p = record { desk = d; served = Nobody }
-step_answer (Turn c f b) d p = record { desk = served_desk d c f (serve_answer f b p).state; served = Camera c (serve_answer f b p).answer }
+abbrev pub step_answer : Option Turn → Desk → Buffers → StepAnswer
+step_answer None d p = record { desk = d; served = None }
+step_answer (Some t) d p = record { desk = served_desk d t.camera t.frame (serve_answer t.frame t.band p).state; served = served_by t.camera (serve_answer t.frame t.band p).answer }
 
-abbrev pub step_left : Next → Buffers → Buffers
-step_left NoneWaiting p = p
-step_left (Turn c f b) p = serve_left f b p
+abbrev pub step_left : Option Turn → Buffers → Buffers
+step_left None p = p
+step_left (Some t) p = serve_left t.frame t.band p
 
 abbrev pub answered : Desk → Buffers → Ask → DeskCall
 answered d p (to_open c frame w n) =
@@ -74,9 +71,9 @@ abbrev pub run : Desk → Buffers → List Ask → List DeskCall
 run d p [] = []
 run d p (a ∷ asks) = answered d p a ∷ run (handed_back (answered d p a)) (buffers_after d p a) asks
 
-step_met : (n : Next) (d : Desk) (p : Buffers) → Stepped n (step_call d p (step_answer n d p) (step_left n p))
-step_met NoneWaiting d p = record { served = refl; desk = refl; buffers = refl }
-step_met (Turn c f b) d p = record { call = serve_answer f b p; met = (served f b p).met; served = refl; desk = refl }
+step_met : (n : Option Turn) (d : Desk) (p : Buffers) → Stepped n (step_call d p (step_answer n d p) (step_left n p))
+step_met None d p = record { served = refl; desk = refl; buffers = refl }
+step_met (Some t) d p = record { call = serve_answer t.frame t.band p; met = (served t.frame t.band p).met; served = refl; desk = refl }
 
 open_Sayable : (k : OpenCall) → Sayable (open_rules k)
 open_Sayable k = (refl, (refl, (refl, (refl, (refl, (refl, (refl, (refl, (refl, tt)))))))))
@@ -112,9 +109,9 @@ same_band Free x = tt
 same_band (Idle f) x = tt
 same_band (Waiting f b) x = refl
 
-step_source : (n : Next) (p : Buffers) → (step_left n p).source ≡ p.source
-step_source NoneWaiting p = refl
-step_source (Turn c f b) p = (served f b p).source
+step_source : (n : Option Turn) (p : Buffers) → (step_left n p).source ≡ p.source
+step_source None p = refl
+step_source (Some t) p = (served t.frame t.band p).source
 
 pub run-AsLeft : (l : LastStep) (d : Desk) (p : Buffers) (asks : List Ask) → PlanesBack l p → AsLeft l p.source (run d p asks)
 run-AsLeft l d p [] back = tt

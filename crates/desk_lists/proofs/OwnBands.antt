@@ -2,7 +2,6 @@
 -- Assumes nothing.
 use Prim.Native.Nat.{ℕ, ◌+◌, ◌*◌, ◌<◌}
 use mathlib.Core.Path.{◌≡◌, sym, ap, subst, ◌∙◌}
-use mathlib.Core.Bool.{true}
 use mathlib.Core.List.{List, []}
 use native.Mathlib.Omega.{arith}
 use lib.ListN.{get_or}
@@ -10,18 +9,17 @@ use Rattle.definitions.specs.declared.FrameDescription.{FrameDescription}
 use Rattle.definitions.specs.Image.{chroma_size, finished_of}
 use Rattle.definitions.proofs.Finished.{finished_none}
 use Rattle.yuv_error.specs.Known.{Sized}
-use Rattle.sharp_rgba_to_yuv.specs.FrameCall.{FrameCall}
 use Rattle.band_calls.specs.declared.FrameState.{FrameState}
-use Rattle.band_calls.specs.BandCall.{state_of, BandCall}
-use Rattle.band_lists.specs.BandLists.{Tally, no_rows, tally_of, Accepted, none, call, first_call, last_call, SameRows, OthersEqual, After}
+use Rattle.band_calls.specs.BandCall.{state_of}
+use Rattle.band_lists.specs.BandLists.{Tally, no_rows, tally_of, Accepted, none, call, first_call, last_call, OthersEqual, After}
 use Rattle.band_lists.proofs.Demand3.{opening_Sized, demand_3}
 use Rattle.desk_places.specs.declared.FrameParts.{FrameParts}
 use Rattle.desk_places.specs.declared.Slot.{Slot}
-use Rattle.desk_bands.specs.Buffers.{Buffers, FramePlanes}
+use Rattle.desk_bands.specs.Buffers.{FramePlanes}
 use Rattle.desk.specs.DeskCall.{fresh, slot_at}
 use Rattle.desk_lists.specs.DeskLists.{desk_after}
 use Rattle.desk_lists.specs.Isolation.{LastStep, no_step, last_step, last_of, source_after, calls_of, History, no_frame, since, history_of, PlanesLeft}
-use Rattle.desk_lists.specs.Isolation.{Isolated, PartsAgree, AgreesWith, OthersAsFound, OthersKept, OwnPlanes, OwnRows, PlanesOfOwnBands}
+use Rattle.desk_lists.specs.Isolation.{Isolated, AgreesWith, OthersKept, OwnRows, PlanesOfOwnBands}
 use Rattle.desk_lists.proofs.Kept.{opening_of}
 use Rattle.desk_lists.proofs.Isolation.{isolation}
 

@@ -8,21 +8,19 @@ use borrow.Author.Tests.{eqb-true, eqb-false, ltb-true, ltb-false}
 use lib.Dec.{eqb, ltb}
 use lib.ListN.{length, get_or, replicate, length-set, get_or-eq_default}
 use lib.Seq.{get_or-set_same, get_or-set_other}
-use Rattle.yuv_error.specs.declared.YuvAnswer.{YuvAnswer}
-use Rattle.yuv_error.specs.declared.YuvAnswer.TheVariants.{Finished, Refused}
+use Rattle.std.specs.Prelude.{Result, Ok, Err, Option, None, Some}
+use Rattle.yuv_error.specs.declared.YuvError.{YuvError}
 use Rattle.yuv_error.proofs.First.{finished_number}
 use Rattle.desk_places.specs.declared.OpenFrame.{OpenFrame}
 use Rattle.desk_places.specs.declared.WaitingBand.{WaitingBand}
 use Rattle.desk_places.specs.declared.Slot.{Slot}
 use Rattle.desk_places.specs.declared.Slot.TheVariants.{Free, Idle}
-use Rattle.desk_places.specs.declared.Place.{Place}
-use Rattle.desk_places.specs.declared.Next.{Next}
-use Rattle.desk_places.specs.declared.Next.TheVariants.{NoneWaiting, Turn}
-use Rattle.desk_places.specs.Places.{is_open, offered, next_waiting, after_band}
-use Rattle.desk_places.proofs.Turn.{Waits, turn_Waits}
+use Rattle.desk_places.specs.declared.Turn.{Turn}
+use Rattle.desk_places.specs.Places.{is_open, offered, next_waiting, after_band, its_turn}
+use Rattle.desk_places.proofs.NextTurn.{Waits, turn_Waits}
 use Rattle.desk.specs.declared.Desk.{Desk}
 use Rattle.desk.specs.DeskCall.{fresh, slot_at, put_slot, left_by, OpenCall, open_rules, opened_frame, OpenPost, OfferCall, offer_rules, OfferPost}
-use Rattle.desk.specs.DeskCall.{StepCall, served_desk, NothingDone, BandServed, Stepped, StepPost}
+use Rattle.desk.specs.DeskCall.{StepCall, BandServed, Stepped}
 use Rattle.desk.proofs.Given.{OpenGiven, open_given, OfferGiven, offer_given}
 use Rattle.desk_lists.specs.DeskLists.{DeskCall, opening, offering, step, Met, given, handed_back}
 use Rattle.desk_lists.specs.Isolation.{is_finished}
@@ -32,10 +30,10 @@ abbrev pub Whole : Desk → Type 0
 Whole d = length d.places ≡ 32
 
 put_same : (d : Desk) (c : ℕ) (s : Slot) → Whole d → c < 32 → slot_at (put_slot d c s) c ≡ s
-put_same d c s whole l = ap (λ (p : Place). p.slot) (get_or-set_same d.places c (record { slot = s }) (record { slot = Free }) (omega arith))
+put_same d c s whole l = (get_or-set_same d.places c s Free (omega arith))
 
 put_other : (d : Desk) (e c : ℕ) (s : Slot) → (c ≡ e → ⊥) → slot_at (put_slot d e s) c ≡ slot_at d c
-put_other d e c s other = ap (λ (p : Place). p.slot) (get_or-set_other d.places e c (record { slot = s }) (record { slot = Free }) other)
+put_other d e c s other = (get_or-set_other d.places e c s Free other)
 
 pub put : (d : Desk) (e c : ℕ) (s : Slot) → Whole d → e < 32 → slot_at (put_slot d e s) c ≡ cond (eqb e c) s (slot_at d c)
 put d e c s whole l =
@@ -45,23 +43,23 @@ put d e c s whole l =
     ]) refl
 
 pub put_whole : (d : Desk) (c : ℕ) (s : Slot) → Whole d → Whole (put_slot d c s)
-put_whole d c s whole = length-set d.places c (record { slot = s }) ∙ whole
+put_whole d c s whole = length-set d.places c s ∙ whole
 
-alike : (n i : ℕ) (x : Place) → get_or (replicate n x) i x ≡ x
+alike : (n i : ℕ) (x : Slot) → get_or (replicate n x) i x ≡ x
 alike zero i x = refl
 alike (suc n) zero x = refl
 alike (suc n) (suc i) x = alike n i x
 
 -- every number of a fresh desk is free
 pub fresh_free : (c : ℕ) → slot_at fresh c ≡ Free
-fresh_free c = ap (λ (p : Place). p.slot) (alike 32 c (record { slot = Free }))
+fresh_free c = (alike 32 c Free)
 
 -- a number with a frame is one of the 32
 pub open_below : (d : Desk) (c : ℕ) → Whole d → is_open (slot_at d c) ≡ true → c < 32
 open_below d c w is = (elim (ltb c 32) as (λ a. ltb c 32 ≡ a → c < 32) [
   | true ↦ λ e. ltb-true c 32 e
-  | false ↦ λ e. absurd (true≢false (sym is ∙ ap (λ (p : Place). is_open p.slot)
-      (get_or-eq_default d.places (record { slot = Free }) (omega (arith, w, ltb-false c 32 e)))))
+  | false ↦ λ e. absurd (true≢false (sym is ∙ ap is_open
+      (get_or-eq_default d.places Free (omega (arith, w, ltb-false c 32 e)))))
 ]) refl
 
 -- both tests hold, or not
@@ -85,23 +83,23 @@ pub record Changed (d : Desk) (own : ℕ → Bool) (s : Slot) (e : Desk) : Type 
   pub from : e.from ≡ d.from
   pub whole : Whole e
 
-changed : (d : Desk) (camera : ℕ) (s : Slot) (a : YuvAnswer) → Whole d → (a ≡ Finished → camera < 32)
+changed : (d : Desk) (camera : ℕ) (s : Slot) (a : Result Unit YuvError) → Whole d → (a ≡ Ok tt → camera < 32)
     → Changed d (λ c. is_finished a && eqb camera c) s (left_by a (put_slot d camera s) d)
-changed d camera s Finished whole below = record {
+changed d camera s (Ok done) whole below = record {
   slot = λ c. put d camera c s whole (below refl);
   from = refl;
   whole = put_whole d camera s whole;
 }
-changed d camera s (Refused e) whole below = record { slot = λ c. refl; from = refl; whole = whole }
+changed d camera s (Err e) whole below = record { slot = λ c. refl; from = refl; whole = whole }
 
-pub is_finished_lem : (a : YuvAnswer) → is_finished a ≡ true → a ≡ Finished
-is_finished_lem Finished e = refl
-is_finished_lem (Refused x) e = absurd (true≢false (sym e))
+pub is_finished_lem : (a : Result Unit YuvError) → is_finished a ≡ true → a ≡ Ok tt
+is_finished_lem (Ok done) e = refl
+is_finished_lem (Err x) e = absurd (true≢false (sym e))
 
-pub opened : (k : OpenCall) → OpenPost k → k.result.answer ≡ Finished → OpenGiven k
+pub opened : (k : OpenCall) → OpenPost k → k.result.answer ≡ Ok tt → OpenGiven k
 opened k p is = open_given k (finished_number (open_rules k) is p.answered)
 
-pub offered_to : (k : OfferCall) → OfferPost k → k.result.answer ≡ Finished → OfferGiven k
+pub offered_to : (k : OfferCall) → OfferPost k → k.result.answer ≡ Ok tt → OfferGiven k
 offered_to k p is = offer_given k (finished_number (offer_rules k) is p.answered)
 
 pub open_Changed : (k : OpenCall) → Whole k.desk → OpenPost k
@@ -122,7 +120,7 @@ offer_Changed k whole p =
 
 -- ---- a step: the number of the camera that was served is set
 
-module _ (k : StepCall) (c : ℕ) (f : OpenFrame) (b : WaitingBand) (turn : next_waiting k.desk.places k.desk.from ≡ Turn c f b)
+module _ (k : StepCall) (c : ℕ) (f : OpenFrame) (b : WaitingBand) (turn : next_waiting k.desk.places k.desk.from ≡ its_turn c f b)
     (served : BandServed k c f b) (whole : Whole k.desk) where
   pub waits : Waits k.desk.places c f b
   waits = turn_Waits k.desk.places k.desk.from (sym turn)
@@ -133,11 +131,11 @@ module _ (k : StepCall) (c : ℕ) (f : OpenFrame) (b : WaitingBand) (turn : next
   pub served_Whole : Whole k.result.desk
   served_Whole =
       ap (λ (x : Desk). length x.places) served.desk
-      ∙ length-set k.desk.places c (record { slot = after_band f served.call.state }) ∙ whole
+      ∙ length-set k.desk.places c (after_band f served.call.state) ∙ whole
 
-step_Whole : (k : StepCall) (n : Next) → next_waiting k.desk.places k.desk.from ≡ n → Whole k.desk → Stepped n k → Whole k.result.desk
-step_Whole k NoneWaiting turn w s = ap (λ (x : Desk). length x.places) s.desk ∙ w
-step_Whole k (Turn c f b) turn w s = served_Whole k c f b turn s w
+step_Whole : (k : StepCall) (n : Option Turn) → next_waiting k.desk.places k.desk.from ≡ n → Whole k.desk → Stepped n k → Whole k.result.desk
+step_Whole k None turn w s = ap (λ (x : Desk). length x.places) s.desk ∙ w
+step_Whole k (Some t) turn w s = served_Whole k t.camera t.frame t.band turn s w
 
 pub call_Whole : (k : DeskCall) → Whole (given k) → Met k → Whole (handed_back k)
 call_Whole (opening k) w met = (open_Changed k w met).whole

@@ -1,24 +1,24 @@
 -- 32 steps are not too many: with a band of every camera waiting, camera 31 is not served in 31 steps. Frames with parts of no bytes overlap nothing,
 -- so all 32 open; then each step serves the camera whose turn it is and passes to the next.
 -- Assumes nothing.
-use Prim.Native.Nat.{ℕ, zero, suc, ◌+◌, ◌%◌, ◌≤◌, ◌<◌, min, max}
+use Prim.Native.Nat.{ℕ, zero, suc, ◌+◌, ◌≤◌, ◌<◌, min, max}
 use mathlib.Core.Path.{◌≡◌, refl, sym, ap, subst, subst⁻¹, ◌∙◌}
-use mathlib.Core.Bool.{Bool, true, false, cond, not, ◌||◌, true≢false}
+use mathlib.Core.Bool.{Bool, true, false, true≢false}
 use mathlib.Core.List.{List, [], ◌∷◌, ◌++◌}
 use native.Mathlib.Omega.{arith}
 use native.Mathlib.Numerals.{add-one}
-use borrow.Author.Tests.{le-ltb, le-leb, eqb-true, eqb-false, ne_eqb, eq-eqb}
-use lib.Dec.{eqb, ltb, leb}
-use lib.ListN.{length, get_or, replicate}
+use borrow.Author.Tests.{le-ltb, le-leb, eqb-false, ne_eqb}
+use lib.Dec.{eqb, ltb}
+use lib.ListN.{length}
 use Rattle.yuv_support.specs.declared.YuvSourceChannels.TheVariants.{Rgb}
 use Rattle.yuv_support.specs.declared.YuvChromaSubsampling.TheVariants.{Yuv420}
 use Rattle.yuv_support.specs.declared.YuvRange.TheVariants.{Full}
 use Rattle.yuv_support.specs.declared.YuvStandardMatrix.TheVariants.{Bt601}
 use Rattle.sharp_gamma.specs.declared.SharpYuvGammaTransfer.TheVariants.{Srgb}
 use Rattle.sharp_gamma.specs.declared.TableRounding.TheVariants.{Truncated}
-use Rattle.yuv_error.specs.declared.YuvAnswer.{YuvAnswer}
-use Rattle.yuv_error.specs.declared.YuvAnswer.TheVariants.{Finished}
-use Rattle.yuv_error.specs.Numbers.{Numbers, numbers, answer_of}
+use Rattle.std.specs.Prelude.{Result, Option}
+use Rattle.yuv_error.specs.declared.YuvError.{YuvError}
+use Rattle.yuv_error.specs.Numbers.{numbers, answer_of}
 use Rattle.yuv_error.specs.Rules.{first_numbers}
 use Rattle.definitions.specs.declared.FrameDescription.{FrameDescription}
 use Rattle.definitions.specs.Image.{whole_source}
@@ -30,16 +30,13 @@ use Rattle.desk_places.specs.declared.OpenFrame.{OpenFrame}
 use Rattle.desk_places.specs.declared.WaitingBand.{WaitingBand}
 use Rattle.desk_places.specs.declared.Slot.{Slot}
 use Rattle.desk_places.specs.declared.Slot.TheVariants.{Free, Idle, Waiting}
-use Rattle.desk_places.specs.declared.Place.{Place}
-use Rattle.desk_places.specs.declared.Next.{Next}
-use Rattle.desk_places.specs.declared.Next.TheVariants.{Turn}
-use Rattle.desk_places.specs.Places.{slot_in, is_open, is_waiting, overlaps_slot, overlaps_open, offered, asked, next_waiting, after_band}
-use Rattle.desk_places.proofs.Taken.{overlaps_start, overlaps_next}
-use Rattle.desk_places.proofs.Turn.{next_Reached}
+use Rattle.desk_places.specs.declared.Turn.{Turn}
+use Rattle.desk_places.specs.Places.{slot_in, is_open, is_waiting, overlaps_slot, overlaps_open, offered, asked, next_waiting, after_band, its_turn}
+use Rattle.desk_lists.proofs.Overlaps.{overlaps_start, overlaps_next}
+use Rattle.desk_places.proofs.NextTurn.{next_Reached}
 use Rattle.desk_bands.specs.Buffers.{Buffers}
 use Rattle.desk.specs.declared.Desk.{Desk}
-use Rattle.desk.specs.declared.DeskAnswer.{DeskAnswer}
-use Rattle.desk.specs.DeskCall.{fresh, slot_at, put_slot, left_by, open_call, open_rules, opened_frame, offer_call, offer_rules}
+use Rattle.desk.specs.DeskCall.{fresh, slot_at, put_slot, left_by, open_call, open_rules, opened_frame, offer_call, offer_rules, DeskAnswer}
 use Rattle.desk.specs.DeskCall.{StepCall, step_call, BandServed, Stepped, StepPost}
 use Rattle.desk_lists.specs.DeskLists.{DeskCall, AllMet, handed_back, HandedOn, desk_after, steps_in, tells, served_in}
 use Rattle.desk_lists.proofs.Slots.{Whole, put, put_whole, if_true, if_false, fresh_free, served_slot, served_Whole}
@@ -78,7 +75,7 @@ clear_slot Free = refl
 clear_slot (Idle f) = let w = f.parts in rw (no_overlap w.y, no_overlap w.u, no_overlap w.v, no_overlap w.carried)
 clear_slot (Waiting f b) = let w = f.parts in rw (no_overlap w.y, no_overlap w.u, no_overlap w.v, no_overlap w.carried)
 
-clear : (ps : List Place) (n : ℕ) → overlaps_open ps no_parts n ≡ false
+clear : (ps : List Slot) (n : ℕ) → overlaps_open ps no_parts n ≡ false
 clear ps zero = overlaps_start ps no_parts
 clear ps (suc n) =
     subst (λ (m : ℕ). overlaps_open ps no_parts m ≡ false) (add-one n) (overlaps_next ps no_parts n (clear_slot (slot_in ps n)) (clear ps n))
@@ -170,7 +167,7 @@ opened_all p (suc n) d l h =
     let r : DeskAnswer = record { desk = d; answer = answer_of (first_numbers []) } in
     let yes = ap answer_of (open_first d n r (omega arith) (h.below n (omega arith))) in
     opened_all p n (left_by (answer_of (first_numbers (open_rules (open_call d n tiny no_parts no_lengths r)))) (put_slot d n (Idle (opened_frame tiny no_parts))) d)
-    (omega arith) (subst⁻¹ (λ (a : YuvAnswer). Half is_free is_idle n (left_by a (put_slot d n (Idle (opened_frame tiny no_parts))) d)) yes
+    (omega arith) (subst⁻¹ (λ (a : Result Unit YuvError). Half is_free is_idle n (left_by a (put_slot d n (Idle (opened_frame tiny no_parts))) d)) yes
     (Half-more is_free is_idle n d (Idle (opened_frame tiny no_parts)) (omega arith) refl h))
 
 offered_all : (p : Buffers) (n : ℕ) (d : Desk) → n ≤ 32 → Half is_idle is_waiting n d → Half is_idle is_waiting 0 (desk_after d (run d p (offers_below n)))
@@ -182,7 +179,7 @@ offered_all p (suc n) d l h =
     let yes = ap answer_of (offer_first d n m r (omega arith) idle) in
     let s = offered (slot_at d n) no_band in
     offered_all p n (left_by (answer_of (first_numbers (offer_rules (offer_call d n no_band m r)))) (put_slot d n s) d) (omega arith)
-    (subst⁻¹ (λ (a : YuvAnswer). Half is_idle is_waiting n (left_by a (put_slot d n s) d)) yes
+    (subst⁻¹ (λ (a : Result Unit YuvError). Half is_idle is_waiting n (left_by a (put_slot d n s) d)) yes
     (Half-more is_idle is_waiting n d s (omega arith) (waits_now (slot_at d n) idle) h))
 
 -- ---- the steps
@@ -195,7 +192,7 @@ record Next' (i : ℕ) (d : Desk) : Type 0 where
 
 -- camera i is served, and the turn passes on
 module _ (i : ℕ) (k : StepCall) (less : i < 31) (q : Next' i k.desk) (e : ℕ) (f : OpenFrame) (b : WaitingBand) (is : e ≡ i)
-    (turn : next_waiting k.desk.places k.desk.from ≡ Turn e f b) (s : BandServed k e f b) where
+    (turn : next_waiting k.desk.places k.desk.from ≡ its_turn e f b) (s : BandServed k e f b) where
   not_31 : tells 31 k.result.served ≡ false
   not_31 = ap (tells 31) s.served ∙ ne_eqb e 31 (λ x. omega arith)
 
@@ -220,7 +217,7 @@ step_next i k l q post =
     let t = next_Reached d.places d.from 0 (omega arith)
     (ap (λ (x : ℕ). is_waiting (slot_at d x)) here ∙ q.waiting i (omega arith) (omega arith)) in
     let is : asked d.from t.k ≡ i = omega (arith, q.from, t.near) in
-    let s = subst (λ (n : Next). Stepped n k) t.turn post in (
+    let s = subst (λ (n : Option Turn). Stepped n k) t.turn post in (
       not_31 i k l q (asked d.from t.k) t.frame t.band is t.turn s,
       passes_on i k l q (asked d.from t.k) t.frame t.band is t.turn s,
     )

@@ -1,28 +1,25 @@
 -- Isolation speaks of frames that are converted: every frame whose rows a band call accepts in one band is finished by one step of the desk, with
 -- another camera's frame open beside it. Its tally then has all rows, and its planes are in view.
 -- Assumes nothing.
-use Prim.Native.Nat.{ℕ, zero, suc, ◌+◌, ◌≤◌, ◌<◌, min, max}
-use mathlib.Core.Path.{◌≡◌, refl, sym, ap, subst, subst⁻¹, ◌∙◌}
+use Prim.Native.Nat.{ℕ, zero, suc, ◌+◌, min, max}
+use mathlib.Core.Path.{◌≡◌, refl, sym, ap, subst, ◌∙◌}
 use mathlib.Core.Bool.{Bool, true, false, cond, ◌||◌, true≢false}
 use mathlib.Core.List.{List, [], ◌∷◌, ◌++◌}
 use native.Mathlib.Omega.{arith}
-use native.Mathlib.Nat.{le_refl}
 use native.Mathlib.Numerals.{add-one}
 use borrow.Author.Tests.{le-ltb, le-leb}
-use lib.Dec.{eqb, leb}
-use lib.ListN.{length, take, drop}
-use Rattle.yuv_error.specs.declared.YuvAnswer.TheVariants.{Finished}
+use lib.Dec.{eqb}
+use lib.ListN.{length}
+use Rattle.std.specs.Prelude.{Ok}
 use Rattle.yuv_error.specs.Numbers.{Numbers, numbers}
 use Rattle.yuv_error.specs.Rules.{first_numbers}
 use Rattle.yuv_error.specs.Lent.{opening_rules}
 use Rattle.yuv_error.specs.Lent as lent
 use Rattle.yuv_error.proofs.Accepts.{both_pass, opening_passes}
 use Rattle.definitions.specs.declared.FrameDescription.{FrameDescription}
-use Rattle.band_calls.specs.declared.FrameAnswer.{FrameAnswer}
-use Rattle.band_calls.specs.BandCall.{state_of, BandCall, BandPost, rules_of}
+use Rattle.band_calls.specs.BandCall.{state_of, rules_of}
 use Rattle.band_calls.proofs.Accepted.{AcceptedBand, band_passes}
-use Rattle.band_lists.specs.BandLists.{is_accepted, Tally, no_rows, tally_of}
-use Rattle.band_lists.proofs.Accepted.{call_finished}
+use Rattle.band_lists.specs.BandLists.{is_accepted, no_rows, tally_of}
 use Rattle.buffer_parts.specs.declared.BufferPart.{BufferPart}
 use Rattle.buffer_parts.specs.Parts.{are_overlapping, is_inside, part_of}
 use Rattle.desk_places.specs.declared.FrameParts.{FrameParts}
@@ -30,14 +27,11 @@ use Rattle.desk_places.specs.declared.OpenFrame.{OpenFrame}
 use Rattle.desk_places.specs.declared.WaitingBand.{WaitingBand}
 use Rattle.desk_places.specs.declared.Slot.{Slot}
 use Rattle.desk_places.specs.declared.Slot.TheVariants.{Free, Idle, Waiting}
-use Rattle.desk_places.specs.declared.Place.{Place}
-use Rattle.desk_places.specs.declared.Next.TheVariants.{Turn}
 use Rattle.desk_places.specs.Places.{slot_in, is_open, is_waiting, are_inside, overlaps_slot, overlaps_open, first_waiting, next_waiting}
-use Rattle.desk_places.proofs.Taken.{overlaps_start, overlaps_next}
-use Rattle.desk_bands.specs.Buffers.{Buffers, lengths_of, are_lent, band_call_in, Converted, IfLent}
+use Rattle.desk_lists.proofs.Overlaps.{overlaps_start, overlaps_next}
+use Rattle.desk_bands.specs.Buffers.{Buffers, lengths_of, are_lent, band_call_in, Converted}
 use Rattle.desk.specs.declared.Desk.{Desk}
-use Rattle.desk.specs.declared.Served.TheVariants.{Camera}
-use Rattle.desk.specs.DeskCall.{fresh, slot_at, put_slot, number_rules, part_rules, OpenCall, open_call, open_rules, opened_frame, OpenPost}
+use Rattle.desk.specs.DeskCall.{fresh, slot_at, put_slot, number_rules, part_rules, OpenCall, open_call, opened_frame, OpenPost, served_by}
 use Rattle.desk.specs.DeskCall.{OfferCall, offer_call, OfferPost, StepCall, step_call, served_desk, StepPost}
 use Rattle.desk_lists.specs.DeskLists.{DeskCall, opening, offering, step, AllMet, HandedOn, desk_after}
 use Rattle.desk_lists.specs.Isolation.{no_step, last_of, SameBand, AsLeft, OwnBand, own_band, Turned, called, calls_of, no_frame, since, call_in}
@@ -69,7 +63,7 @@ clear_slot : (w : FrameParts) (t : Bool) → overlaps_slot w (cond t (Idle (open
 clear_slot w true = rw (no_overlap w.y, no_overlap w.u, no_overlap w.v, no_overlap w.carried)
 clear_slot w false = refl
 
-clear : (ps : List Place) (w : FrameParts) (n : ℕ) → ((c : ℕ) → overlaps_slot w (slot_in ps c) ≡ false) → overlaps_open ps w n ≡ false
+clear : (ps : List Slot) (w : FrameParts) (n : ℕ) → ((c : ℕ) → overlaps_slot w (slot_in ps c) ≡ false) → overlaps_open ps w n ≡ false
 clear ps w zero none = overlaps_start ps w
 clear ps w (suc n) none = subst (λ (m : ℕ). overlaps_open ps w m ≡ false) (add-one n) (overlaps_next ps w n (none n) (clear ps w n none))
 
@@ -112,22 +106,22 @@ module _ (d : FrameDescription) (stride : ℕ) (p : Buffers)
   d₃ = put_slot d₂ 7 (Waiting f b)
 
   abbrev k₁ : OpenCall
-  k₁ = open_call fresh 4 tiny no_parts no_lengths (record { desk = d₁; answer = Finished })
+  k₁ = open_call fresh 4 tiny no_parts no_lengths (record { desk = d₁; answer = Ok tt })
 
   abbrev k₂ : OpenCall
-  k₂ = open_call d₁ 7 d w (lengths_of p) (record { desk = d₂; answer = Finished })
+  k₂ = open_call d₁ 7 d w (lengths_of p) (record { desk = d₂; answer = Ok tt })
 
   abbrev k₃ : OfferCall
-  k₃ = offer_call d₂ 7 b (length p.source) (record { desk = d₃; answer = Finished })
+  k₃ = offer_call d₂ 7 b (length p.source) (record { desk = d₃; answer = Ok tt })
 
   c : CanServe f b p
   c = can_serve f b p
 
   abbrev k₄ : StepCall
-  k₄ = step_call d₃ p (record { desk = served_desk d₃ 7 f c.call.state; served = Camera 7 c.call.answer }) c.left
+  k₄ = step_call d₃ p (record { desk = served_desk d₃ 7 f c.call.state; served = served_by 7 c.call.answer }) c.left
 
   met₁ : OpenPost k₁
-  met₁ = record { answered = sym (open_first fresh 4 (record { desk = d₁; answer = Finished }) (omega arith) refl); desk = refl }
+  met₁ = record { answered = sym (open_first fresh 4 (record { desk = d₁; answer = Ok tt }) (omega arith) refl); desk = refl }
 
   inside : are_inside w (lengths_of p) ≡ true
   inside = rw (whole_inside p.y, whole_inside p.u, whole_inside p.v, whole_inside p.carried)

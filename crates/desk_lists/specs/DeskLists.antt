@@ -1,10 +1,9 @@
 -- Lists of the desk's calls after a fresh beginning, and the claim that no camera waits long. docs/RULES.md, 16.5.
 -- Assumes nothing.
-use Rattle.std.specs.Prelude.{ℕ, ◌+◌, ◌≡◌, Bool, true, false, ◌||◌, List, [], ◌∷◌, ◌++◌, eqb}
+use Rattle.std.specs.Prelude.{ℕ, ◌+◌, ◌≡◌, Bool, true, false, ◌||◌, List, [], ◌∷◌, ◌++◌, eqb, Option, None, Some}
 use Rattle.desk_places.specs.Places.{is_waiting}
 use Rattle.desk.specs.declared.Desk.{Desk}
 use Rattle.desk.specs.declared.Served.{Served}
-use Rattle.desk.specs.declared.Served.TheVariants.{Nobody, Camera}
 use Rattle.desk.specs.DeskCall.{fresh, slot_at, OpenCall, OpenPost, OfferCall, OfferPost, StepCall, StepPost}
 
 -- RULES 16.5: a call of the desk; beside an offer, which is told a length, stands the source buffer as it then was
@@ -55,9 +54,9 @@ steps_in (offering k source ∷ ks) = steps_in ks
 steps_in (step k ∷ ks) = steps_in ks + 1
 
 -- RULES 16.4: whether a step told that it served camera c
-abbrev pub tells : ℕ → Served → Bool
-tells c Nobody = false
-tells c (Camera e a) = eqb e c
+abbrev pub tells : ℕ → Option Served → Bool
+tells c None = false
+tells c (Some s) = eqb s.camera c
 
 -- RULES 16.5: whether one of the steps did
 abbrev pub served_in : ℕ → List DeskCall → Bool

@@ -1,13 +1,11 @@
 -- Lists of the desk's calls that came as numbers, as the lists of calls that the claims speak of: docs/RULES.md, 10.10, 16.5 and 16.6.
 -- Assumes nothing.
-use Rattle.std.specs.Prelude.{ℕ, ◌+◌, ◌*◌, ◌<◌, ◌≡◌, Bool, true, false, cond, ◌&&◌, ◌||◌, List, [], ◌∷◌, ◌++◌, eqb}
-use Rattle.yuv_error.specs.declared.YuvAnswer.{YuvAnswer}
+use Rattle.std.specs.Prelude.{ℕ, ◌+◌, ◌*◌, ◌<◌, ◌≡◌, Bool, true, false, cond, ◌&&◌, ◌||◌, List, [], ◌∷◌, ◌++◌, eqb, Result, Option, None}
+use Rattle.yuv_error.specs.declared.YuvError.{YuvError}
 use Rattle.yuv_error.specs.Numbers.{numbers, answer_of}
 use Rattle.call_numbers.specs.Codes.{at, description_of}
-use Rattle.desk.specs.declared.DeskAnswer.{DeskAnswer}
 use Rattle.desk.specs.declared.Served.{Served}
-use Rattle.desk.specs.declared.Served.TheVariants.{Nobody, Camera}
-use Rattle.desk.specs.DeskCall.{fresh, slot_at, OpenCall, open_call, OfferCall, StepCall}
+use Rattle.desk.specs.DeskCall.{fresh, slot_at, OpenCall, open_call, OfferCall, StepCall, served_by, DeskAnswer}
 use Rattle.desk_numbers.specs.Numbers.{DeskNumbers, desk_of, fresh_numbers}
 use Rattle.desk_calls.specs.Calls.{ExportedDeskOpen, parts_of, lengths_of, DeskOpenKept, ExportedDeskOffer, offer_with, DeskOfferKept}
 use Rattle.desk_calls.specs.Calls.{ExportedDeskStep, step_with, DeskStepKept}
@@ -56,11 +54,11 @@ numbers_after n (k ∷ ks) = numbers_after (after k) ks
 -- ---- the calls of the desk that they are
 
 -- RULES 10.10: the answer that was told
-abbrev pub answer_told : (number : ℕ) → (told : List ℕ) → YuvAnswer
+abbrev pub answer_told : (number : ℕ) → (told : List ℕ) → Result Unit YuvError
 answer_told number told = answer_of (numbers number (at told 0) (at told 1))
 
 -- RULES 10.10: what was handed back
-abbrev pub handed : DeskNumbers → YuvAnswer → DeskAnswer
+abbrev pub handed : DeskNumbers → Result Unit YuvError → DeskAnswer
 handed n a = record { desk = desk_of n; answer = a }
 
 -- RULES 10.10
@@ -74,8 +72,8 @@ abbrev pub as_offering : ExportedDeskOffer → OfferCall
 as_offering k = offer_with k (handed k.after (answer_of (numbers k.number 0 0)))
 
 -- RULES 10.10: the camera whose turn it was, where one was told
-abbrev pub served_in : (number : ℕ) → (told : List ℕ) → Served
-served_in number told = cond (eqb (at told 2) 1) (Camera (at told 3) (answer_told number told)) Nobody
+abbrev pub served_in : (number : ℕ) → (told : List ℕ) → Option Served
+served_in number told = cond (eqb (at told 2) 1) (served_by (at told 3) (answer_told number told)) None
 
 -- RULES 10.10
 abbrev pub as_step : ExportedDeskStep → StepCall

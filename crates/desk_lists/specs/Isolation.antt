@@ -1,8 +1,7 @@
 -- The claim that a camera's planes are those of its own bands alone, whatever the others do. docs/RULES.md, 16.6.
 -- Assumes nothing.
-use Rattle.std.specs.Prelude.{ℕ, ◌+◌, ◌<◌, ◌≡◌, Bool, true, false, cond, ◌&&◌, ◌||◌, List, [], ◌∷◌, ◌++◌, eqb}
-use Rattle.yuv_error.specs.declared.YuvAnswer.{YuvAnswer}
-use Rattle.yuv_error.specs.declared.YuvAnswer.TheVariants.{Finished, Refused}
+use Rattle.std.specs.Prelude.{ℕ, ◌+◌, ◌<◌, ◌≡◌, Bool, true, false, cond, ◌&&◌, ◌||◌, List, [], ◌∷◌, ◌++◌, eqb, Result, Ok, Err, Option, None, Some}
+use Rattle.yuv_error.specs.declared.YuvError.{YuvError}
 use Rattle.yuv_error.specs.Lent.{taken}
 use Rattle.definitions.specs.declared.FrameDescription.{FrameDescription}
 use Rattle.definitions.specs.Image.{chroma_size, finished_of}
@@ -20,7 +19,6 @@ use Rattle.desk_places.specs.declared.Slot.TheVariants.{Free, Idle, Waiting}
 use Rattle.desk_places.specs.Places.{is_open}
 use Rattle.desk.specs.declared.Desk.{Desk}
 use Rattle.desk.specs.declared.Served.{Served}
-use Rattle.desk.specs.declared.Served.TheVariants.{Nobody, Camera}
 use Rattle.desk_bands.specs.Buffers.{Buffers, are_lent, FramePlanes, planes_in, band_call_in}
 use Rattle.desk.specs.DeskCall.{fresh, slot_at, StepCall}
 use Rattle.desk_lists.specs.DeskLists.{DeskCall, opening, offering, step, AllMet, HandedOn, desk_after, tells}
@@ -114,16 +112,16 @@ pub data History : Type 0 where
   since : FrameDescription → FrameParts → List Turned → List OwnBand → History
 
 -- RULES 16.6: a call finished its work
-abbrev pub is_finished : YuvAnswer → Bool
-is_finished Finished = true
-is_finished (Refused e) = false
+abbrev pub is_finished : Result Unit YuvError → Bool
+is_finished (Ok done) = true
+is_finished (Err e) = false
 
 -- RULES 16.6: the band call of a step that told the answer a
-abbrev pub call_in : OpenFrame → WaitingBand → StepCall → YuvAnswer → BandCall
+abbrev pub call_in : OpenFrame → WaitingBand → StepCall → Result Unit YuvError → BandCall
 call_in f b k a = band_call_in f b k.lent (record { state = state_of f.state.frame (f.state.done + taken a b.rows); answer = a }) k.left
 
 -- RULES 16.6: what became of the band that waited
-abbrev pub turned_in : Slot → StepCall → YuvAnswer → List Turned
+abbrev pub turned_in : Slot → StepCall → Result Unit YuvError → List Turned
 turned_in Free k a = []
 turned_in (Idle f) k a = []
 turned_in (Waiting f b) k a = cond (are_lent f b k.lent) (called (call_in f b k a)) (dropped (own_band b k.lent.source)) ∷ []
@@ -139,9 +137,9 @@ and_offered no_frame b = no_frame
 and_offered (since d w ts os) b = since d w ts (os ++ (b ∷ []))
 
 -- RULES 16.6: a step counts for the camera that it told
-abbrev pub and_served : ℕ → StepCall → Served → History → History
-and_served c k Nobody h = h
-and_served c k (Camera e a) h = cond (eqb e c) (and_turned h (turned_in (slot_at k.desk c) k a)) h
+abbrev pub and_served : ℕ → StepCall → Option Served → History → History
+and_served c k None h = h
+and_served c k (Some s) h = cond (eqb s.camera c) (and_turned h (turned_in (slot_at k.desk c) k s.answer)) h
 
 -- RULES 16.6: an opening and an offer count where they name the camera and were accepted
 abbrev pub noted : ℕ → DeskCall → History → History
@@ -190,7 +188,7 @@ in_view c s l = is_open s || last_tells c l
 -- RULES 16.6: a camera's calls, as if there were no other camera
 pub record Alone (c : ℕ) (d : FrameDescription) (w : FrameParts) (ts : List Turned) (os : List OwnBand) (s : Slot) (source : List ℕ)
     (l : LastStep) : Type 0 where
-  pub opened : Fresh d (record { state = state_of d 0; answer = Finished })
+  pub opened : Fresh d (record { state = state_of d 0; answer = Ok tt })
   pub met : bands.AllMet (calls_of ts)
   pub chained : Chained (state_of d 0) none (calls_of ts)
   pub own : os ≡ bands_of ts ++ waiting_in s source

@@ -2,12 +2,12 @@
 -- Assumes nothing.
 use Prim.Native.Nat.{ℕ, ◌+◌, ◌*◌, ◌≤◌, ◌<◌}
 use mathlib.Core.Path.{◌≡◌, refl, sym, ap, ◌∙◌}
-use mathlib.Core.Bool.{Bool, true, false, cond}
-use mathlib.Core.List.{List}
+use mathlib.Core.Bool.{Bool, true, false}
+use mathlib.Core.List.{List, map}
 use native.Mathlib.Omega.{arith}
 use borrow.Author.Tests.{eqb-true, eqb-false}
 use lib.Dec.{eqb}
-use lib.Ieee.{Float, nan}
+use lib.Ieee.{nan}
 use lib.ListN.{length, get_or, set, length-set}
 use lib.Seq.{ext_get_or, get_or-set_same, get_or-set_other}
 use Rattle.buffer_parts.specs.declared.BufferPart.{BufferPart}
@@ -15,11 +15,10 @@ use Rattle.buffer_parts.specs.Parts.{InPart, Overlap, with_part}
 use Rattle.buffer_parts.proofs.Parts.{with_part_lem, with_length, outside, part_same}
 use Rattle.desk_places.specs.declared.Slot.{Slot}
 use Rattle.desk_places.specs.declared.Slot.TheVariants.{Free}
-use Rattle.desk_places.specs.declared.Place.{Place}
 use Rattle.desk.specs.declared.Desk.{Desk}
 use Rattle.desk.specs.DeskCall.{fresh, put_slot}
-use Rattle.convoy_calls.specs.Numbers.{list_from}
-use Rattle.convoy_calls.proofs.Frames.{list_length, list_at}
+use Rattle.std.specs.List.{range_with_len}
+use Rattle.std.proofs.lemmas.List.FromFn.{length-map-range_with_len, get_or-map-range_with_len}
 use Rattle.desk_numbers.specs.Numbers.{DeskNumbers, of_camera, with_camera, slot_of, place_of, desk_of, fresh_numbers}
 use Rattle.desk_numbers.specs.Numbers.{slot_numbers, slot_customs, slot_parts, put_place, ask_first}
 use Rattle.desk_numbers.proofs.Again.{slot_again, numbers_size, customs_size, parts_size}
@@ -51,6 +50,17 @@ module _ {A : Type 0} (many : ℕ) (d : A) (xs : List A) (c : ℕ) (ys : List A)
   kept : (k : ℕ) → (Overlap (camera_part many c) (camera_part many k) → ⊥) → of_camera many (with_camera many xs c ys) k ≡ of_camera many xs k
   kept k apart = part_same (camera_part many c) (camera_part many k) d xs (with_camera many xs c ys) long elsewhere apart
 
+-- ---- the places, in order
+
+abbrev places_of : DeskNumbers → List Slot
+places_of n = map (place_of n) (range_with_len 0 32)
+
+all_places : (n : DeskNumbers) → length (places_of n) ≡ 32
+all_places n = length-map-range_with_len (place_of n) 0 32
+
+nth_place : (n : DeskNumbers) (k : ℕ) → k < 32 → get_or (places_of n) k Free ≡ place_of n k
+nth_place n k l = get_or-map-range_with_len (place_of n) 0 32 k k Free l (let e : 0 + k ≡ k = omega arith in e)
+
 -- ---- a place written
 
 module _ (n : DeskNumbers) (c : ℕ) (s : Slot) (sized : Sized n) (below : c < 32) where
@@ -63,14 +73,13 @@ module _ (n : DeskNumbers) (c : ℕ) (s : Slot) (sized : Sized n) (below : c < 3
   parts_inside : 10 * c + 10 ≤ length n.parts
   parts_inside = omega (arith, sized.parts)
 
-  here : place_of (put_place n c s) c ≡ record { slot = s }
+  here : place_of (put_place n c s) c ≡ s
   unfolding place_of put_place
   here =
       let numbers = written 19 0 n.numbers c (slot_numbers s) numbers_inside (numbers_size s) in
       let customs = written 2 nan n.customs c (slot_customs s) customs_inside (customs_size s) in
       let parts = written 10 0 n.parts c (slot_parts s) parts_inside (parts_size s) in
-      let slot = (λ i. slot_of (numbers i) (customs i) (parts i)) ∙ slot_again s in
-      λ i. let p : Place = record { slot = slot i } in p
+      (λ i. slot_of (numbers i) (customs i) (parts i)) ∙ slot_again s
 
   there : (k : ℕ) → (k ≡ c → ⊥) → place_of (put_place n c s) k ≡ place_of n k
   unfolding place_of put_place
@@ -81,7 +90,7 @@ module _ (n : DeskNumbers) (c : ℕ) (s : Slot) (sized : Sized n) (below : c < 3
       (λ o. other (omega (arith, o.1.0.0, o.1.0.1, o.1.1.0, o.1.1.1))) in
       let parts = kept 10 0 n.parts c (slot_parts s) parts_inside (parts_size s) k
       (λ o. other (omega (arith, o.1.0.0, o.1.0.1, o.1.1.0, o.1.1.1))) in
-      λ i. let p : Place = record { slot = slot_of (numbers i) (customs i) (parts i) } in p
+      λ i. slot_of (numbers i) (customs i) (parts i)
 
   pub put_Sized : Sized (put_place n c s)
   unfolding put_place
@@ -95,30 +104,25 @@ module _ (n : DeskNumbers) (c : ℕ) (s : Slot) (sized : Sized n) (below : c < 3
   unfolding put_place
   same_from = elsewhere 19 0 n.numbers c (slot_numbers s) numbers_inside (numbers_size s) 608 (λ x. absurd (omega (arith, x.0, x.1)))
 
-  abbrev none : Place
-  none = record { slot = Free }
-
-  place_at : (k : ℕ) → k < 32 → get_or (list_from (place_of (put_place n c s)) 0 32) k none ≡ get_or (set (list_from (place_of n) 0 32) c (record { slot = s })) k none
-  place_at k l = list_at (place_of (put_place n c s)) 0 32 k none l ∙ ap (place_of (put_place n c s)) (let e : 0 + k ≡ k = omega arith in e) ∙ go (eqb k c) refl
+  place_at : (k : ℕ) → k < 32 → get_or (places_of (put_place n c s)) k Free ≡ get_or (set (places_of n) c s) k Free
+  place_at k l = nth_place (put_place n c s) k l ∙ go (eqb k c) refl
     where
-      go : (b : Bool) → eqb k c ≡ b → place_of (put_place n c s) k ≡ get_or (set (list_from (place_of n) 0 32) c (record { slot = s })) k none
+      go : (b : Bool) → eqb k c ≡ b → place_of (put_place n c s) k ≡ get_or (set (places_of n) c s) k Free
       go true e =
           let is = eqb-true k c e in
           ap (place_of (put_place n c s)) is ∙ here
-          ∙ sym (ap (λ (j : ℕ). get_or (set (list_from (place_of n) 0 32) c (record { slot = s })) j none) is
-          ∙ get_or-set_same (list_from (place_of n) 0 32) c (record { slot = s }) none (omega (arith, list_length (place_of n) 0 32)))
+          ∙ sym (ap (λ (j : ℕ). get_or (set (places_of n) c s) j Free) is
+          ∙ get_or-set_same (places_of n) c s Free (omega (arith, all_places n)))
       go false e =
           let other = eqb-false k c e in
-          there k other
-          ∙ sym (get_or-set_other (list_from (place_of n) 0 32) c k (record { slot = s }) none other
-          ∙ list_at (place_of n) 0 32 k none l ∙ ap (place_of n) (let e : 0 + k ≡ k = omega arith in e))
+          there k other ∙ sym (get_or-set_other (places_of n) c k s Free other ∙ nth_place n k l)
 
   pub desk_put : desk_of (put_place n c s) ≡ put_slot (desk_of n) c s
   unfolding desk_of
   desk_put =
-      let size : length (list_from (place_of (put_place n c s)) 0 32) ≡ 32 = list_length (place_of (put_place n c s)) 0 32 in
-      let places = ext_get_or none (list_from (place_of (put_place n c s)) 0 32) (set (list_from (place_of n) 0 32) c (record { slot = s }))
-      (size ∙ sym (length-set (list_from (place_of n) 0 32) c (record { slot = s }) ∙ list_length (place_of n) 0 32))
+      let size = all_places (put_place n c s) in
+      let places = ext_get_or Free (places_of (put_place n c s)) (set (places_of n) c s)
+      (size ∙ sym (length-set (places_of n) c s ∙ all_places n))
       (λ k l. place_at k (omega (arith, size))) in
       λ i. let r : Desk = record { places = places i; from = same_from i } in r
 
@@ -135,21 +139,16 @@ module _ (n : DeskNumbers) (from : ℕ) (sized : Sized n) where
       (length-set n.numbers 608 from)
       (λ i out. get_or-set_other n.numbers 608 i from 0 (λ e. out (omega (arith, e), omega (arith, e))))
       (λ o. absurd (omega (arith, o.1.0.0, o.1.0.1, o.1.1.0, o.1.1.1))) in
-      λ i. let p : Place = record { slot = slot_of (numbers i) (of_camera 2 n.customs k) (of_camera 10 n.parts k) } in p
+      λ i. slot_of (numbers i) (of_camera 2 n.customs k) (of_camera 10 n.parts k)
 
   pub desk_ask : desk_of (ask_first n from) ≡ record { places = (desk_of n).places; from = from }
   unfolding desk_of
   desk_ask =
-      let none : Place = record { slot = Free } in
-      let size : length (list_from (place_of (ask_first n from)) 0 32) ≡ 32 = list_length (place_of (ask_first n from)) 0 32 in
-      let places = ext_get_or none (list_from (place_of (ask_first n from)) 0 32) (list_from (place_of n) 0 32)
-      (size ∙ sym (list_length (place_of n) 0 32))
+      let size = all_places (ask_first n from) in
+      let places = ext_get_or Free (places_of (ask_first n from)) (places_of n)
+      (size ∙ sym (all_places n))
       (λ k l. let less : k < 32 = omega (arith, size) in
-      let is : 0 + k ≡ k = omega arith in
-      list_at (place_of (ask_first n from)) 0 32 k none less
-      ∙ ap (place_of (ask_first n from)) is
-      ∙ same_place k less
-      ∙ sym (list_at (place_of n) 0 32 k none less ∙ ap (place_of n) is)) in
+      nth_place (ask_first n from) k less ∙ same_place k less ∙ sym (nth_place n k less)) in
       let first = get_or-set_same n.numbers 608 from 0 (omega (arith, sized.numbers)) in
       λ i. let r : Desk = record { places = places i; from = first i } in r
 

@@ -1,7 +1,8 @@
 -- The numbers that C keeps for a desk: nineteen for each camera, its kr and kb, offsets and lengths; and the camera that is asked first. docs/RULES.md, 10.10.
 -- Every number is read as something, also those that no call wrote: a place of another kind is free, and a code without a meaning is the first.
 -- Assumes nothing.
-use Rattle.std.specs.Prelude.{ℕ, ◌+◌, ◌*◌, cond, List, [], ◌∷◌, ◌++◌, eqb, Float, take, drop, set, replicate}
+use Rattle.std.specs.Prelude.{ℕ, ◌+◌, ◌*◌, cond, List, [], ◌∷◌, ◌++◌, eqb, Float, take, drop, map, set, replicate}
+use Rattle.std.specs.List.{range_with_len}
 use Rattle.std.specs.Float.{binary32}
 use Rattle.std.specs.Float.Ieee.{of_bits}
 use Rattle.yuv_support.specs.declared.YuvStandardMatrix.{YuvStandardMatrix}
@@ -16,9 +17,8 @@ use Rattle.desk_places.specs.declared.OpenFrame.{OpenFrame}
 use Rattle.desk_places.specs.declared.WaitingBand.{WaitingBand}
 use Rattle.desk_places.specs.declared.Slot.{Slot}
 use Rattle.desk_places.specs.declared.Slot.TheVariants.{Free, Idle, Waiting}
-use Rattle.desk_places.specs.declared.Place.{Place}
 use Rattle.desk.specs.declared.Desk.{Desk}
-use Rattle.convoy_calls.specs.Numbers.{part_at, list_from}
+use Rattle.convoy_calls.specs.Numbers.{part_at}
 
 -- RULES 10.10: the three arrays
 pub record DeskNumbers : Type 0 where
@@ -57,12 +57,12 @@ slot_of numbers custom parts =
     (cond (eqb (at numbers 0) 2) (Waiting (frame_of numbers custom parts) (band_of numbers parts)) Free)
 
 -- RULES 10.10
-unfoldable pub place_of : DeskNumbers → (k : ℕ) → Place
-place_of n k = record { slot = slot_of (of_camera 19 n.numbers k) (of_camera 2 n.customs k) (of_camera 10 n.parts k) }
+unfoldable pub place_of : DeskNumbers → (k : ℕ) → Slot
+place_of n k = slot_of (of_camera 19 n.numbers k) (of_camera 2 n.customs k) (of_camera 10 n.parts k)
 
 -- RULES 10.10: the desk that the numbers are
 unfoldable pub desk_of : DeskNumbers → Desk
-desk_of n = record { places = list_from (place_of n) 0 32; from = at n.numbers 608 }
+desk_of n = record { places = map (place_of n) (range_with_len 0 32); from = at n.numbers 608 }
 
 -- RULES 10.10: all zeros
 unfoldable pub fresh_numbers : DeskNumbers

@@ -1,5 +1,5 @@
 -- Laws of the places, of parts that are taken, and of whose turn it is.
 pub mod Taken
 pub mod Means
-pub mod Turn
+pub mod NextTurn
 pub mod Exact

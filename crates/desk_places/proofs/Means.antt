@@ -1,19 +1,18 @@
 -- The tests of parts are exact: of one pair of frames by the four buffers, of the desk by its cameras.
 -- Assumes nothing.
 use Prim.Native.Nat.{ℕ, zero, suc, ◌<◌}
-use mathlib.Core.Path.{◌≡◌, refl, sym, ap, subst, ◌∙◌}
-use mathlib.Core.Bool.{Bool, true, false, ◌&&◌, ◌||◌, true≢false, and-eq-true_iff, or-eq-true_iff}
+use mathlib.Core.Path.{◌≡◌, refl, sym, ◌∙◌}
+use mathlib.Core.Bool.{Bool, true, false, ◌||◌, true≢false, and-eq-true_iff}
 use mathlib.Core.List.{List}
 use mathlib.Core.Logic.{◌↔◌, ◌⊎◌, inl, inr, ⊎_elim}
 use native.Mathlib.Omega.{arith}
-use Rattle.buffer_parts.specs.Parts.{Inside, Overlap, is_inside, are_overlapping}
+use Rattle.buffer_parts.specs.Parts.{is_inside}
 use Rattle.buffer_parts.proofs.Tests.{tests_are_exact as parts_are_exact}
 use Rattle.desk_places.specs.declared.FrameParts.{FrameParts}
 use Rattle.desk_places.specs.declared.BufferLengths.{BufferLengths}
 use Rattle.desk_places.specs.declared.OpenFrame.{OpenFrame}
 use Rattle.desk_places.specs.declared.Slot.{Slot}
 use Rattle.desk_places.specs.declared.Slot.TheVariants.{Free, Idle, Waiting}
-use Rattle.desk_places.specs.declared.Place.{Place}
 use Rattle.desk_places.specs.Places.{slot_in, are_inside, overlap_parts, overlaps_slot, overlaps_open}
 use Rattle.desk_places.specs.Means.{AllInside, ShareByte, HasFrame, Taken, TestsAreExact}
 use Rattle.desk_places.proofs.Taken.{overlaps_none}
@@ -64,7 +63,7 @@ slot_found w (Idle g) f h o = rw h ((share_exact w f.parts).1 o)
 slot_found w (Waiting g b) f h o = rw h ((share_exact w f.parts).1 o)
 
 -- one of the first n cameras
-some_camera : (ps : List Place) (w : FrameParts) (n : ℕ) → overlaps_open ps w n ≡ true → (c : ℕ) × ((c < n) × (overlaps_slot w (slot_in ps c) ≡ true))
+some_camera : (ps : List Slot) (w : FrameParts) (n : ℕ) → overlaps_open ps w n ≡ true → (c : ℕ) × ((c < n) × (overlaps_slot w (slot_in ps c) ≡ true))
 unfolding overlaps_open
 some_camera ps w zero e = absurd (true≢false (sym e))
 some_camera ps w (suc n) e = by_test (overlaps_slot w (slot_in ps n)) refl e (some_camera ps w n)
@@ -75,13 +74,13 @@ some_camera ps w (suc n) e = by_test (overlaps_slot w (slot_in ps n)) refl e (so
     by_test true is e before = (n, (omega arith, is))
     by_test false is e before = let b = before e in (b.0, (omega (arith, b.1.0), b.1.1))
 
-taken_yes : (ps : List Place) (w : FrameParts) → overlaps_open ps w 32 ≡ true → Taken ps w
+taken_yes : (ps : List Slot) (w : FrameParts) → overlaps_open ps w 32 ≡ true → Taken ps w
 taken_yes ps w e =
     let c = some_camera ps w 32 e in
     let f = slot_yes w (slot_in ps c.0) c.1.1 in
     record { camera = c.0; below = c.1.0; frame = f.0; stands = f.1.0; shared = f.1.1 }
 
-Taken-found : (ps : List Place) (w : FrameParts) → Taken ps w → overlaps_open ps w 32 ≡ true
+Taken-found : (ps : List Slot) (w : FrameParts) → Taken ps w → overlaps_open ps w 32 ≡ true
 Taken-found ps w t = (elim (overlaps_open ps w 32) as (λ a. overlaps_open ps w 32 ≡ a → a ≡ true) [
   | true ↦ λ _. refl
   | false ↦ λ e.

@@ -1,23 +1,26 @@
 -- Parts that overlap an open frame's: the test over the first n cameras says yes exactly where one of these has such a frame.
 -- Assumes nothing.
-use Prim.Native.Nat.{ℕ, zero, suc, ◌+◌, ◌<◌}
-use mathlib.Core.Logic.{◌↔◌}
+use Prim.Native.Nat.{ℕ, zero, suc, ◌+◌, ◌≤◌, ◌<◌}
 use mathlib.Core.Path.{◌≡◌, refl, sym, ap, ◌∙◌}
 use mathlib.Core.Bool.{Bool, true, false, ◌||◌, true≢false}
 use mathlib.Core.List.{List}
-use native.Mathlib.Numerals.{add-one}
 use native.Mathlib.Omega.{arith}
 use borrow.Author.Tests.{eqb-true, eqb-false}
 use lib.Dec.{eqb}
+use lib.ListN.{length, take}
+use lib.Seq.{take-length}
+use Rattle.std.specs.List.{list_any}
+use Rattle.std.proofs.lemmas.List.Folds.{list_any_more}
 use Rattle.desk_places.specs.declared.FrameParts.{FrameParts}
-use Rattle.desk_places.specs.declared.Place.{Place}
+use Rattle.desk_places.specs.declared.Slot.{Slot}
+use Rattle.desk_places.specs.declared.Slot.TheVariants.{Free}
 use Rattle.desk_places.specs.Places.{slot_in, overlaps_slot, overlaps_open}
 
 or-false : (a b : Bool) → (a || b) ≡ false → (a ≡ false) × (b ≡ false)
 or-false true b e = absurd (true≢false e)
 or-false false b e = (refl, e)
 
-pub overlaps_none : (ps : List Place) (w : FrameParts) (n : ℕ) → overlaps_open ps w n ≡ false → (c : ℕ) → c < n → overlaps_slot w (slot_in ps c) ≡ false
+pub overlaps_none : (ps : List Slot) (w : FrameParts) (n : ℕ) → overlaps_open ps w n ≡ false → (c : ℕ) → c < n → overlaps_slot w (slot_in ps c) ≡ false
 unfolding overlaps_open
 overlaps_none ps w zero e c l = absurd (omega arith)
 overlaps_none ps w (suc n) e c l =
@@ -27,17 +30,25 @@ overlaps_none ps w (suc n) e c l =
       | false ↦ λ other. overlaps_none ps w n o.1 c (omega (arith, eqb-false c n other))
     ]) refl
 
-pub overlaps_one : (ps : List Place) (w : FrameParts) {c : ℕ} → c < 32 → overlaps_slot w (slot_in ps c) ≡ true → true ≡ overlaps_open ps w 32
-overlaps_one ps w {c} l e = (elim (overlaps_open ps w 32) as (λ a. overlaps_open ps w 32 ≡ a → true ≡ a) [
-  | true ↦ λ _. refl
-  | false ↦ λ f. absurd (true≢false (sym e ∙ overlaps_none ps w 32 f c l))
-]) refl
+-- ---- the same by a test of each
 
-pub overlaps_next : (ps : List Place) (w : FrameParts) (n : ℕ) → overlaps_slot w (slot_in ps n) ≡ false → overlaps_open ps w n ≡ false
-    → overlaps_open ps w (n + 1) ≡ false
-unfolding overlaps_open
-overlaps_next ps w n e f = rw (add-one n, e, f)
+or_swap : (a b : Bool) → (a || b) ≡ (b || a)
+or_swap true true = refl
+or_swap true false = refl
+or_swap false true = refl
+or_swap false false = refl
 
-pub overlaps_start : (ps : List Place) (w : FrameParts) → overlaps_open ps w 0 ≡ false
+overlaps_first : (ps : List Slot) (w : FrameParts) (n : ℕ) → n ≤ length ps → overlaps_open ps w n ≡ list_any (overlaps_slot w) (take n ps)
 unfolding overlaps_open
-overlaps_start ps w = refl
+overlaps_first ps w zero l = refl
+overlaps_first ps w (suc n) l =
+    let more : n + 1 ≡ suc n = omega arith in
+    ap (λ (b : Bool). overlaps_slot w (slot_in ps n) || b) (overlaps_first ps w n (omega arith))
+    ∙ or_swap (overlaps_slot w (slot_in ps n)) (list_any (overlaps_slot w) (take n ps))
+    ∙ sym (list_any_more (overlaps_slot w) ps n Free (omega arith))
+    ∙ ap (λ (m : ℕ). list_any (overlaps_slot w) (take m ps)) more
+
+pub overlaps_any : (ps : List Slot) (w : FrameParts) → length ps ≡ 32 → overlaps_open ps w 32 ≡ list_any (overlaps_slot w) ps
+overlaps_any ps w e =
+    overlaps_first ps w 32 (omega (arith, e)) ∙ ap (λ (m : ℕ). list_any (overlaps_slot w) (take m ps)) (sym e)
+    ∙ ap (list_any (overlaps_slot w)) (take-length ps)

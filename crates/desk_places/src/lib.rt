@@ -3,13 +3,14 @@
 #![tactic(auto)]
 
 ghost use Rattle.std.specs.Prelude.{◌≡◌};
+ghost use Rattle.std.specs.List.{list_any};
 ghost use Rattle.desk_places.specs.Places.{are_inside, overlap_parts, overlaps_slot, overlaps_open, offered, next_waiting, after_band};
 
 use band_calls::FrameState;
 use buffer_parts::BufferPart;
 
 // Where a frame's planes and its carried row stand in the shared buffers.
-#[derive(Clone, Copy)]
+#[derive(Clone, Copy, Debug, PartialEq, Eq)]
 pub struct FrameParts {
     pub y: BufferPart,
     pub u: BufferPart,
@@ -18,7 +19,7 @@ pub struct FrameParts {
 }
 
 // How long the buffers of the planes and of the carried rows are.
-#[derive(Clone, Copy)]
+#[derive(Clone, Copy, Debug, PartialEq, Eq)]
 pub struct BufferLengths {
     pub y: usize,
     pub u: usize,
@@ -27,14 +28,14 @@ pub struct BufferLengths {
 }
 
 // A frame that is being converted, and its parts of the buffers.
-#[derive(Clone, Copy)]
+#[derive(Clone, Copy, Debug, PartialEq)]
 pub struct OpenFrame {
     pub state: FrameState,
     pub parts: FrameParts,
 }
 
 // A band that waits: its rows, `stride` bytes apart in a part of the source buffer.
-#[derive(Clone, Copy)]
+#[derive(Clone, Copy, Debug, PartialEq, Eq)]
 pub struct WaitingBand {
     pub rows: u32,
     pub stride: u32,
@@ -42,24 +43,19 @@ pub struct WaitingBand {
 }
 
 // What stands at a camera's number: no frame, a frame with no band waiting, or a frame with one.
-#[derive(Clone, Copy)]
+#[derive(Clone, Copy, Debug, PartialEq)]
 pub enum Slot {
     Free,
     Idle(OpenFrame),
     Waiting(OpenFrame, WaitingBand),
 }
 
-// An array holds structs, and each holds the enum.
-#[derive(Clone, Copy)]
-pub struct Place {
-    pub slot: Slot,
-}
-
 // Whose turn it is, with its frame and its band.
-#[derive(Clone, Copy)]
-pub enum Next {
-    NoneWaiting,
-    Turn(usize, OpenFrame, WaitingBand),
+#[derive(Clone, Copy, Debug, PartialEq)]
+pub struct Turn {
+    pub camera: usize,
+    pub frame: OpenFrame,
+    pub band: WaitingBand,
 }
 
 impl FrameParts {
@@ -67,32 +63,20 @@ impl FrameParts {
     pub fn are_inside(self, lens: BufferLengths) -> bool
         ensures { result ≡ are_inside self lens }
     {
-        let y = self.y;
-        let u = self.u;
-        let v = self.v;
-        let carried = self.carried;
-        buffer_parts::is_inside(y, lens.y)
-            & (buffer_parts::is_inside(u, lens.u)
-                & (buffer_parts::is_inside(v, lens.v)
-                    & buffer_parts::is_inside(carried, lens.carried)))
+        self.y.is_inside(lens.y)
+            && self.u.is_inside(lens.u)
+            && self.v.is_inside(lens.v)
+            && self.carried.is_inside(lens.carried)
     }
 
     // Whether two frames' parts of one buffer overlap, in any of the four.
     fn overlap(self, other: FrameParts) -> bool
         ensures { result ≡ overlap_parts self other }
     {
-        let y = self.y;
-        let u = self.u;
-        let v = self.v;
-        let carried = self.carried;
-        let other_y = other.y;
-        let other_u = other.u;
-        let other_v = other.v;
-        let other_carried = other.carried;
-        buffer_parts::overlaps(y, other_y)
-            | (buffer_parts::overlaps(u, other_u)
-                | (buffer_parts::overlaps(v, other_v)
-                    | buffer_parts::overlaps(carried, other_carried)))
+        self.y.overlaps(other.y)
+            || self.u.overlaps(other.u)
+            || self.v.overlaps(other.v)
+            || self.carried.overlaps(other.carried)
     }
 
     // Whether these parts overlap those of the frame in a slot.
@@ -101,25 +85,22 @@ impl FrameParts {
     {
         match slot {
             Slot::Free => false,
-            Slot::Idle(frame) => self.overlap(frame.parts),
-            Slot::Waiting(frame, _) => self.overlap(frame.parts),
+            Slot::Idle(frame) | Slot::Waiting(frame, _) => self.overlap(frame.parts),
         }
     }
 
+    fn overlap_any(self, places: &[Slot]) -> bool
+        ensures { result ≡ list_any (overlaps_slot self) places.now }
+    {
+        places.iter().any(|slot| self.overlap_slot(*slot))
+    }
+
     // Whether these parts overlap those of an open frame.
-    pub fn overlap_open(self, places: [Place; 32]) -> bool
+    #[tactic(auto, using(crate::proofs::Taken::overlaps_any))]
+    pub fn overlap_open(self, places: [Slot; 32]) -> bool
         ensures { result ≡ overlaps_open places self 32 }
     {
-        let mut camera = 0;
-        while camera < 32 {
-            let place = places[camera];
-            let slot = place.slot;
-            if self.overlap_slot(slot) {
-                return true;
-            }
-            camera += 1;
-        }
-        false
+        self.overlap_any(&places)
     }
 }
 
@@ -129,9 +110,8 @@ impl Slot {
         ensures { result ≡ offered self band }
     {
         match self {
-            Slot::Free => self,
             Slot::Idle(frame) => Slot::Waiting(frame, band),
-            Slot::Waiting(_, _) => self,
+            Slot::Free | Slot::Waiting(_, _) => self,
         }
     }
 }
@@ -141,34 +121,34 @@ impl OpenFrame {
     pub fn after_band(self, state: FrameState) -> Slot
         ensures { result ≡ after_band self state }
     {
-        let frame = state.frame;
-        let parts = self.parts;
-        if frame.height <= state.done {
+        if state.frame.height <= state.done {
             Slot::Free
         } else {
-            Slot::Idle(OpenFrame { state, parts })
+            Slot::Idle(OpenFrame {
+                state,
+                parts: self.parts,
+            })
         }
     }
 }
 
 // The first camera with a band waiting, from number `from` on, going round.
-pub fn next_waiting(places: [Place; 32], from: usize) -> Next
+pub fn next_waiting(places: [Slot; 32], from: usize) -> Option<Turn>
     ensures { result ≡ next_waiting places from }
 {
     let start = from % 32;
-    let mut asked = 0;
-    while asked < 32 {
+    for asked in 0..32 {
         let camera = (start + asked) % 32;
-        let place = places[camera];
-        let slot = place.slot;
-        match slot {
-            Slot::Free => {}
-            Slot::Idle(_) => {}
+        match places[camera] {
+            Slot::Free | Slot::Idle(_) => {}
             Slot::Waiting(frame, band) => {
-                return Next::Turn(camera, frame, band);
+                return Some(Turn {
+                    camera,
+                    frame,
+                    band,
+                });
             }
         }
-        asked += 1;
     }
-    Next::NoneWaiting
+    None
 }

@@ -2,54 +2,59 @@
 // three arrays that are the desk, and who is asked first.
 #![tactic(auto)]
 
-ghost use Rattle.std.specs.Prelude.{◌≡◌, ◌∷◌, length};
+ghost use Rattle.std.specs.Prelude.{◌≡◌, ◌∷◌};
 ghost use Rattle.desk_bands.specs.Buffers.{buffers_of};
 ghost use Rattle.desk_numbers.specs.Numbers.{desk_numbers};
 ghost use Rattle.desk_calls.specs.Calls.{served_numbers, served_told, ServedBelow, step_left, exported_desk_step, DeskStepKept};
 
-use desk::{Served, StepAnswer};
-use yuv_error::YuvAnswer;
+use desk::{Desk, Served};
 
 // Where the camera stands that is asked first.
 const ASKED_FIRST: usize = 608;
 
 // Writes what a step made of the place of the camera that it served, and who is asked first.
-fn put_served(stepped: StepAnswer, numbers: &mut [u32], customs: &mut [f32], parts: &mut [u64])
-    requires served_below { ServedBelow stepped.served stepped.desk }
-    requires numbers_len { (length numbers.old ≡ 609) × ((length customs.old ≡ 64) × (length parts.old ≡ 320)) }
+fn put_served(
+    desk: Desk,
+    served: Option<Served>,
+    numbers: &mut [u32; 609],
+    customs: &mut [f32; 64],
+    parts: &mut [u64; 320],
+)
+    requires { ServedBelow served desk }
     ensures { desk_numbers numbers.new customs.new parts.new
-        ≡ step_left (desk_numbers numbers.old customs.old parts.old) stepped.served stepped.desk }
+        ≡ step_left (desk_numbers numbers.old customs.old parts.old) served desk }
 {
-    let served = stepped.served;
     match served {
-        Served::Nobody => {}
-        Served::Camera(c, _) => {
-            let desk = stepped.desk;
-            let place = desk.places[c];
-            let slot = place.slot;
-            desk_numbers::put_place(c, slot, numbers, customs, parts);
+        None => {}
+        Some(turn) => {
+            desk_numbers::put_place(
+                turn.camera,
+                desk.places[turn.camera],
+                numbers,
+                customs,
+                parts,
+            );
             numbers[ASKED_FIRST] = desk.from as u32;
         }
     }
 }
 
 // Tells the answer of the camera that a step served, then whether there was one, and its number.
-fn tell_served(served: Served, told: &mut [usize]) -> u32
-    requires { length told.old ≡ 4 }
-    ensures { (result ≡ (served_numbers served).number)
-        × (told.new ≡ (served_numbers served).expected ∷ (served_numbers served).received ∷ served_told served) }
+fn tell_served(served: Option<Served>, told: &mut [usize; 4]) -> u32
+    ensures number { result ≡ (served_numbers served).number }
+    ensures told { told.new ≡ (served_numbers served).expected ∷ (served_numbers served).received ∷ served_told served }
 {
     match served {
-        Served::Nobody => {
-            let number = call_numbers::tell_answer(YuvAnswer::Finished, told);
+        None => {
+            let number = call_numbers::tell_answer(Ok(()), told);
             told[2] = 0;
             told[3] = 0;
             number
         }
-        Served::Camera(c, answer) => {
-            let number = call_numbers::tell_answer(answer, told);
+        Some(turn) => {
+            let number = call_numbers::tell_answer(turn.answer, told);
             told[2] = 1;
-            told[3] = c;
+            told[3] = turn.camera;
             number
         }
     }
@@ -73,9 +78,8 @@ pub fn call_desk_step(
         (desk_numbers numbers.new customs.new parts.new)
         (buffers_of source.now y.new u.new v.new carried.new)) }
 {
-    let desk = desk_numbers::desk_of(numbers, customs, parts);
-    let stepped = desk.step(source, y, u, v, carried);
-    let served = stepped.served;
-    put_served(stepped, numbers, customs, parts);
+    let mut desk = desk_numbers::desk_of(numbers, customs, parts);
+    let served = desk.step(source, y, u, v, carried);
+    put_served(desk, served, numbers, customs, parts);
     tell_served(served, told)
 }

@@ -1,6 +1,7 @@
 -- What specs/Near.antt promises, of every accepted pair.
 -- The idea: signs and sums are `computed_Shape`'s; a luma weight is next to the exact one by Weighing, a chroma weight by Chroma.
 -- Assumes nothing.
+use Rattle.std.proofs.Common.{ℤ}
 use mathlib.Core.Path.{◌≡◌, sym, ap, subst, ◌∙◌}
 use mathlib.Core.Bool.{Bool, not}
 use Prim.Native.Nat.{ℕ, ◌+◌, ◌-◌, ◌*◌, ◌/◌, ◌^◌, ◌≤◌, ◌<◌, min}
@@ -17,7 +18,7 @@ use Rattle.yuv_support.specs.declared.YuvStandardMatrix.TheVariants.{Custom}
 use Rattle.yuv_support.specs.Range.{yuv_range}
 use Rattle.yuv_support.specs.Matrix.{in_half}
 use Rattle.yuv_support.proofs.Accepted.{FromZeroToHalf, in_half_exactly}
-use Rattle.forward_transform.specs.declared.CbCrForwardTransformI32.{CbCrForwardTransformI32}
+use Rattle.forward_transform.specs.declared.CbCrForwardTransform.{CbCrForwardTransform}
 use Rattle.forward_transform.specs.Shape.{Shape, luma_least, luma_most, chroma_top}
 use Rattle.forward_transform.specs.Transform.{◌-f◌, ◌*f◌, ◌/f◌, f32, half, computed_weights}
 use Rattle.forward_transform.specs.Transform as transform
@@ -280,7 +281,7 @@ computed_near range bias tr tb =
 pub matrix_near : MatrixNear
 matrix_near range matrix h =
     let p = pair_accepted matrix h in
-    subst (λ (t : CbCrForwardTransformI32). NearWeights range (pair_of matrix).kr (pair_of matrix).kb t) (sym (as_computed range matrix))
+    subst (λ (t : CbCrForwardTransform ℤ). NearWeights range (pair_of matrix).kr (pair_of matrix).kb t) (sym (as_computed range matrix))
     (computed_near range (pair_of matrix) p.0 p.1)
 
 pub custom_near : CustomNear

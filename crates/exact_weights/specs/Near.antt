@@ -1,14 +1,14 @@
 -- How near the nine weights of every accepted pair are to the exact ones, and the sum of each triple to its exact sum: docs/RULES.md, 4.6.
 -- In all bounds but that of cb_b and cr_r half a unit is what rounding to a whole number does; the rest covers f32.
 -- Assumes nothing.
-use Rattle.std.specs.Prelude.{ℕ, ◌+◌, ◌*◌, ◌-◌, ◌≤◌, T, Float}
+use Rattle.std.specs.Prelude.{ℕ, ◌+◌, ◌*◌, ◌-◌, ◌≤◌, T, Float, ℤ}
 use Rattle.yuv_support.specs.declared.YuvRange.{YuvRange}
 use Rattle.yuv_support.specs.declared.YuvRange.TheVariants.{Limited, Full}
 use Rattle.yuv_support.specs.declared.YuvStandardMatrix.{YuvStandardMatrix}
 use Rattle.yuv_support.specs.declared.YuvStandardMatrix.TheVariants.{Custom}
 use Rattle.yuv_support.specs.Range.{yuv_range}
 use Rattle.yuv_support.specs.Matrix.{accepted}
-use Rattle.forward_transform.specs.declared.CbCrForwardTransformI32.{CbCrForwardTransformI32}
+use Rattle.forward_transform.specs.declared.CbCrForwardTransform.{CbCrForwardTransform}
 use Rattle.forward_transform.specs.Shape.{Shape, chroma_top}
 use Rattle.built_coefficients.specs.Built.{forward_transform, pair_of}
 use Rattle.exact_weights.specs.Exact.{one, red, blue, green}
@@ -59,7 +59,7 @@ chroma_sum_bound Full = 1
 
 -- RULES 4.6: y is k × ry / 255; cb is -1/2 × k / (1 - kb) × ruv / 255, or 1/2 × ruv / 255; cr has kr for kb; and 8,192 times that.
 -- The signs are those of `Shape`: each size is near the exact one.
-pub record NearWeights (range : YuvRange) (kr kb : Float) (t : CbCrForwardTransformI32) : Type 0 where
+pub record NearWeights (range : YuvRange) (kr kb : Float) (t : CbCrForwardTransform ℤ) : Type 0 where
   pub shape : Shape range t
   pub yr : Near (luma_bound range) shape.luma_r (8192 * ((yuv_range range).range_y * red kr kb)) (255 * one kr kb)
   pub yg : Near (luma_green_bound range) shape.luma_g (8192 * ((yuv_range range).range_y * green kr kb)) (255 * one kr kb)

@@ -1,20 +1,20 @@
 -- The weights of every accepted pair have the shape of specs/Shape.antt, and are small enough to round.
 -- The idea: kr, kg and kb add to 1 but for the roundings, and so do the numbers of each triple to what the triple divides by.
 -- Assumes nothing.
-use Rattle.std.proofs.Common.{T, arith}
+use Rattle.std.proofs.Common.{T, arith, Float}
 use Rattle.yuv_support.specs.declared.YuvRange.{YuvRange}
 use Rattle.yuv_support.specs.declared.YuvBias.{YuvBias}
 use Rattle.yuv_support.specs.Range.{yuv_range}
 use Rattle.yuv_support.specs.Matrix.{in_half}
 use Rattle.yuv_support.proofs.Accepted.{in_half_exactly}
-use Rattle.forward_transform.specs.declared.CbCrForwardTransformF32.{CbCrForwardTransformF32}
+use Rattle.forward_transform.specs.declared.CbCrForwardTransform.{CbCrForwardTransform}
 use Rattle.forward_transform.specs.Transform.{coefficients, computed_weights}
 use Rattle.forward_transform.specs.Small.{SmallWeights}
 use Rattle.forward_transform.specs.Shape.{Shape}
 use Rattle.forward_transform.proofs.Pair.{Number, Pair, part, of_part, one_less, pair}
 use Rattle.forward_transform.proofs.Triples.{range≤, luma, luma_weights_sum, chroma_top_lem, negatives}
 
-abbrev coefficients_of : YuvRange → YuvBias → CbCrForwardTransformF32
+abbrev coefficients_of : YuvRange → YuvBias → CbCrForwardTransform Float
 coefficients_of range bias = coefficients 255 (yuv_range range).range_y (yuv_range range).range_uv bias.kr bias.kb
 
 module _ (range : YuvRange) (bias : YuvBias) (p : Pair bias.kr bias.kb) where

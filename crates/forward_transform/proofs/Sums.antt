@@ -7,7 +7,7 @@ use lib.IntN.{+ℤ_assoc, +ℤ_comm, neg_ℤ-+ℤ}
 use Rattle.yuv_support.specs.declared.YuvRange.{YuvRange}
 use Rattle.yuv_support.specs.declared.YuvRange.TheVariants.{Limited, Full}
 use Rattle.yuv_support.specs.Range.{yuv_range}
-use Rattle.forward_transform.specs.declared.CbCrForwardTransformI32.{CbCrForwardTransformI32}
+use Rattle.forward_transform.specs.declared.CbCrForwardTransform.{CbCrForwardTransform}
 use Rattle.forward_transform.specs.Shape.{Shape, luma_most, chroma_top}
 use Rattle.forward_transform.proofs.Signed.{fits_i32, size_neg, size_mul, size_add, mul_neg, add_neg}
 
@@ -106,7 +106,7 @@ chroma_Within Limited a n s h k l = omega arith
 chroma_Within Full a n s h k l = omega arith
 
 -- ---- a pixel of bytes r, g, b
-module _ {range : YuvRange} {t : CbCrForwardTransformI32} (s : Shape range t) (r g b : ℕ) (hr : r < 256) (hg : g < 256) (hb : b < 256) where
+module _ {range : YuvRange} {t : CbCrForwardTransform ℤ} (s : Shape range t) (r g b : ℕ) (hr : r < 256) (hg : g < 256) (hb : b < 256) where
   pub luma_sum : Floored (bias range) (bias range + (yuv_range range).range_y) (r * s.luma_r + g * s.luma_g + b * s.luma_b + luma_bias range)
       (weighed t.yr t.yg t.yb r g b (luma_bias range))
   luma_sum =

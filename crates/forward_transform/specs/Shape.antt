@@ -2,10 +2,10 @@
 -- weights adds. No meaning of a weight stands here: this record is what functions over weights ask of them, and what is proved of every accepted
 -- matrix (built_coefficients' proofs/Shapes.antt).
 -- Assumes nothing.
-use Rattle.std.specs.Prelude.{◌≡◌, ℕ, ◌+◌, ◌≤◌, pos, neg_ℤ}
+use Rattle.std.specs.Prelude.{◌≡◌, ℕ, ◌+◌, ◌≤◌, ℤ, pos, neg_ℤ}
 use Rattle.yuv_support.specs.declared.YuvRange.{YuvRange}
 use Rattle.yuv_support.specs.declared.YuvRange.TheVariants.{Limited, Full}
-use Rattle.forward_transform.specs.declared.CbCrForwardTransformI32.{CbCrForwardTransformI32}
+use Rattle.forward_transform.specs.declared.CbCrForwardTransform.{CbCrForwardTransform}
 
 -- the sum of three luma weights is within 1.5 of 8,192 × 219 / 255, which is 7,035.5, or of 8,192; Smpte240's stored ones add to 8,193
 abbrev pub luma_least : YuvRange → ℕ
@@ -21,7 +21,7 @@ abbrev pub chroma_top : YuvRange → ℕ
 chroma_top Limited = 3598
 chroma_top Full = 4096
 
-pub record Shape (range : YuvRange) (t : CbCrForwardTransformI32) : Type 0 where
+pub record Shape (range : YuvRange) (t : CbCrForwardTransform ℤ) : Type 0 where
   pub luma_r : ℕ
   pub luma_g : ℕ
   pub luma_b : ℕ

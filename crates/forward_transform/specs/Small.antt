@@ -4,7 +4,7 @@
 use Rattle.std.specs.Prelude.{◌*◌, ◌^◌, Bool, false, T, pos, nat_le, Float}
 use Rattle.std.specs.Float.{nan, inf, fin}
 use Rattle.std.specs.Float.Ieee.{up, down}
-use Rattle.forward_transform.specs.declared.CbCrForwardTransformF32.{CbCrForwardTransformF32}
+use Rattle.forward_transform.specs.declared.CbCrForwardTransform.{CbCrForwardTransform}
 use Rattle.forward_transform.specs.Transform.{◌*f◌, scale}
 
 abbrev pub zero : Float
@@ -19,7 +19,7 @@ small (fin s m e) = nat_le (m * up e) (2 ^ 14 * down e)
 abbrev pub small_weight : Float → Bool
 small_weight x = small (x *f scale)
 
-pub record SmallWeights (f : CbCrForwardTransformF32) : Type 0 where
+pub record SmallWeights (f : CbCrForwardTransform Float) : Type 0 where
   pub yr : T (small_weight f.yr)
   pub yg : T (small_weight f.yg)
   pub yb : T (small_weight f.yb)

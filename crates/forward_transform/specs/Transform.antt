@@ -7,8 +7,7 @@ use Rattle.std.specs.Float.Ieee.{mul, div, sub, neg, of_int}
 use Rattle.yuv_support.specs.declared.YuvRange.{YuvRange}
 use Rattle.yuv_support.specs.declared.YuvBias.{YuvBias}
 use Rattle.yuv_support.specs.Range.{yuv_range}
-use Rattle.forward_transform.specs.declared.CbCrForwardTransformF32.{CbCrForwardTransformF32}
-use Rattle.forward_transform.specs.declared.CbCrForwardTransformI32.{CbCrForwardTransformI32}
+use Rattle.forward_transform.specs.declared.CbCrForwardTransform.{CbCrForwardTransform}
 use Rattle.forward_transform.specs.Rounding.{round_half_away}
 
 -- ---- the operations of f32, each rounded to f32
@@ -45,7 +44,7 @@ scale = from_bits binary32 0x4600_0000
 
 -- ---- `get_forward_transform`, line by line
 -- RULES 4.4: each operator is one step, from the left; `range_rgba` is 255
-abbrev pub coefficients : ℕ → ℕ → ℕ → Float → Float → CbCrForwardTransformF32
+abbrev pub coefficients : ℕ → ℕ → ℕ → Float → Float → CbCrForwardTransform Float
 coefficients range_rgba range_y range_uv kr kb =
     let kg = one -f kr -f kb in
     record {
@@ -66,7 +65,7 @@ abbrev pub weight : Float → ℤ
 weight x = round_half_away (x *f scale)
 
 -- RULES 4.5
-abbrev pub to_integers : CbCrForwardTransformF32 → CbCrForwardTransformI32
+abbrev pub to_integers : CbCrForwardTransform Float → CbCrForwardTransform ℤ
 to_integers f = record {
   yr = weight f.yr;
   yg = weight f.yg;
@@ -80,5 +79,5 @@ to_integers f = record {
 }
 
 -- RULES 4.4, 4.5: the nine weights of a pair in a range, at 8 bits
-abbrev pub computed_weights : YuvRange → YuvBias → CbCrForwardTransformI32
+abbrev pub computed_weights : YuvRange → YuvBias → CbCrForwardTransform ℤ
 computed_weights range bias = to_integers (coefficients 255 (yuv_range range).range_y (yuv_range range).range_uv bias.kr bias.kb)

@@ -10,33 +10,22 @@ ghost use Rattle.forward_transform.specs.Small.{zero, small, small_weight, Small
 
 use yuv_support::{YuvBias, YuvRange};
 
-// The nine coefficients, until rounded.
-#[derive(Clone, Copy)]
-pub struct CbCrForwardTransformF32 {
-    pub yr: f32,
-    pub yg: f32,
-    pub yb: f32,
-    pub cb_r: f32,
-    pub cb_g: f32,
-    pub cb_b: f32,
-    pub cr_r: f32,
-    pub cr_g: f32,
-    pub cr_b: f32,
+// Nine numbers: of red, green and blue, for luma, Cb and Cr. They are f32 coefficients until rounded, and then i32 weights in units of 1 / 8,192.
+#[derive(Clone, Copy, Debug, PartialEq, Eq, Hash)]
+pub struct CbCrForwardTransform<T> {
+    pub yr: T,
+    pub yg: T,
+    pub yb: T,
+    pub cb_r: T,
+    pub cb_g: T,
+    pub cb_b: T,
+    pub cr_r: T,
+    pub cr_g: T,
+    pub cr_b: T,
 }
 
-// The nine weights, in units of 1 / 8,192.
-#[derive(Clone, Copy)]
-pub struct CbCrForwardTransformI32 {
-    pub yr: i32,
-    pub yg: i32,
-    pub yb: i32,
-    pub cb_r: i32,
-    pub cb_g: i32,
-    pub cb_b: i32,
-    pub cr_r: i32,
-    pub cr_g: i32,
-    pub cr_b: i32,
-}
+// The weights, by the name that callers use.
+pub type CbCrForwardTransformI32 = CbCrForwardTransform<i32>;
 
 pub fn get_forward_transform(
     range_rgba: u8,
@@ -44,7 +33,7 @@ pub fn get_forward_transform(
     range_uv: u8,
     kr: f32,
     kb: f32,
-) -> CbCrForwardTransformF32
+) -> CbCrForwardTransform<f32>
     ensures { result ≡ coefficients range_rgba range_y range_uv kr kb }
 {
     let kg = 1.0f32 - kr - kb;
@@ -60,7 +49,7 @@ pub fn get_forward_transform(
     let cr_r = 0.5f32 * range_uv as f32 / range_rgba as f32;
     let cr_g = -0.5f32 * kg / (1f32 - kr) * range_uv as f32 / range_rgba as f32;
     let cr_b = -0.5f32 * kb / (1f32 - kr) * range_uv as f32 / range_rgba as f32;
-    CbCrForwardTransformF32 {
+    CbCrForwardTransform {
         yr,
         yg,
         yb,
@@ -75,8 +64,8 @@ pub fn get_forward_transform(
 
 // A number that is not below 0, to the nearest whole number, a half upward.
 fn nearest_whole(x: f32) -> u16
-    requires fact_1 { T (small x) }
-    requires fact_2 { T (not (lt x zero)) }
+    requires small { T (small x) }
+    requires not_negative { T (not (lt x zero)) }
     ensures { pos result ≡ round_half_away x }
 {
     let whole = std::num::truncating_f32_to_u64(x) as u16;
@@ -107,13 +96,13 @@ fn rounded_weight(x: f32) -> i32
     round_half_away(x * 8192.0)
 }
 
-impl CbCrForwardTransformF32 {
+impl CbCrForwardTransform<f32> {
     // The weights, each to the nearest whole number.
-    pub fn to_integers(self) -> CbCrForwardTransformI32
+    pub fn to_integers(self) -> CbCrForwardTransform<i32>
         requires { SmallWeights self }
         ensures { result ≡ to_integers self }
     {
-        CbCrForwardTransformI32 {
+        CbCrForwardTransform {
             yr: rounded_weight(self.yr),
             yg: rounded_weight(self.yg),
             yb: rounded_weight(self.yb),
@@ -128,9 +117,9 @@ impl CbCrForwardTransformF32 {
 }
 
 // The weights of a pair: the Rust's `search_forward_transform` where no set is stored.
-pub fn computed_transform(range: YuvRange, bias: YuvBias) -> CbCrForwardTransformI32
-    requires fact_1 { T (in_half bias.kr) }
-    requires fact_2 { T (in_half bias.kb) }
+pub fn computed_transform(range: YuvRange, bias: YuvBias) -> CbCrForwardTransform<i32>
+    requires red { T (in_half bias.kr) }
+    requires blue { T (in_half bias.kb) }
     ensures { result ≡ computed_weights range bias }
 {
     let chroma_range = yuv_support::get_yuv_range(range);

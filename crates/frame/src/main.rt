@@ -3,18 +3,31 @@
 #![tactic(auto)]
 
 ghost use Rattle.std.specs.Prelude.{◌≡◌, ℕ, length, take, IfSome, OnOk, IsErrOf};
-ghost use Rattle.std.specs.Bool.{OnTrue};
 ghost use Rattle.std.specs.Io.KnownBytes.{Appends, Keeps};
 ghost use Rattle.frame_request.specs.Reply.{reply};
 
+use standard_streams::Stopped;
+use std::error::Error;
+use std::fmt;
 use std::io::{Read, Write};
 
 // What fails beside a request that is refused.
-#[derive(Clone, Copy)]
+#[derive(Clone, Copy, Debug, PartialEq, Eq)]
 enum Failure {
     CannotRead,
     CannotWrite,
 }
+
+impl fmt::Display for Failure {
+    fn fmt<W: fmt::Write>(&self, f: &mut fmt::Formatter<W>) -> fmt::Result {
+        match self {
+            Failure::CannotRead => write!(f, "cannot read standard input"),
+            Failure::CannotWrite => write!(f, "cannot write standard output"),
+        }
+    }
+}
+
+impl Error for Failure {}
 
 // One byte past the largest request, 9 + 4 × 16,384 bytes. What stands further on changes no byte of the
 // reply (`reply_enough` of frame_request).
@@ -31,11 +44,11 @@ fn output_buffer() -> [u8; 49152]
     [0; 49152]
 }
 
-// Writes the reply to an input, and answers whether all of it was written. The input is there for the `requires`: nothing else is
-// written.
-fn write_reply<W: Write>(writer: &mut W, input: &[u8], bytes: &[u8]) -> bool
+// Writes the reply to an input: all of it, or the start of it where a write fails. The input is there for the `requires`: nothing
+// else is written.
+fn write_reply<W: Write>(writer: &mut W, input: &[u8], bytes: &[u8]) -> Result<(), Stopped>
     requires { bytes.now ≡ reply input.now }
-    ensures all { OnTrue result (Appends (W.contents writer.old) (W.contents writer.new) (reply input.now)) }
+    ensures all { OnOk result (Appends (W.contents writer.old) (W.contents writer.new) (reply input.now)) }
     ensures start { (n : ℕ) × Appends (W.contents writer.old) (W.contents writer.new) (take n (reply input.now)) }
 {
     standard_streams::write_output(writer, bytes)
@@ -43,6 +56,7 @@ fn write_reply<W: Write>(writer: &mut W, input: &[u8], bytes: &[u8]) -> bool
 
 // Reads a request to its end, and writes the reply to it: all of it, or the start of it where a write fails. Where a read fails
 // nothing is written.
+// The program luma_counts has this over its own reply: the clauses name the reply, so one function for both needs a trait of replies.
 fn answer<R: Read, W: Write>(reader: &mut R, writer: &mut W) -> Result<(), Failure>
     ensures answered { OnOk result (IfSome (R.remaining reader.old) (λ input.
         Appends (W.contents writer.old) (W.contents writer.new) (reply input))) }
@@ -52,27 +66,18 @@ fn answer<R: Read, W: Write>(reader: &mut R, writer: &mut W) -> Result<(), Failu
 {
     let mut input = input_buffer();
     let mut output = output_buffer();
-    let read = standard_streams::read_input(reader, &mut input);
-    if !read.whole {
+    let Ok(size) = standard_streams::read_input(reader, &mut input) else {
         return Err(Failure::CannotRead);
-    }
-    let size = read.size;
+    };
     let bytes = frame_request::reply_to(&input[..size], &mut output);
-    if write_reply(writer, &input[..size], &output[..bytes]) {
-        Ok(())
-    } else {
-        Err(Failure::CannotWrite)
+    match write_reply(writer, &input[..size], &output[..bytes]) {
+        Ok(()) => Ok(()),
+        Err(_) => Err(Failure::CannotWrite),
     }
 }
 
 fn main(rt: HostRuntime) {
-    match answer(&mut rt.stdin(), &mut rt.stdout()) {
-        Ok(()) => {}
-        Err(Failure::CannotRead) => {
-            let _ = eprintln!(rt; "frame: cannot read standard input");
-        }
-        Err(Failure::CannotWrite) => {
-            let _ = eprintln!(rt; "frame: cannot write standard output");
-        }
+    if let Err(failure) = answer(&mut rt.stdin(), &mut rt.stdout()) {
+        let _ = eprintln!(rt; "frame: {failure}");
     }
 }

@@ -4,8 +4,8 @@
 use Prim.Native.Nat.{ℕ, ◌≤◌}
 use mathlib.Core.Path.{◌≡◌, sym, ap, subst, ◌∙◌}
 use native.Mathlib.Omega.{arith}
-use Rattle.yuv_error.specs.declared.YuvAnswer.{YuvAnswer}
-use Rattle.yuv_error.specs.declared.YuvAnswer.TheVariants.{Finished}
+use Rattle.std.specs.Prelude.{Result, Ok}
+use Rattle.yuv_error.specs.declared.YuvError.{YuvError}
 use Rattle.yuv_error.specs.Numbers.{numbers_of}
 use Rattle.yuv_error.specs.Rules.{first_numbers, matrix_rules}
 use Rattle.yuv_error.proofs.Numbers.{is_finished}
@@ -31,9 +31,9 @@ module _ {k : ExportedCounts} (p : CountsKept k) where
       let is = (is_refused p.answer (subst (λ (n : ℕ). 1 ≤ n) p.number l)).1 in
       either_way (is_malformed_range_and_matrix k.numbers) p.answered (λ t q. q.1) (λ t q. painted_same (rw is at q.counts))
 
-  pub counts_accepted : k.number ≡ 0 → CountsPost (range_of_counts k) (matrix_of_counts k) k.counts Finished k.counts'
+  pub counts_accepted : k.number ≡ 0 → CountsPost (range_of_counts k) (matrix_of_counts k) k.counts (Ok tt) k.counts'
   counts_accepted z =
       let is = is_finished p.answer (sym p.number ∙ z) in
       either_way (is_malformed_range_and_matrix k.numbers) p.answered
-      (λ t q. absurd (let w : ◌≡◌ {A = ℕ} 0 1 = sym z ∙ p.number ∙ ap (λ (a : YuvAnswer). (numbers_of a).number) q.0 in omega arith))
+      (λ t q. absurd (let w : ◌≡◌ {A = ℕ} 0 1 = sym z ∙ p.number ∙ ap (λ (a : Result Unit YuvError). (numbers_of a).number) q.0 in omega arith))
       (λ t q. rw is at q)

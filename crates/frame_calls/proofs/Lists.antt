@@ -8,8 +8,7 @@ use mathlib.Core.List.{List, [], ◌∷◌}
 use native.Mathlib.Omega.{arith}
 use Rattle.yuv_error.specs.declared.YuvError.{YuvError}
 use Rattle.yuv_error.specs.declared.YuvError.TheVariants.{MalformedRequest}
-use Rattle.yuv_error.specs.declared.YuvAnswer.{YuvAnswer}
-use Rattle.yuv_error.specs.declared.YuvAnswer.TheVariants.{Finished, Refused}
+use Rattle.std.specs.Prelude.{Result, Ok, Err}
 use Rattle.yuv_error.specs.Numbers.{Numbers, numbers_of, answer_of}
 use Rattle.yuv_error.specs.Rules.{Rule, rule, first_numbers}
 use Rattle.yuv_error.proofs.Numbers.{found, is_finished}
@@ -34,18 +33,18 @@ either_way true p f g = f refl p
 either_way false p f g = g refl p
 
 -- the first rule is refusal 1, and the others are asked where it does not hold
-pub refused_1 : {test : Bool} (rules : List Rule) {x : Numbers} → test ≡ true → x ≡ numbers_of (Refused MalformedRequest) → x ≡ first_numbers (rule 1 test 0 0 ∷ rules)
+pub refused_1 : {test : Bool} (rules : List Rule) {x : Numbers} → test ≡ true → x ≡ numbers_of (Err MalformedRequest) → x ≡ first_numbers (rule 1 test 0 0 ∷ rules)
 refused_1 rules t e = rw t e
 
 pub passed_1 : {test : Bool} (rules : List Rule) {x : Numbers} → test ≡ false → x ≡ first_numbers rules → x ≡ first_numbers (rule 1 test 0 0 ∷ rules)
 passed_1 rules t e = rw t e
 
-pub is_refused : (a : YuvAnswer) → 1 ≤ (numbers_of a).number → (e : YuvError) × (a ≡ Refused e)
-is_refused Finished l = absurd (omega arith)
-is_refused (Refused e) l = (e, refl)
+pub is_refused : (a : Result Unit YuvError) → 1 ≤ (numbers_of a).number → (e : YuvError) × (a ≡ Err e)
+is_refused (Ok done) l = absurd (omega arith)
+is_refused (Err e) l = (e, refl)
 
-none_taken : (a : YuvAnswer) → 1 ≤ (numbers_of a).number → (n : ℕ) → taken a n ≡ 0
-none_taken a l n = ap (λ (a : YuvAnswer). taken a n) (is_refused a l).1
+none_taken : (a : Result Unit YuvError) → 1 ≤ (numbers_of a).number → (n : ℕ) → taken a n ≡ 0
+none_taken a l n = ap (λ (a : Result Unit YuvError). taken a n) (is_refused a l).1
 
 -- ---- frames
 
@@ -67,12 +66,12 @@ module _ {k : ExportedFrame} (p : FrameKept k) where
       either_way (is_malformed 1 k.numbers) p.answered (λ t q. q.1)
       (λ t q. frame.refused_writes_nothing (frame_with k p.answer) (is_refused p.answer (frame_refused l)).1 q)
 
-  pub frame_accepted : k.number ≡ 0 → ((as_frame k).answer ≡ Finished) × FramePost (as_frame k)
+  pub frame_accepted : k.number ≡ 0 → ((as_frame k).answer ≡ Ok tt) × FramePost (as_frame k)
   frame_accepted z =
       let is = is_finished p.answer (sym p.number ∙ z) in
       let same : answer_told k.number k.told ≡ p.answer = ap answer_of frame_told ∙ found p.answer in
       either_way (is_malformed 1 k.numbers) p.answered
-      (λ t q. absurd (let w : ◌≡◌ {A = ℕ} 0 1 = sym z ∙ p.number ∙ ap (λ (a : YuvAnswer). (numbers_of a).number) q.0 in omega arith))
+      (λ t q. absurd (let w : ◌≡◌ {A = ℕ} 0 1 = sym z ∙ p.number ∙ ap (λ (a : Result Unit YuvError). (numbers_of a).number) q.0 in omega arith))
       (λ t q. (same ∙ is, rw same q))
 
 -- ---- openings
@@ -94,11 +93,11 @@ module _ {k : ExportedOpening} (p : OpenKept k) where
       told ∙ either_way (is_malformed 0 k.numbers) p.answered (λ t q. q.1) (λ t q. ap (λ (s : FrameState). s.done) q.state)
 
   -- an opening that was not refused is fresh
-  pub open_accepted : k.number ≡ 0 → OpenPost (frame_of_opening k) (handed (frame_of_opening k) Finished 0)
+  pub open_accepted : k.number ≡ 0 → OpenPost (frame_of_opening k) (handed (frame_of_opening k) (Ok tt) 0)
   open_accepted z =
       let is = is_finished p.answer (sym p.number ∙ z) in
       either_way (is_malformed 0 k.numbers) p.answered
-      (λ t q. absurd (let w : ◌≡◌ {A = ℕ} 0 1 = sym z ∙ p.number ∙ ap (λ (a : YuvAnswer). (numbers_of a).number) q.0 in omega arith))
+      (λ t q. absurd (let w : ◌≡◌ {A = ℕ} 0 1 = sym z ∙ p.number ∙ ap (λ (a : Result Unit YuvError). (numbers_of a).number) q.0 in omega arith))
       (λ t q. record { answered = rw is at q.answered; state = refl })
 
 -- ---- bands

@@ -1,10 +1,9 @@
 -- What the functions that C links answer and leave: the promise of the call under each, at the frame that the numbers describe; and refusal 1, with
 -- nothing written, for numbers without a meaning. docs/RULES.md, 10.2 and 10.3.
 -- Assumes nothing.
-use Rattle.std.specs.Prelude.{ℕ, ◌≡◌, List, [], ◌∷◌, ◌++◌, Float, length, drop}
+use Rattle.std.specs.Prelude.{ℕ, ◌≡◌, List, [], ◌∷◌, ◌++◌, Float, length, drop, Result, Err}
 use Rattle.yuv_error.specs.declared.YuvError.TheVariants.{MalformedRequest}
-use Rattle.yuv_error.specs.declared.YuvAnswer.{YuvAnswer}
-use Rattle.yuv_error.specs.declared.YuvAnswer.TheVariants.{Refused}
+use Rattle.yuv_error.specs.declared.YuvError.{YuvError}
 use Rattle.yuv_error.specs.Numbers.{numbers_of}
 use Rattle.definitions.specs.declared.FrameDescription.{FrameDescription}
 use Rattle.yuv_error.specs.Rules.{Rule}
@@ -46,7 +45,7 @@ abbrev pub frame_of_frame : ExportedFrame → FrameDescription
 frame_of_frame k = description_of (drop 1 k.numbers) k.custom
 
 -- RULES 10.3: the frame call that the numbers describe, with an answer
-abbrev pub frame_with : ExportedFrame → YuvAnswer → FrameCall
+abbrev pub frame_with : ExportedFrame → Result Unit YuvError → FrameCall
 frame_with k answer = frame_call (frame_of_frame k) (stride_of_frame k) k.source k.y k.u k.v answer k.y' k.u' k.v'
 
 -- RULES 10.2: the frame call's own conditions
@@ -58,13 +57,13 @@ abbrev pub rules_of_frame : ExportedFrame → List Rule
 rules_of_frame k = number_rules 1 k.numbers ++ frame_rules_of k
 
 -- RULES 10.3: a frame call's promise, with refusal 1 before it
-abbrev pub FrameAnswered : ExportedFrame → YuvAnswer → Type 0
+abbrev pub FrameAnswered : ExportedFrame → Result Unit YuvError → Type 0
 FrameAnswered k answer =
-    Either (is_malformed 1 k.numbers) ((answer ≡ Refused MalformedRequest) × Unwritten (frame_with k answer)) (FramePost (frame_with k answer))
+    Either (is_malformed 1 k.numbers) ((answer ≡ Err MalformedRequest) × Unwritten (frame_with k answer)) (FramePost (frame_with k answer))
 
 -- RULES 10.3: everything of a call; the number that it returns, and what it tells, are those of an answer that the frame call gives
 pub record FrameKept (k : ExportedFrame) : Type 0 where
-  pub answer : YuvAnswer
+  pub answer : Result Unit YuvError
   pub number : k.number ≡ (numbers_of answer).number
   pub told : k.told ≡ (numbers_of answer).expected ∷ (numbers_of answer).received ∷ []
   pub answered : FrameAnswered k answer
@@ -91,18 +90,18 @@ abbrev pub rules_of_opening : ExportedOpening → List Rule
 rules_of_opening k = number_rules 0 k.numbers ++ opening_rules (frame_of_opening k)
 
 -- RULES 10.3: what a call hands back, in numbers; the frame is the caller's
-abbrev pub handed : FrameDescription → YuvAnswer → (done : ℕ) → FrameAnswer
+abbrev pub handed : FrameDescription → Result Unit YuvError → (done : ℕ) → FrameAnswer
 handed d answer done = record { state = state_of d done; answer = answer }
 
 -- RULES 10.3: an opening's promise, with refusal 1 before it. A refused opening hands back no row done, with 1 too.
-abbrev pub OpenAnswered : ExportedOpening → YuvAnswer → (done : ℕ) → Type 0
+abbrev pub OpenAnswered : ExportedOpening → Result Unit YuvError → (done : ℕ) → Type 0
 OpenAnswered k answer done =
-    Either (is_malformed 0 k.numbers) ((answer ≡ Refused MalformedRequest) × (done ≡ 0))
+    Either (is_malformed 0 k.numbers) ((answer ≡ Err MalformedRequest) × (done ≡ 0))
     (OpenPost (frame_of_opening k) (handed (frame_of_opening k) answer done))
 
 -- RULES 10.3
 pub record OpenKept (k : ExportedOpening) : Type 0 where
-  pub answer : YuvAnswer
+  pub answer : Result Unit YuvError
   pub done : ℕ
   pub number : k.number ≡ (numbers_of answer).number
   pub told : k.told ≡ (numbers_of answer).expected ∷ (numbers_of answer).received ∷ done ∷ []
@@ -166,7 +165,7 @@ abbrev pub state_given : ExportedBand → FrameState
 state_given k = state_of (frame_of k) (done_of k)
 
 -- RULES 10.3: the band call that they describe, with what it hands back
-abbrev pub band_with : ExportedBand → YuvAnswer → (done : ℕ) → BandCall
+abbrev pub band_with : ExportedBand → Result Unit YuvError → (done : ℕ) → BandCall
 band_with k answer done =
     band_call (state_given k) (rows_of k) (stride_of k) k.source k.y k.u k.v k.carried
     (handed (frame_of k) answer done) k.y' k.u' k.v' k.carried'
@@ -184,13 +183,13 @@ abbrev pub Kept : ExportedBand → (done : ℕ) → Type 0
 Kept k done = (done ≡ done_of k) × (k.y' ≡ k.y) × (k.u' ≡ k.u) × (k.v' ≡ k.v) × (k.carried' ≡ k.carried)
 
 -- RULES 10.3: a band call's promise, with refusal 1 before it
-abbrev pub BandAnswered : ExportedBand → YuvAnswer → (done : ℕ) → Type 0
+abbrev pub BandAnswered : ExportedBand → Result Unit YuvError → (done : ℕ) → Type 0
 BandAnswered k answer done =
-    Either (is_malformed 3 k.numbers) ((answer ≡ Refused MalformedRequest) × Kept k done) (BandPost (band_with k answer done))
+    Either (is_malformed 3 k.numbers) ((answer ≡ Err MalformedRequest) × Kept k done) (BandPost (band_with k answer done))
 
 -- RULES 10.3
 pub record BandKept (k : ExportedBand) : Type 0 where
-  pub answer : YuvAnswer
+  pub answer : Result Unit YuvError
   pub done : ℕ
   pub number : k.number ≡ (numbers_of answer).number
   pub told : k.told ≡ (numbers_of answer).expected ∷ (numbers_of answer).received ∷ done ∷ []

@@ -1,12 +1,11 @@
 -- `segvartin_call_luma_counts`: what it answers and leaves. docs/RULES.md, 10.4.
 -- Assumes nothing.
-use Rattle.std.specs.Prelude.{ℕ, ◌≡◌, List, [], ◌∷◌, Float, get_or}
+use Rattle.std.specs.Prelude.{ℕ, ◌≡◌, List, [], ◌∷◌, Float, get_or, Result, Err}
 use Rattle.yuv_support.specs.declared.YuvRange.{YuvRange}
 use Rattle.yuv_support.specs.declared.YuvRange.TheVariants.{Limited}
 use Rattle.yuv_support.specs.declared.YuvStandardMatrix.{YuvStandardMatrix}
 use Rattle.yuv_error.specs.declared.YuvError.TheVariants.{MalformedRequest}
-use Rattle.yuv_error.specs.declared.YuvAnswer.{YuvAnswer}
-use Rattle.yuv_error.specs.declared.YuvAnswer.TheVariants.{Refused}
+use Rattle.yuv_error.specs.declared.YuvError.{YuvError}
 use Rattle.yuv_error.specs.Numbers.{numbers_of}
 use Rattle.yuv_error.specs.Rules.{Rule, rule, matrix_rules}
 use Rattle.band_lists.specs.BandLists.{Either}
@@ -41,14 +40,14 @@ abbrev pub rules_of_counts : ExportedCounts → List Rule
 rules_of_counts k = rule 1 (is_malformed_range_and_matrix k.numbers) 0 0 ∷ matrix_rules (matrix_of_counts k)
 
 -- RULES 10.4: the promise of `colour_counts`, with refusal 1 before it
-abbrev pub CountsAnswered : ExportedCounts → YuvAnswer → Type 0
+abbrev pub CountsAnswered : ExportedCounts → Result Unit YuvError → Type 0
 CountsAnswered k answer =
-    Either (is_malformed_range_and_matrix k.numbers) ((answer ≡ Refused MalformedRequest) × (k.counts' ≡ k.counts))
+    Either (is_malformed_range_and_matrix k.numbers) ((answer ≡ Err MalformedRequest) × (k.counts' ≡ k.counts))
     (CountsPost (range_of_counts k) (matrix_of_counts k) k.counts answer k.counts')
 
 -- RULES 10.4
 pub record CountsKept (k : ExportedCounts) : Type 0 where
-  pub answer : YuvAnswer
+  pub answer : Result Unit YuvError
   pub number : k.number ≡ (numbers_of answer).number
   pub told : k.told ≡ (numbers_of answer).expected ∷ (numbers_of answer).received ∷ []
   pub answered : CountsAnswered k answer

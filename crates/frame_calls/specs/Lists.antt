@@ -1,8 +1,8 @@
 -- Lists of exported calls, as the lists of band calls that demand 3 speaks of: what a caller's numbers mean, and which answer they tell.
 -- docs/RULES.md, 10.3.
 -- Assumes nothing.
-use Rattle.std.specs.Prelude.{ℕ, ◌≤◌, cond, List, [], ◌∷◌}
-use Rattle.yuv_error.specs.declared.YuvAnswer.{YuvAnswer}
+use Rattle.std.specs.Prelude.{ℕ, ◌≤◌, cond, List, [], ◌∷◌, Result}
+use Rattle.yuv_error.specs.declared.YuvError.{YuvError}
 use Rattle.yuv_error.specs.Numbers.{Numbers, numbers, answer_of}
 use Rattle.band_calls.specs.declared.FrameState.{FrameState}
 use Rattle.sharp_rgba_to_yuv.specs.FrameCall.{FrameCall}
@@ -15,7 +15,7 @@ abbrev pub numbers_told : (number : ℕ) → (told : List ℕ) → Numbers
 numbers_told number told = numbers number (at told 0) (at told 1)
 
 -- RULES 10.3
-abbrev pub answer_told : (number : ℕ) → (told : List ℕ) → YuvAnswer
+abbrev pub answer_told : (number : ℕ) → (told : List ℕ) → Result Unit YuvError
 answer_told number told = answer_of (numbers_told number told)
 
 -- RULES 10.3: the rows done, as an opening or a band call told them

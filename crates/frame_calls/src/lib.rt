@@ -10,7 +10,7 @@ ghost use Rattle.frame_calls.specs.Counts.{exported_counts, CountsAnswered, Coun
 
 use band_calls::FrameState;
 use call_numbers::Told;
-use yuv_error::{YuvAnswer, YuvError};
+use yuv_error::YuvError;
 
 // What stands before the description: the source's stride of a frame; the rows done, the rows and the source's stride of a band.
 const OF_FRAME: usize = 1;
@@ -25,14 +25,11 @@ fn frame_answer(
     y: &mut [u8],
     u: &mut [u8],
     v: &mut [u8],
-) -> YuvAnswer
+) -> Result<(), YuvError>
     ensures { FrameAnswered (exported_frame numbers.now custom.now source.now
         y.old u.old v.old 0 [] y.new u.new v.new) result }
 {
-    if call_numbers::is_malformed(OF_FRAME, numbers) {
-        return YuvAnswer::Refused(YuvError::MalformedRequest);
-    }
-    let frame = call_numbers::describe_after(OF_FRAME, numbers, custom);
+    let frame = call_numbers::described(OF_FRAME, numbers, custom)?;
     sharp_rgba_to_yuv::rgbx_to_sharp_yuv(frame, source, numbers[0], y, u, v)
 }
 
@@ -56,18 +53,18 @@ pub fn call_frame(
 fn open_told(numbers: &[u32], custom: &[f32; 2]) -> Told
     ensures { OpenAnswered (exported_opening numbers.now custom.now 0 []) result.answer result.done }
 {
-    if call_numbers::is_malformed(0, numbers) {
-        return Told {
-            answer: YuvAnswer::Refused(YuvError::MalformedRequest),
+    match call_numbers::described(0, numbers, custom) {
+        Err(e) => Told {
+            answer: Err(e),
             done: 0,
-        };
-    }
-    let opened = FrameState::open(call_numbers::describe_after(0, numbers, custom));
-    let answer = opened.answer;
-    let state = opened.state;
-    Told {
-        answer,
-        done: state.done,
+        },
+        Ok(frame) => {
+            let opened = FrameState::open(frame);
+            Told {
+                answer: opened.answer,
+                done: opened.state.done,
+            }
+        }
     }
 }
 
@@ -92,23 +89,22 @@ fn band_told(
         y.old u.old v.old carried.old
         0 [] y.new u.new v.new carried.new) result.answer result.done }
 {
-    if call_numbers::is_malformed(OF_BAND, numbers) {
-        return Told {
-            answer: YuvAnswer::Refused(YuvError::MalformedRequest),
+    match call_numbers::described(OF_BAND, numbers, custom) {
+        Err(e) => Told {
+            answer: Err(e),
             done: call_numbers::number_at(numbers, 0),
-        };
-    }
-    let frame = call_numbers::describe_after(OF_BAND, numbers, custom);
-    let before = FrameState {
-        frame,
-        done: numbers[0],
-    };
-    let converted = before.band(numbers[1], source, numbers[2], y, u, v, carried);
-    let answer = converted.answer;
-    let after = converted.state;
-    Told {
-        answer,
-        done: after.done,
+        },
+        Ok(frame) => {
+            let before = FrameState {
+                frame,
+                done: numbers[0],
+            };
+            let converted = before.band(numbers[1], source, numbers[2], y, u, v, carried);
+            Told {
+                answer: converted.answer,
+                done: converted.state.done,
+            }
+        }
     }
 }
 
@@ -131,12 +127,16 @@ pub fn call_band(
 }
 
 // The counts, once the numbers have a meaning.
-fn counts_answer(numbers: &[u32], custom: &[f32; 2], counts: &mut [u32; 256]) -> YuvAnswer
+fn counts_answer(
+    numbers: &[u32],
+    custom: &[f32; 2],
+    counts: &mut [u32; 256],
+) -> Result<(), YuvError>
     ensures { CountsAnswered (exported_counts numbers.now custom.now counts.old
         0 [] counts.new) result }
 {
     if call_numbers::is_malformed_range_and_matrix(numbers) {
-        return YuvAnswer::Refused(YuvError::MalformedRequest);
+        return Err(YuvError::MalformedRequest);
     }
     let range = setting_codes::range_of(numbers[0]);
     let matrix = call_numbers::matrix_of(numbers[1], custom);

@@ -9,8 +9,7 @@ use borrow.Rule.Slice.PartMut.{put_mid, put_same}
 use lib.ListN.{length, take, drop, length-take, take-append-drop}
 use lib.Seq.{take_at, drop_at}
 use Rattle.yuv_error.specs.declared.YuvError.{YuvError}
-use Rattle.yuv_error.specs.declared.YuvAnswer.{YuvAnswer}
-use Rattle.yuv_error.specs.declared.YuvAnswer.TheVariants.{Finished, Refused}
+use Rattle.std.specs.Prelude.{Result, Ok, Err}
 use Rattle.yuv_error.specs.Numbers.{numbers_of}
 use Rattle.yuv_error.specs.Rules.{first_numbers}
 use Rattle.definitions.specs.Painted.{Painted}
@@ -30,7 +29,7 @@ pub first_size : (k : ℕ) (xs : List ℕ) → k ≤ length xs → length (take 
 first_size k xs h = length-take k xs ∙ omega arith
 
 -- the parts that were lent are back in front of the bytes that were not
-pub planes_back : (d : FrameDescription) (stride : ℕ) (source : List ℕ) (sizes : PlaneSizes) (y u v : List ℕ) (a : YuvAnswer) (y' u' v' : List ℕ)
+pub planes_back : (d : FrameDescription) (stride : ℕ) (source : List ℕ) (sizes : PlaneSizes) (y u v : List ℕ) (a : Result Unit YuvError) (y' u' v' : List ℕ)
     → sizes.luma ≤ length y → sizes.chroma ≤ length u → sizes.chroma ≤ length v
     → FramePost (frame_call d stride source (take sizes.luma y) (take sizes.chroma u) (take sizes.chroma v) a y' u' v')
     → PlanesPost sizes (frame_call d stride source y u v a (y' ++ drop sizes.luma y) (u' ++ drop sizes.chroma u) (v' ++ drop sizes.chroma v))
@@ -47,7 +46,7 @@ planes_back d stride source sizes y u v a y' u' v' yfits ufits vfits post =
       past = drop_at y' (drop sizes.luma y) sizes.luma ysize;
     }
 
-module _ (d : FrameDescription) (sizes : PlaneSizes) (stride : ℕ) (source output u v : List ℕ) (a : YuvAnswer) (output' u' v' : List ℕ)
+module _ (d : FrameDescription) (sizes : PlaneSizes) (stride : ℕ) (source output u v : List ℕ) (a : Result Unit YuvError) (output' u' v' : List ℕ)
     (packed : Packed d sizes) (room : 49152 ≤ length output) (urest : 16384 ≡ length u) (vrest : 16384 ≡ length v)
     (post : PlanesPost sizes (frame_call d stride source output u v a output' u' v')) where
   abbrev image : Image
@@ -69,14 +68,14 @@ module _ (d : FrameDescription) (sizes : PlaneSizes) (stride : ℕ) (source outp
   pub call_answered : numbers_of a ≡ first_numbers (frame_rules d stride (packed_lengths d (length source)))
   call_answered = rw (ysize, usize, vsize, packed.luma, packed.chroma) at post.called.answered
 
-  pub call_refused : {e : YuvError} → a ≡ Refused e
+  pub call_refused : {e : YuvError} → a ≡ Err e
       → Painted (taken a (output_size d)) (output_at d (frame_image d stride source)) output output'
   call_refused is =
       let same = plane_same 0 0 _ _ _ (take sizes.luma output) (take sizes.luma output') (le_refl 0) (rw is at post.called.planes.luma) in
       let whole = output_is ∙ ap (λ (xs : List ℕ). put_mid 0 sizes.luma output xs) same ∙ put_same 0 sizes.luma output in
       rw (is, whole) (Painted-none _ output)
 
-  pub call_finished : a ≡ Finished → (o o' : List ℕ)
+  pub call_finished : a ≡ Ok tt → (o o' : List ℕ)
       → o ≡ put_mid sizes.luma sizes.chroma output' (take sizes.chroma u')
       → o' ≡ put_mid (sizes.luma + sizes.chroma) sizes.chroma o (take sizes.chroma v')
       → Painted (taken a (output_size d)) (output_at d (frame_image d stride source)) output o'
@@ -84,7 +83,7 @@ module _ (d : FrameDescription) (sizes : PlaneSizes) (stride : ℕ) (source outp
       let y'' = take sizes.luma output' in
       let u'' = take sizes.chroma u' in
       let v'' = take sizes.chroma v' in
-      let planes = subst (λ (b : YuvAnswer). Sharpened d 0 (taken b d.height) image (take sizes.luma output) (take sizes.chroma u)
+      let planes = subst (λ (b : Result Unit YuvError). Sharpened d 0 (taken b d.height) image (take sizes.luma output) (take sizes.chroma u)
       (take sizes.chroma v) y'' u'' v'') is post.called.planes in
       let ylong : length y'' ≡ sizes.luma = planes.luma.size ∙ ysize in
       let ulong : length u'' ≡ sizes.chroma = planes.cb.size ∙ usize in

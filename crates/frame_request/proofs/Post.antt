@@ -5,8 +5,7 @@ use mathlib.Core.List.{List}
 use native.Mathlib.Omega.{arith}
 use lib.ListN.{length, drop}
 use Rattle.yuv_error.specs.declared.YuvError.{YuvError}
-use Rattle.yuv_error.specs.declared.YuvAnswer.{YuvAnswer}
-use Rattle.yuv_error.specs.declared.YuvAnswer.TheVariants.{Finished, Refused}
+use Rattle.std.specs.Prelude.{Result, Ok, Err}
 use Rattle.yuv_error.specs.Numbers.{Numbers, numbers_of}
 use Rattle.yuv_error.specs.Rules.{first_numbers}
 use Rattle.yuv_error.proofs.First.{after_refused, append_finished}
@@ -16,16 +15,13 @@ use Rattle.definitions.specs.declared.FrameDescription.{FrameDescription}
 use Rattle.definitions.specs.Image.{frame_image}
 use Rattle.yuv_error.specs.Lent.{taken}
 use Rattle.sharp_rgba_to_yuv.specs.FrameCall.{frame_rules}
-use Rattle.frame_request.specs.declared.Response.{Response}
-use Rattle.frame_request.specs.declared.Response.TheVariants.{Planes, Refused as Refuses}
 use Rattle.frame_request.specs.Request.{frame_of, source_stride, packed_lengths, opening_rules, buffer_rules, request_rules}
 use Rattle.frame_request.specs.Request.{output_at, output_size, bytes_said, answer_at, RequestPost}
-use Rattle.frame_request.specs.Packed.{response_of}
 use Rattle.frame_request.proofs.Checked.{checked, chroma_small, frame_asks}
 
 -- refused with 1, 2 or 3
-pub refused_early : (input output : List ℕ) {a : YuvAnswer} {e : YuvError} → a ≡ Refused e → numbers_of a ≡ first_numbers (opening_rules input)
-    → RequestPost input output (Refuses e) output
+pub refused_early : (input output : List ℕ) {a : Result Unit YuvError} {e : YuvError} → a ≡ Err e → numbers_of a ≡ first_numbers (opening_rules input)
+    → RequestPost input output (Err e) output
 refused_early input output is n = record {
   answered = sym (ap numbers_of is) ∙ after_refused (opening_rules input) (buffer_rules input) refl is n;
   said = refl;
@@ -33,11 +29,11 @@ refused_early input output is n = record {
 }
 
 -- what the frame call of a request answered and left
-pub record Called (input output : List ℕ) (a : YuvAnswer) (output' : List ℕ) : Type 0 where
+pub record Called (input output : List ℕ) (a : Result Unit YuvError) (output' : List ℕ) : Type 0 where
   pub answered : numbers_of a ≡ first_numbers (request_rules input)
   pub written : Painted (taken a (output_size (frame_of input))) (answer_at input) output output'
 
-pub called : (input output output' : List ℕ) (d : FrameDescription) (stride : ℕ) (source : List ℕ) (a : YuvAnswer)
+pub called : (input output output' : List ℕ) (d : FrameDescription) (stride : ℕ) (source : List ℕ) (a : Result Unit YuvError)
     → d ≡ frame_of input → stride ≡ source_stride (frame_of input) → source ≡ drop 9 input → (first_numbers (opening_rules input)).number ≡ 0
     → numbers_of a ≡ first_numbers (frame_rules d stride (packed_lengths d (length source)))
     → Painted (taken a (output_size d)) (output_at d (frame_image d stride source)) output output'
@@ -47,21 +43,24 @@ called input output output' d stride source a frame row rows opened n w = record
   written = rw (frame, row, rows) at w;
 }
 
-pub posted : (input output output' : List ℕ) (a : YuvAnswer) (n : ℕ) {r : Response} → r ≡ response_of a n → n ≡ output_size (frame_of input)
-    → Called input output a output'
-    → RequestPost input output r output'
-posted input output output' a n is size c = rw is (go a c)
-  where
-    go : (a : YuvAnswer) → Called input output a output' → RequestPost input output (response_of a n) output'
-    go Finished c = record { answered = c.answered; said = size; written = rw (← size) at c.written }
-    go (Refused e) c = record { answered = c.answered; said = refl; written = c.written }
+-- finished, with the bytes of the planes
+pub posted : {input output output' : List ℕ} {a : Result Unit YuvError} {n : ℕ} → a ≡ Ok tt → n ≡ output_size (frame_of input) → Called input output a output'
+    → RequestPost input output (Ok n) output'
+posted is size c =
+    let written = rw is at c.written in
+    record { answered = rw is at c.answered; said = size; written = rw (← size) at written }
+
+-- refused by the frame call
+pub refused_late : {input output output' : List ℕ} {a : Result Unit YuvError} {e : YuvError} → a ≡ Err e → Called input output a output'
+    → RequestPost input output (Err e) output'
+refused_late is c = record { answered = rw is at c.answered; said = refl; written = rw is at c.written }
 
 -- ---- what a caller reads off the promise
 
 -- 49,152 bytes hold the planes of every request that is not refused
-pub bytes_most : (input output : List ℕ) (r : Response) (output' : List ℕ) → RequestPost input output r output' → bytes_said r ≤ 49152
-bytes_most input output (Planes n) output' p =
+pub bytes_most : (input output : List ℕ) (r : Result ℕ YuvError) (output' : List ℕ) → RequestPost input output r output' → bytes_said r ≤ 49152
+bytes_most input output (Ok n) output' p =
     let zero = sym (ap (λ (x : Numbers). x.number) p.answered) in
     let k = checked input (append_finished (opening_rules input) (buffer_rules input) refl zero).0 in
     omega (arith, p.said, k.area, chroma_small input k)
-bytes_most input output (Refuses e) output' p = zero-le
+bytes_most input output (Err e) output' p = zero-le

@@ -17,8 +17,7 @@ use Rattle.yuv_error.proofs.Numbers.{refused_number}
 use Rattle.definitions.specs.Painted.{Painted}
 use Rattle.definitions.proofs.Painted.{by_place, Painted-at, Painted-other, painted_same}
 use Rattle.definitions.proofs.Planes.{below?}
-use Rattle.frame_request.specs.declared.Response.{Response}
-use Rattle.frame_request.specs.declared.Response.TheVariants.{Planes, Refused}
+use Rattle.std.specs.Prelude.{Result, Ok, Err}
 use Rattle.frame_request.specs.Request.{frame_of, malformed, luma_size, request_rules, response_numbers, output_size, answer_at, RequestPost}
 use Rattle.frame_request.specs.Reply.{first_bytes, decimal, refused_text, refusal_line, reply, Begins}
 use Rattle.frame_request.proofs.Answers.{rows_size, request_answer, request_answer_lem}
@@ -113,21 +112,21 @@ refused_reply input n e some =
     ap (λ (n : ℕ). cond (eqb n 0) (first_bytes (answer_at input) (output_size (frame_of input))) (refusal_line n)) e
     ∙ ap (λ (b : Bool). cond b (first_bytes (answer_at input) (output_size (frame_of input))) (refusal_line n)) some
 
-module _ {input output output' : List ℕ} {r : Response} (post : RequestPost input output r output') where
+module _ {input output output' : List ℕ} {r : Result ℕ YuvError} (post : RequestPost input output r output') where
   number_is : (first_numbers (request_rules input)).number ≡ (response_numbers r).number
   number_is = sym (ap (λ (x : Numbers). x.number) post.answered)
 
-  pub planes_replied : {n : ℕ} → r ≡ Planes n → 49152 ≤ length output → Begins (reply input) output n output'
+  pub planes_replied : {n : ℕ} → r ≡ Ok n → 49152 ≤ length output → Begins (reply input) output n output'
   planes_replied {n} is long =
-      let finished = number_is ∙ ap (λ (x : Response). (response_numbers x).number) is in
+      let finished = number_is ∙ ap (λ (x : Result ℕ YuvError). (response_numbers x).number) is in
       let size : n ≡ output_size (frame_of input) = rw is at post.said in
       let most = rw is at (bytes_most input output r output' post) in
       subst (λ (xs : List ℕ). Begins xs output n output') (ap (first_bytes (answer_at input)) size ∙ sym (planes_reply input finished))
       (Painted-Begins (omega (arith, most)) (rw is at post.written))
 
-  module _ {e : YuvError} {m : ℕ} {size : MismatchedSize} (is : r ≡ Refused e) (numbered : sized m size ≡ error_numbers e) where
+  module _ {e : YuvError} {m : ℕ} {size : MismatchedSize} (is : r ≡ Err e) (numbered : sized m size ≡ error_numbers e) where
     refused_with : (first_numbers (request_rules input)).number ≡ m
-    refused_with = number_is ∙ ap (λ (x : Response). (response_numbers x).number) is ∙ sym (ap (λ (x : Numbers). x.number) numbered)
+    refused_with = number_is ∙ ap (λ (x : Result ℕ YuvError). (response_numbers x).number) is ∙ sym (ap (λ (x : Numbers). x.number) numbered)
 
     pub refused_below : m < 100
     refused_below = omega (arith, number_most input, refused_with)

@@ -2,13 +2,9 @@
 -- Assumes nothing.
 use Rattle.std.specs.Prelude.{ℕ, ◌≤◌, ◌≡◌, take, drop}
 use Rattle.yuv_support.specs.Sampling.{chroma_width}
-use Rattle.yuv_error.specs.declared.YuvAnswer.{YuvAnswer}
-use Rattle.yuv_error.specs.declared.YuvAnswer.TheVariants.{Finished, Refused}
 use Rattle.definitions.specs.declared.FrameDescription.{FrameDescription}
 use Rattle.sharp_rgba_to_yuv.specs.FrameCall.{FrameCall, frame_call, FramePost}
 use Rattle.frame_request.specs.declared.PlaneSizes.{PlaneSizes}
-use Rattle.frame_request.specs.declared.Response.{Response}
-use Rattle.frame_request.specs.declared.Response.TheVariants.{Planes, Refused as Refuses}
 use Rattle.frame_request.specs.Request.{luma_size, chroma_size}
 
 -- planes without padding, and their sizes
@@ -33,8 +29,3 @@ on_first n k =
 pub record PlanesPost (n : PlaneSizes) (k : FrameCall) : Type 0 where
   pub called : FramePost (on_first n k)
   pub past : drop n.luma k.y' ≡ drop n.luma k.y
-
--- the answer of a frame call as a response, with the bytes of the planes
-abbrev pub response_of : YuvAnswer → ℕ → Response
-response_of Finished n = Planes n
-response_of (Refused e) n = Refuses e

@@ -1,7 +1,7 @@
 -- A request of the program: the frame that it describes, the refusals, and the bytes that answer it. docs/RULES.md, chapter 9.
 -- Where a request has fewer bytes than are asked of it here, 0 stands for the others: refusal 1 is first, so no answer turns on them.
 -- Assumes nothing.
-use Rattle.std.specs.Prelude.{ℕ, ◌+◌, ◌*◌, ◌-◌, ◌/◌, ◌%◌, ◌≡◌, Bool, cond, ◌||◌, List, [], ◌∷◌, ◌++◌, ltb, leb, length, get_or, drop}
+use Rattle.std.specs.Prelude.{ℕ, ◌+◌, ◌*◌, ◌-◌, ◌/◌, ◌%◌, ◌≡◌, Bool, cond, ◌||◌, List, [], ◌∷◌, ◌++◌, ltb, leb, length, get_or, drop, Result, Ok, Err}
 use Rattle.yuv_support.specs.declared.YuvSourceChannels.TheVariants.{Rgb}
 use Rattle.yuv_support.specs.declared.YuvChromaSubsampling.TheVariants.{Yuv420}
 use Rattle.yuv_support.specs.declared.YuvRange.TheVariants.{Limited}
@@ -13,14 +13,13 @@ use Rattle.sharp_gamma.specs.declared.TableRounding.TheVariants.{Truncated}
 use Rattle.setting_codes.specs.Codes.{channels_codes, sampling_codes, range_codes, matrix_codes, transfer_codes}
 use Rattle.definitions.specs.declared.YuvSettings.{YuvSettings}
 use Rattle.definitions.specs.Painted.{Painted}
+use Rattle.yuv_error.specs.declared.YuvError.{YuvError}
 use Rattle.yuv_error.specs.Numbers.{Numbers, numbers, error_numbers}
 use Rattle.yuv_error.specs.Rules.{Rule, rule, first_numbers, size_rules, matrix_rules}
 use Rattle.definitions.specs.declared.FrameDescription.{FrameDescription}
 use Rattle.definitions.specs.Image.{whole_source, Image, frame_image, luma_at, cb_at, cr_at}
 use Rattle.yuv_error.specs.declared.Lengths.{Lengths}
 use Rattle.yuv_error.specs.Lent.{lent_rules}
-use Rattle.frame_request.specs.declared.Response.{Response}
-use Rattle.frame_request.specs.declared.Response.TheVariants.{Planes, Refused}
 
 -- ---- what a request says
 
@@ -107,19 +106,19 @@ request_rules input = opening_rules input ++ buffer_rules input
 -- ---- what is answered
 
 -- RULES 7.1
-abbrev pub response_numbers : Response → Numbers
-response_numbers (Planes n) = numbers 0 0 0
-response_numbers (Refused e) = error_numbers e
+abbrev pub response_numbers : Result ℕ YuvError → Numbers
+response_numbers (Ok n) = numbers 0 0 0
+response_numbers (Err e) = error_numbers e
 
 -- RULES 9.3: how many bytes are answered, of a frame with n bytes in its planes
-abbrev pub bytes_of : Response → ℕ → ℕ
-bytes_of (Planes k) n = n
-bytes_of (Refused e) n = 0
+abbrev pub bytes_of : Result ℕ YuvError → ℕ → ℕ
+bytes_of (Ok k) n = n
+bytes_of (Err e) n = 0
 
 -- RULES 9.3: how many the answer says
-abbrev pub bytes_said : Response → ℕ
-bytes_said (Planes k) = k
-bytes_said (Refused e) = 0
+abbrev pub bytes_said : Result ℕ YuvError → ℕ
+bytes_said (Ok k) = k
+bytes_said (Err e) = 0
 
 -- RULES 9.3: byte p of rows of n bytes, without padding
 abbrev pub byte_in : (ℕ → ℕ → ℕ) → (n p : ℕ) → ℕ
@@ -141,7 +140,7 @@ abbrev pub answer_at : List ℕ → (p : ℕ) → ℕ
 answer_at input = let d = frame_of input in output_at d (frame_image d (source_stride d) (drop 9 input))
 
 -- RULES 9.2, 9.3: everything of a request, by its bytes, the answer, and the output as it was left
-pub record RequestPost (input output : List ℕ) (response : Response) (output' : List ℕ) : Type 0 where
+pub record RequestPost (input output : List ℕ) (response : Result ℕ YuvError) (output' : List ℕ) : Type 0 where
   pub answered : response_numbers response ≡ first_numbers (request_rules input)
   pub said : bytes_said response ≡ bytes_of response (output_size (frame_of input))
   pub written : Painted (bytes_said response) (answer_at input) output output'

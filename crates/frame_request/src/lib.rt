@@ -1,7 +1,7 @@
 // A request of the program `frame`, from its bytes to those that answer it.
 #![tactic(auto)]
 
-ghost use Rattle.std.specs.Prelude.{◌≡◌, ◌++◌, ◌+◌, ◌*◌, ◌≤◌, ◌<◌, length, take, drop};
+ghost use Rattle.std.specs.Prelude.{◌≡◌, ◌++◌, ◌+◌, ◌*◌, ◌≤◌, ◌<◌, length, take, drop, OnOk};
 ghost use Rattle.definitions.specs.Painted.{Painted};
 ghost use Rattle.yuv_error.specs.Numbers.{numbers_of};
 ghost use Rattle.yuv_error.specs.Rules.{first_numbers, size_rules};
@@ -10,35 +10,18 @@ ghost use Rattle.yuv_error.specs.Lent.{taken};
 ghost use Rattle.sharp_rgba_to_yuv.specs.FrameCall.{frame_call, frame_rules};
 ghost use Rattle.frame_request.specs.Request.{settings_of, frame_of, source_stride, luma_size, chroma_size, packed_lengths};
 ghost use Rattle.frame_request.specs.Request.{has_unknown, header_rules, area_rules, opening_rules, output_at, output_size, RequestPost};
-ghost use Rattle.frame_request.specs.Packed.{Packed, PlanesPost, response_of};
+ghost use Rattle.frame_request.specs.Packed.{Packed, PlanesPost};
 ghost use Rattle.frame_request.specs.Reply.{refusal_line, reply, Begins};
 
 use definitions::{FrameDescription, Window, YuvSettings};
 use sharp_gamma::TableRounding;
-use yuv_error::{YuvAnswer, YuvError};
+use yuv_error::YuvError;
 
 // The bytes of w, h and the five codes.
 const HEADER: usize = 9;
 
 // The most pixels of a side, and of the frame (RULES 7.3, 9.2).
 const MOST_PIXELS: u32 = 16384;
-
-// The answer to a request: the planes, so many bytes of output, or one numbered refusal.
-#[derive(Clone, Copy)]
-pub enum Response {
-    Planes(usize),
-    Refused(YuvError),
-}
-
-// The answer of a frame call as a response, with the bytes of the planes.
-fn respond(answer: YuvAnswer, bytes: usize) -> Response
-    ensures { result ≡ response_of answer bytes }
-{
-    match answer {
-        YuvAnswer::Finished => Response::Planes(bytes),
-        YuvAnswer::Refused(e) => Response::Refused(e),
-    }
-}
 
 // A u16 of two bytes.
 fn word(low: u8, high: u8) -> u32
@@ -47,6 +30,7 @@ fn word(low: u8, high: u8) -> u32
     low as u32 + 256 * high as u32
 }
 
+#[tactic(auto, unfolding(crate::specs::Request::settings_of))]
 fn settings_of(input: &[u8]) -> YuvSettings
     requires { 9 ≤ length input.now }
     ensures { result ≡ settings_of input.now }
@@ -61,6 +45,7 @@ fn settings_of(input: &[u8]) -> YuvSettings
     }
 }
 
+#[tactic(auto, unfolding(crate::specs::Request::frame_of))]
 fn frame_of(input: &[u8]) -> FrameDescription
     requires { 9 ≤ length input.now }
     ensures { result ≡ frame_of input.now }
@@ -68,18 +53,16 @@ fn frame_of(input: &[u8]) -> FrameDescription
     let width = word(input[0], input[1]);
     let height = word(input[2], input[3]);
     let chroma_width = yuv_support::chroma_width(width as usize) as u32;
-    let window = Window {
-        left: 0,
-        top: 0,
-        source_width: width,
-        source_height: height,
-    };
-    let settings = settings_of(input);
     FrameDescription {
         width,
         height,
-        window,
-        settings,
+        window: Window {
+            left: 0,
+            top: 0,
+            source_width: width,
+            source_height: height,
+        },
+        settings: settings_of(input),
         y_stride: width,
         u_stride: chroma_width,
         v_stride: chroma_width,
@@ -91,46 +74,39 @@ fn has_unknown(input: &[u8]) -> bool
     requires { 9 ≤ length input.now }
     ensures { result ≡ has_unknown input.now }
 {
-    (input[4] >= 4) | (input[5] >= 2) | (input[6] >= 2) | (input[7] >= 6) | (input[8] >= 4)
+    input[4] >= 4 || input[5] >= 2 || input[6] >= 2 || input[7] >= 6 || input[8] >= 4
 }
 
-fn check_header(input: &[u8]) -> YuvAnswer
-    ensures { numbers_of result ≡ first_numbers (header_rules input.now) }
+#[tactic(auto, unfolding(crate::specs::Request::malformed))]
+fn check_header(input: &[u8]) -> Result<(), YuvError>
+    ensures numbers { numbers_of result ≡ first_numbers (header_rules input.now) }
+    ensures long { OnOk result (9 ≤ length input.now) }
 {
-    if input.len() < HEADER {
-        return YuvAnswer::Refused(YuvError::MalformedRequest);
+    if input.len() < HEADER || has_unknown(input) {
+        return Err(YuvError::MalformedRequest);
     }
-    if has_unknown(input) {
-        return YuvAnswer::Refused(YuvError::MalformedRequest);
-    }
-    YuvAnswer::Finished
+    Ok(())
 }
 
 // Refusals 2 and 3.
-fn check_size(width: u32, height: u32) -> YuvAnswer
+fn check_size(width: u32, height: u32) -> Result<(), YuvError>
     ensures { numbers_of result ≡ first_numbers (size_rules width height ++ area_rules width height) }
 {
-    if (width == 0) | (height == 0) {
-        return YuvAnswer::Refused(YuvError::ZeroBaseSize);
+    if width == 0 || height == 0 {
+        return Err(YuvError::ZeroBaseSize);
     }
     let area = width as u64 * height as u64;
-    if (width > MOST_PIXELS) | (height > MOST_PIXELS) | (area > MOST_PIXELS as u64) {
-        return YuvAnswer::Refused(YuvError::SizeTooLarge);
+    if width > MOST_PIXELS || height > MOST_PIXELS || area > MOST_PIXELS as u64 {
+        return Err(YuvError::SizeTooLarge);
     }
-    YuvAnswer::Finished
+    Ok(())
 }
 
 // Refusals 1, 2 and 3.
-fn check_request(input: &[u8]) -> YuvAnswer
+fn check_request(input: &[u8]) -> Result<(), YuvError>
     ensures { numbers_of result ≡ first_numbers (opening_rules input.now) }
 {
-    let header = check_header(input);
-    match header {
-        YuvAnswer::Refused(_) => {
-            return header;
-        }
-        YuvAnswer::Finished => {}
-    }
+    check_header(input)?;
     let frame = frame_of(input);
     check_size(frame.width, frame.height)
 }
@@ -140,13 +116,11 @@ fn source_stride(frame: FrameDescription) -> u32
     requires { frame.width ≤ 16384 }
     ensures { result ≡ source_stride frame }
 {
-    let settings = frame.settings;
-    let channels = settings.channels;
-    frame.width * channels.get_channels_count() as u32
+    frame.width * frame.settings.channels.get_channels_count() as u32
 }
 
 // The bytes of a frame's planes without padding: of Y, and of U or V.
-#[derive(Clone, Copy)]
+#[derive(Clone, Copy, Debug, PartialEq, Eq)]
 struct PlaneSizes {
     luma: usize,
     chroma: usize,
@@ -156,13 +130,11 @@ fn plane_sizes(frame: FrameDescription) -> PlaneSizes
     requires { (frame.width ≤ 16384) × (1 ≤ frame.height) × (frame.height ≤ 16384) }
     ensures { (result.luma ≡ luma_size frame) × (result.chroma ≡ chroma_size frame) }
 {
-    let settings = frame.settings;
-    let sampling = settings.sampling;
     let width = frame.width as usize;
     let height = frame.height as usize;
     PlaneSizes {
         luma: width * height,
-        chroma: yuv_support::chroma_width(width) * sampling.chroma_height(height),
+        chroma: yuv_support::chroma_width(width) * frame.settings.sampling.chroma_height(height),
     }
 }
 
@@ -191,20 +163,18 @@ fn convert_planes(
     y: &mut [u8],
     u: &mut [u8],
     v: &mut [u8],
-) -> YuvAnswer
+) -> Result<(), YuvError>
     requires { (sizes.luma ≤ length y.old) × (sizes.chroma ≤ length u.old) × (sizes.chroma ≤ length v.old) }
     ensures { PlanesPost sizes (frame_call frame stride source.now y.old u.old v.old
         result y.new u.new v.new) }
 {
-    let luma = sizes.luma;
-    let chroma = sizes.chroma;
     sharp_rgba_to_yuv::rgbx_to_sharp_yuv(
         frame,
         source,
         stride,
-        &mut y[..luma],
-        &mut u[..chroma],
-        &mut v[..chroma],
+        &mut y[..sizes.luma],
+        &mut u[..sizes.chroma],
+        &mut v[..sizes.chroma],
     )
 }
 
@@ -215,7 +185,7 @@ fn convert_into(
     stride: u32,
     sizes: PlaneSizes,
     output: &mut [u8],
-) -> YuvAnswer
+) -> Result<(), YuvError>
     requires packed { Packed frame sizes }
     requires in_bounds { 49152 ≤ length output.old }
     ensures result_value { numbers_of result ≡ first_numbers (frame_rules frame stride (packed_lengths frame (length source.now))) }
@@ -224,20 +194,14 @@ fn convert_into(
 {
     let mut u = plane();
     let mut v = plane();
-    let answer = convert_planes(frame, source, stride, sizes, output, &mut u, &mut v);
-    match answer {
-        YuvAnswer::Refused(_) => {
-            return answer;
-        }
-        YuvAnswer::Finished => {}
-    }
+    convert_planes(frame, source, stride, sizes, output, &mut u, &mut v)?;
     put(&u, sizes.chroma, output, sizes.luma);
     put(&v, sizes.chroma, output, sizes.luma + sizes.chroma);
-    answer
+    Ok(())
 }
 
 // Answers a request that was not refused for its header or size.
-fn convert(input: &[u8], output: &mut [u8]) -> Response
+fn convert(input: &[u8], output: &mut [u8]) -> Result<usize, YuvError>
     requires input_value { (first_numbers (opening_rules input.now)).number ≡ 0 }
     requires in_bounds { 49152 ≤ length output.old }
     ensures { RequestPost input.now output.old result output.new }
@@ -245,23 +209,20 @@ fn convert(input: &[u8], output: &mut [u8]) -> Response
     let frame = frame_of(input);
     let stride = source_stride(frame);
     let sizes = plane_sizes(frame);
-    let answer = convert_into(frame, &input[HEADER..], stride, sizes, output);
-    respond(answer, sizes.luma + 2 * sizes.chroma)
+    convert_into(frame, &input[HEADER..], stride, sizes, output)?;
+    Ok(sizes.luma + 2 * sizes.chroma)
 }
 
-fn answer_into(input: &[u8], output: &mut [u8]) -> Response
+fn answer_into(input: &[u8], output: &mut [u8]) -> Result<usize, YuvError>
     requires { 49152 ≤ length output.old }
     ensures { RequestPost input.now output.old result output.new }
 {
-    let checked = check_request(input);
-    match checked {
-        YuvAnswer::Refused(e) => Response::Refused(e),
-        YuvAnswer::Finished => convert(input, output),
-    }
+    check_request(input)?;
+    convert(input, output)
 }
 
-// Answers a request: its planes in the first bytes of the output, or a refusal and no byte written.
-pub fn answer_request(input: &[u8], output: &mut [u8; 49152]) -> Response
+// Answers a request: its planes in the first bytes of the output, so many, or a refusal and no byte written.
+pub fn answer_request(input: &[u8], output: &mut [u8; 49152]) -> Result<usize, YuvError>
     ensures { RequestPost input.now output.old result output.new }
 {
     answer_into(input, output)
@@ -296,13 +257,9 @@ fn reply_into(input: &[u8], output: &mut [u8]) -> usize
     requires { 49152 ≤ length output.old }
     ensures { Begins (reply input.now) output.old result output.new }
 {
-    let response = answer_into(input, output);
-    match response {
-        Response::Planes(bytes) => bytes,
-        Response::Refused(e) => {
-            let numbers = error_numbers::error_numbers(e);
-            put_refusal(numbers.number, output)
-        }
+    match answer_into(input, output) {
+        Ok(bytes) => bytes,
+        Err(e) => put_refusal(error_numbers::error_numbers(e).number, output),
     }
 }
 

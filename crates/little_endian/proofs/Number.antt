@@ -1,13 +1,11 @@
--- What is written is read again, and what is read is written again: each law by induction on the width. A wide number is two of half its width,
--- so a wide reader needs no more than the narrow one. Assumes nothing.
-use Prim.Native.Nat.{ℕ, zero, suc, ◌+◌, ◌*◌, ◌/◌, ◌%◌, ◌^◌, ◌≤◌, ◌<◌}
+-- What is written is read again, and what is read is written again: each law by induction on the width. Assumes nothing.
+use Prim.Native.Nat.{ℕ, zero, suc, ◌/◌, ◌^◌, ◌≤◌, ◌<◌}
 use mathlib.Core.Path.{◌≡◌, refl, ap, ap₂, ◌∙◌}
 use mathlib.Core.List.{List, [], ◌∷◌, ◌++◌}
-use native.Mathlib.Nat.{pow-succ', zero-add, add-zero, suc-add, mul_assoc}
-use native.Mathlib.Numerals.{one-add}
+use native.Mathlib.Nat.{pow-succ'}
 use native.Mathlib.Omega.{arith}
-use lib.ListN.{length, get_or, take, drop, take-append-drop}
-use lib.Seq.{get_or-drop, drop_at, drop-drop}
+use lib.ListN.{length, take, drop, take-append-drop}
+use lib.Seq.{get_or-drop, drop_at}
 use Rattle.little_endian.specs.Number.{Bytes, low_bytes, number_in}
 
 pub length_low : (n v : ℕ) → length (low_bytes n v) ≡ n
@@ -51,19 +49,3 @@ pub number_below : (n : ℕ) (l : List ℕ) → Bytes l → number_in n l < 256 
 unfolding number_in
 number_below zero l b = omega arith
 number_below (suc n) l b = omega (arith, pow-succ' 256 n, b 0, number_below n (drop 1 l) (bytes_drop 1 l b))
-
-number_add : (n m : ℕ) (l : List ℕ) → number_in (n + m) l ≡ number_in n l + 256 ^ n * number_in m (drop n l)
-unfolding number_in
-number_add zero m l = rw zero-add (omega arith)
-number_add (suc n) m l =
-    let rest = number_in m (drop (suc n) l) in
-    rw (suc-add, number_add n m (drop 1 l), drop-drop, one-add)
-    (omega (arith, mul_assoc 256 (256 ^ n) rest, ap (λ (p : ℕ). p * rest) (pow-succ' 256 n)))
-
--- two bytes, and the two halves of a number, from any place on
-pub number_two : (at : ℕ) (b : List ℕ) → number_in 2 (drop at b) ≡ get_or b at 0 + 256 * get_or b (at + 1) 0
-unfolding number_in
-number_two at b = simp (get_or-drop, drop-drop, add-zero) (omega arith)
-
-pub number_halves : (n at : ℕ) (b : List ℕ) → number_in (n + n) (drop at b) ≡ number_in n (drop at b) + 256 ^ n * number_in n (drop (at + n) b)
-number_halves n at b = rw (number_add, drop-drop)

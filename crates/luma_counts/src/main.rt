@@ -3,18 +3,31 @@
 #![tactic(auto)]
 
 ghost use Rattle.std.specs.Prelude.{◌≡◌, ℕ, length, take, IfSome, OnOk, IsErrOf};
-ghost use Rattle.std.specs.Bool.{OnTrue};
 ghost use Rattle.std.specs.Io.KnownBytes.{Appends, Keeps};
 ghost use Rattle.counts_request.specs.Reply.{reply};
 
+use standard_streams::Stopped;
+use std::error::Error;
+use std::fmt;
 use std::io::{Read, Write};
 
 // What fails beside a request that is refused.
-#[derive(Clone, Copy)]
+#[derive(Clone, Copy, Debug, PartialEq, Eq)]
 enum Failure {
     CannotRead,
     CannotWrite,
 }
+
+impl fmt::Display for Failure {
+    fn fmt<W: fmt::Write>(&self, f: &mut fmt::Formatter<W>) -> fmt::Result {
+        match self {
+            Failure::CannotRead => write!(f, "cannot read standard input"),
+            Failure::CannotWrite => write!(f, "cannot write standard output"),
+        }
+    }
+}
+
+impl Error for Failure {}
 
 // The largest output: 256 lines of 3 digits, a space, 8 digits and a newline.
 fn output_buffer() -> [u8; 3328]
@@ -23,11 +36,11 @@ fn output_buffer() -> [u8; 3328]
     [0; 3328]
 }
 
-// Writes the reply to an input, and answers whether all of it was written. The input is there for the `requires`: nothing else is
-// written.
-fn write_reply<W: Write>(writer: &mut W, input: &[u8], bytes: &[u8]) -> bool
+// Writes the reply to an input: all of it, or the start of it where a write fails. The input is there for the `requires`: nothing
+// else is written.
+fn write_reply<W: Write>(writer: &mut W, input: &[u8], bytes: &[u8]) -> Result<(), Stopped>
     requires { bytes.now ≡ reply input.now }
-    ensures all { OnTrue result (Appends (W.contents writer.old) (W.contents writer.new) (reply input.now)) }
+    ensures all { OnOk result (Appends (W.contents writer.old) (W.contents writer.new) (reply input.now)) }
     ensures start { (n : ℕ) × Appends (W.contents writer.old) (W.contents writer.new) (take n (reply input.now)) }
 {
     standard_streams::write_output(writer, bytes)
@@ -35,6 +48,7 @@ fn write_reply<W: Write>(writer: &mut W, input: &[u8], bytes: &[u8]) -> bool
 
 // Reads a request to its end, and writes the reply to it: all of it, or the start of it where a write fails. Where a read fails
 // nothing is written.
+// The program frame has this over its own reply: the clauses name the reply, so one function for both needs a trait of replies.
 fn answer<R: Read, W: Write>(reader: &mut R, writer: &mut W) -> Result<(), Failure>
     ensures answered { OnOk result (IfSome (R.remaining reader.old) (λ input.
         Appends (W.contents writer.old) (W.contents writer.new) (reply input))) }
@@ -44,27 +58,18 @@ fn answer<R: Read, W: Write>(reader: &mut R, writer: &mut W) -> Result<(), Failu
 {
     let mut input = [0; 3]; // one byte past a request: what stands further on changes nothing (`reply_enough` of counts_request)
     let mut output = output_buffer();
-    let read = standard_streams::read_input(reader, &mut input);
-    if !read.whole {
+    let Ok(size) = standard_streams::read_input(reader, &mut input) else {
         return Err(Failure::CannotRead);
-    }
-    let size = read.size;
+    };
     let bytes = counts_request::reply_to(&input[..size], &mut output);
-    if write_reply(writer, &input[..size], &output[..bytes]) {
-        Ok(())
-    } else {
-        Err(Failure::CannotWrite)
+    match write_reply(writer, &input[..size], &output[..bytes]) {
+        Ok(()) => Ok(()),
+        Err(_) => Err(Failure::CannotWrite),
     }
 }
 
 fn main(rt: HostRuntime) {
-    match answer(&mut rt.stdin(), &mut rt.stdout()) {
-        Ok(()) => {}
-        Err(Failure::CannotRead) => {
-            let _ = eprintln!(rt; "luma_counts: cannot read standard input");
-        }
-        Err(Failure::CannotWrite) => {
-            let _ = eprintln!(rt; "luma_counts: cannot write standard output");
-        }
+    if let Err(failure) = answer(&mut rt.stdin(), &mut rt.stdout()) {
+        let _ = eprintln!(rt; "luma_counts: {failure}");
     }
 }

@@ -9,11 +9,9 @@ fn sum_bytes(luma: &[u8]) -> u64
     requires { length luma.now ≤ 16384 * 16384 }
     ensures { (result ≡ sum luma.now) × (result ≤ 255 * length luma.now) }
 {
-    let mut total: u64 = 0;
-    let mut i = 0;
-    while i < luma.len() {
-        total += luma[i] as u64;
-        i += 1;
+    let mut total = 0;
+    for &byte in luma {
+        total += u64::from(byte);
     }
     total
 }

@@ -1,7 +1,6 @@
--- The laws: of permutations and sorted lists, of one sorted list, of insertion, of a merge and of halves, of keys.
+-- The laws: of permutations and sorted lists, of one sorted list, of insertion, of std's sort, of keys.
 pub mod Permuted
 pub mod Unique
 pub mod Insertion
-pub mod Merging
-pub mod Halves
+pub mod ByStd
 pub mod Keys

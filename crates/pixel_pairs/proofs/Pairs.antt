@@ -1,67 +1,62 @@
 -- What a row function owes to `pair` and `put_luma`, and what it gets of them; and one block more of what is begun.
 -- Assumes nothing.
-use mathlib.Core.Path.{◌≡◌, refl, ◌∙◌, ap}
+use mathlib.Core.Path.{◌≡◌, refl, ◌∙◌}
+use mathlib.Core.Bool.{true}
 use mathlib.Core.List.{List}
-use Prim.Native.Nat.{ℕ, ◌+◌, ◌*◌, ◌-◌, ◌≤◌, ◌<◌, min}
+use Prim.Native.Nat.{ℕ, ◌+◌, ◌*◌, ◌-◌, ◌<◌, min}
 use native.Mathlib.Omega.{arith}
 use lib.ListN.{length, set, length-set}
-use Rattle.forward_transform.specs.declared.CbCrForwardTransformI32.{CbCrForwardTransformI32}
+use Rattle.yuv_support.specs.Matrix.{accepted}
 use Rattle.sharp_gamma.specs.Entry.{TableOf}
 use Rattle.definitions.specs.declared.FrameDescription.{FrameDescription}
 use Rattle.definitions.specs.Pixel.{cb_of, cr_of}
 use Rattle.definitions.specs.Row.{Pixels, gamma_of, of_colour, luma_row, cb_row, cr_row, input420, input422}
-use Rattle.definitions.specs.Image.{pixel_size, chroma_size}
+use Rattle.definitions.specs.Image.{chroma_size}
 use Rattle.pixel_pairs.specs.declared.tables.Conversion.{Conversion}
 use Rattle.pixel_pairs.specs.declared.Sums.{Sums}
 use Rattle.pixel_pairs.specs.declared.Bytes.{Bytes}
 use Rattle.pixel_pairs.specs.declared.Block.{Block}
-use Rattle.pixel_pairs.specs.Weights.{Weighed, conversion_of}
+use Rattle.pixel_pairs.specs.Weights.{conversion_of}
 use Rattle.pixel_pairs.specs.Tables.{SumTables, Summed, Prepared}
-use Rattle.pixel_pairs.specs.Pixels.{Paired, Light, total, left_luma, right_luma, first_three, byte_at, sixteenths_of, quarters_of, corrected_by, Over}
+use Rattle.pixel_pairs.specs.Pixels.{Paired, total, left_luma, right_luma, first_three, byte_at, sixteenths_of, quarters_of, corrected_by, Over}
 use Rattle.pixel_pairs.specs.Pixels.{Linears, ColourAt}
-use Rattle.pixel_pairs.specs.Rows.{lumas, inputs420, inputs422, RowOf, InRow, LumaRoom, ChromaRoom, Rows420, Row422, Lent420, Lent422, put_pair}
+use Rattle.pixel_pairs.specs.Rows.{lumas, inputs420, inputs422, RowOf, InRow, ChromaRoom, Rows420, Row422, Lent420, Lent422, put_pair}
 use Rattle.pixel_pairs.specs.Rows.{put_block422, block_at}
 use Rattle.pixel_pairs.specs.Rows.{LumaWritten, LumasPainted, LumasWritten, Lumas422, ChromaPainted, ChromaWritten}
 use Rattle.pixel_pairs.specs.Rows.{LumaMore, ChromaMore, Begun, Begun420, Begun422, Stepped}
 use Rattle.definitions.proofs.Painted.{Painted-none, Painted-more}
 use Rattle.pixel_pairs.proofs.TwoRows.{two_none, two_to, two_pairs, Painted-to, Painted-pair, length_as}
-use Rattle.pixel_pairs.proofs.Weights.{count_range, colour_same, three_same, colour_read}
-use Rattle.pixel_pairs.proofs.TableSums.{in_row, light, total_fits, lumas_are, over, linears420, mixed420, linears422, mixed422}
+use Rattle.pixel_pairs.proofs.Weights.{shape_of, colour_same, three_same, colour_read}
+use Rattle.pixel_pairs.proofs.TableSums.{in_row, total_fits, lumas_are, over, linears420, mixed420, linears422, mixed422}
 
 -- what a call has worked out, as its rows ask for it
-pub prepared : (d : FrameDescription) {t : CbCrForwardTransformI32} {rows : Conversion} {sums gamma : List ℕ} → Weighed d.settings t
-    → rows ≡ conversion_of d → SumTables d.settings sums
-    → TableOf 65536 (gamma_of d.settings) gamma → Prepared rows sums gamma
-prepared d w e tables corrects =
+pub prepared : (d : FrameDescription) {rows : Conversion} {sums gamma : List ℕ} → accepted d.settings.matrix ≡ true → rows ≡ conversion_of d
+    → SumTables d.settings sums → TableOf 65536 (gamma_of d.settings) gamma → Prepared rows sums gamma
+prepared d matrix e tables corrects =
     rw e (record {
       summed = record {
         converts = record {
           cb = refl;
           cr = refl;
-          shape = rw w.weights at
-              w.shape;
+          matrix = matrix;
         };
         tables = tables;
       };
       corrects = corrects;
     })
 
--- a row of the frame
-pub row_of : {d : FrameDescription} {count : ℕ} (row : List ℕ) → count ≡ pixel_size d → d.width * pixel_size d ≤ length row → RowOf d count row
-row_of {d} row is size = rw is (record { wide = (count_range d.settings.channels).0; size = size })
+pub pair_inside : {d : FrameDescription} {count : ℕ} {row : List ℕ} → RowOf d count row → (x next : ℕ) → x < d.width → next < d.width
+    → (x * count + 2 < length row) × (next * count + 2 < length row)
+pair_inside r x next hx hn = (in_row r x hx, in_row r next hn)
 
 module _ {rows : Conversion} {sums : List ℕ} (summed : Summed rows sums) where
-  pub pair_ready : {count : ℕ} {row : List ℕ} → RowOf rows.frame count row → (x next : ℕ) → x < rows.frame.width → next < rows.frame.width
-      → ((x * count + 2 < length row) × (next * count + 2 < length row)) × Light sums
-  pair_ready r x next hx hn = ((in_row r x hx, in_row r next hn), light rows.frame.settings summed.converts.shape summed.tables)
-
   module _ (row : Pixels) (x next : ℕ) {t : Sums} (q : Paired sums (row x) (row next) t) where
     pub fits_ready : total t < 18446744073709551616
-    fits_ready = total_fits rows.frame.settings summed.converts.shape summed.tables q
+    fits_ready = total_fits rows.frame.settings (shape_of summed.converts) summed.tables q
 
     pub lumas_is : (left_luma t ≡ luma_row rows.frame row x) × (right_luma t ≡ luma_row rows.frame row next)
     unfolding luma_row
-    lumas_is = lumas_are rows.frame.settings summed.converts.shape summed.tables q
+    lumas_is = lumas_are rows.frame.settings (shape_of summed.converts) summed.tables q
 
 -- ---- chroma
 
@@ -70,24 +65,24 @@ module _ {rows : Conversion} {sums gamma : List ℕ} (p : Prepared rows sums gam
   -- of a pair over another
   module _ (row below : Pixels) {a b : Sums} (q : Paired sums (row (2 * j)) (row next) a) (r : Paired sums (below (2 * j)) (below next) b) where
     pub Over-ready : Over a b
-    Over-ready = over rows.frame p.summed.converts.shape p.summed.tables p.corrects j next inside is row below q r
+    Over-ready = over rows.frame (shape_of p.summed.converts) p.summed.tables p.corrects j next inside is row below q r
 
     pub linears420_ready : {l : Sums} → l ≡ sixteenths_of a b → Linears l
-    linears420_ready e = rw e (linears420 rows.frame p.summed.converts.shape p.summed.tables p.corrects j next inside is row below q r)
+    linears420_ready e = rw e (linears420 rows.frame (shape_of p.summed.converts) p.summed.tables p.corrects j next inside is row below q r)
 
     pub colour420_is : {l : Sums} {c : Bytes} → l ≡ sixteenths_of a b → c ≡ first_three (corrected_by gamma l)
         → c ≡ first_three (input420 rows.frame row below j)
     colour420_is e f =
-        rw e at f ∙ three_same (mixed420 rows.frame p.summed.converts.shape p.summed.tables p.corrects j next inside is row below q r)
+        rw e at f ∙ three_same (mixed420 rows.frame (shape_of p.summed.converts) p.summed.tables p.corrects j next inside is row below q r)
 
   -- of a pair alone
   module _ (row : Pixels) {a : Sums} (q : Paired sums (row (2 * j)) (row next) a) (right : next ≡ 2 * j + 1) where
     pub linears422_ready : {l : Sums} → l ≡ quarters_of a → Linears l
-    linears422_ready e = rw e (linears422 rows.frame p.summed.converts.shape p.summed.tables p.corrects j next inside is row q right)
+    linears422_ready e = rw e (linears422 rows.frame (shape_of p.summed.converts) p.summed.tables p.corrects j next inside is row q right)
 
     pub colour422_is : {l : Sums} {c : Bytes} → l ≡ quarters_of a → c ≡ first_three (corrected_by gamma l) → c ≡ first_three (input422 rows.frame row j)
     colour422_is e f =
-        rw e at f ∙ three_same (mixed422 rows.frame p.summed.converts.shape p.summed.tables p.corrects j next inside is row q right)
+        rw e at f ∙ three_same (mixed422 rows.frame (shape_of p.summed.converts) p.summed.tables p.corrects j next inside is row q right)
 
 -- ---- chroma rows
 
@@ -207,34 +202,21 @@ module _ (L : ℕ → List ℕ → List ℕ → Type 0) (d : FrameDescription) (
 
 -- ---- what is lent
 
--- a frame's own rows: a pixel has count bytes
-module _ {d : FrameDescription} {count : ℕ} (is : count ≡ pixel_size d) {this y u v : List ℕ} where
-  pub lent420 : {below : List ℕ} → Lent420 d this below y u v → Rows420 d count this below y
-  lent420 lent = record { upper_row = row_of _ is lent.upper_row; lower_row = row_of _ is lent.lower_row; luma = lent.luma }
-
-  pub lent422 : Lent422 d this y u v → Row422 d count this y
-  lent422 lent = record { row = row_of _ is lent.row; luma = lent.luma }
-
 -- room stays room
-module _ {d : FrameDescription} {this : List ℕ} (y₀ u₀ v₀ : List ℕ) {y u v : List ℕ} (in_y : length y ≡ length y₀) (in_u : length u ≡ length u₀)
+module _ {d : FrameDescription} {count : ℕ} {this : List ℕ} (y₀ u₀ v₀ : List ℕ) {y u v : List ℕ} (in_y : length y ≡ length y₀) (in_u : length u ≡ length u₀)
     (in_v : length v ≡ length v₀) where
-  pub Lent420-kept : {below : List ℕ} → Lent420 d this below y₀ u₀ v₀ → Lent420 d this below y u v
-  Lent420-kept p = record {
-    upper_row = p.upper_row;
-    lower_row = p.lower_row;
-    luma = record { apart = p.luma.apart; size = rw in_y p.luma.size };
-    chroma = chroma_room u₀ v₀ in_u in_v p.chroma;
-  }
+  pub Lent420-kept : {below : List ℕ} → Lent420 d count this below y₀ u₀ v₀ → Lent420 d count this below y u v
+  Lent420-kept p = record { rows = rows_room y₀ in_y p.rows; chroma = chroma_room u₀ v₀ in_u in_v p.chroma }
 
-  pub Lent422-kept : Lent422 d this y₀ u₀ v₀ → Lent422 d this y u v
-  Lent422-kept p = record { row = p.row; luma = rw in_y p.luma; chroma = chroma_room u₀ v₀ in_u in_v p.chroma }
+  pub Lent422-kept : Lent422 d count this y₀ u₀ v₀ → Lent422 d count this y u v
+  Lent422-kept p = record { row = row_room y₀ in_y p.row; chroma = chroma_room u₀ v₀ in_u in_v p.chroma }
 
 -- all of it
 module _ {d : FrameDescription} {y u v y' u' v' : List ℕ} where
-  pub written420 : (this below : List ℕ) → Begun420 d (pixel_size d) this below (chroma_size d) y u v y' u' v'
-      → LumasWritten d this below y y' × ChromaWritten d (inputs420 d (pixel_size d) this below) u v u' v'
-  written420 this below p = (two_to (omega arith) p.luma, p.chroma)
+  pub written420 : (count : ℕ) (this below : List ℕ) → Begun420 d count this below (chroma_size d) y u v y' u' v'
+      → LumasWritten d count this below y y' × ChromaWritten d (inputs420 d count this below) u v u' v'
+  written420 count this below p = (two_to (omega arith) p.luma, p.chroma)
 
-  pub written422 : (this : List ℕ) → Begun422 d (pixel_size d) this (chroma_size d) y u v y' u' v'
-      → LumaWritten d this y y' × ChromaWritten d (inputs422 d (pixel_size d) this) u v u' v'
-  written422 this p = (Painted-to (omega arith) p.luma, p.chroma)
+  pub written422 : (count : ℕ) (this : List ℕ) → Begun422 d count this (chroma_size d) y u v y' u' v'
+      → LumaWritten d count this y y' × ChromaWritten d (inputs422 d count this) u v u' v'
+  written422 count this p = (Painted-to (omega arith) p.luma, p.chroma)

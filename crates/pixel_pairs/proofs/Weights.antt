@@ -5,7 +5,8 @@
 use mathlib.Core.Path.{◌≡◌, refl, sym, ap, ◌∙◌}
 use Prim.Native.Nat.{ℕ, zero, suc, ◌+◌, ◌*◌, ◌/◌, ◌≤◌, ◌<◌}
 use native.Mathlib.Omega.{arith}
-use lib.Dec.{lit<, lit≤}
+use mathlib.Core.Bool.{Bool, true, false}
+use lib.Dec.{T, lit<, lit≤}
 use lib.IntN.{ℤ, pos, neg_ℤ, nat_abs, ◌+ℤ◌, ◌*ℤ◌, +ℤ_assoc, +ℤ_comm}
 use Rattle.yuv_support.specs.declared.YuvSourceChannels.{YuvSourceChannels}
 use Rattle.yuv_support.specs.declared.YuvSourceChannels.TheVariants.{Rgb, Rgba, Bgra, Bgr}
@@ -13,16 +14,17 @@ use Rattle.yuv_support.specs.Channels.{channels_count, r_offset, g_offset, b_off
 use Rattle.yuv_support.specs.declared.YuvRange.{YuvRange}
 use Rattle.yuv_support.specs.declared.YuvRange.TheVariants.{Limited, Full}
 use Rattle.yuv_support.specs.Range.{yuv_range}
-use Rattle.forward_transform.specs.declared.CbCrForwardTransformI32.{CbCrForwardTransformI32}
+use Rattle.forward_transform.specs.declared.CbCrForwardTransform.{CbCrForwardTransform}
 use Rattle.forward_transform.specs.Shape.{Shape, luma_most, chroma_top}
 use Rattle.forward_transform.proofs.Signed.{size_neg}
 use Rattle.forward_transform.proofs.Sums.{Floored, luma_sum, cb_sum, cr_sum, luma_bias}
+use Rattle.built_coefficients.proofs.Shapes.{forward_Shape}
 use Rattle.definitions.specs.declared.YuvSettings.{YuvSettings}
-use Rattle.definitions.specs.declared.FrameDescription.{FrameDescription}
 use Rattle.definitions.specs.Pixel.{floor_div, weigh, held_between, weights_of, bias_y, cap_uv, luma_of, cb_of, cr_of}
 use Rattle.definitions.specs.Row.{of_colour}
 use Rattle.definitions.proofs.Pixel.{at_most_is, held_is}
-use Rattle.pixel_pairs.specs.Weights.{by_place, cb_weights, cr_weights, InByte, ByteWeights}
+use Rattle.pixel_pairs.specs.declared.tables.Conversion.{Conversion}
+use Rattle.pixel_pairs.specs.Weights.{by_place, cb_weights, cr_weights, Converts, InByte, ByteWeights}
 use Rattle.pixel_pairs.specs.Tables.{part_of, luma_part}
 use Rattle.pixel_pairs.specs.declared.Bytes.{Bytes}
 use Rattle.pixel_pairs.specs.Pixels.{AreBytes, first_three, byte_at}
@@ -88,6 +90,15 @@ parts_placed Rgba wr wg wb start f = omega arith
 parts_placed Bgra wr wg wb start f = omega arith
 parts_placed Bgr wr wg wb start f = omega arith
 
+-- ---- the weights of an accepted matrix
+
+pub true_of : (b : Bool) → T b → b ≡ true
+true_of true h = refl
+true_of false h = absurd h
+
+pub shape_of : {rows : Conversion} → Converts rows → Shape rows.frame.settings.range (weights_of rows.frame.settings)
+shape_of {rows} c = forward_Shape rows.frame.settings.range rows.frame.settings.matrix (rw c.matrix tt)
+
 -- ---- small weights
 
 pub record Small (wr wg wb : ℤ) : Type 0 where
@@ -109,7 +120,7 @@ positive n e h = rw e h
 negative : {w : ℤ} (n : ℕ) → w ≡ neg_ℤ (pos n) → n ≤ 8193 → nat_abs w ≤ 8193
 negative n e h = rw (e, size_neg n) h
 
-module _ {range : YuvRange} {t : CbCrForwardTransformI32} (s : Shape range t) where
+module _ {range : YuvRange} {t : CbCrForwardTransform ℤ} (s : Shape range t) where
   pub luma_Small : Small t.yr t.yg t.yb
   luma_Small =
       let limit = limits range in

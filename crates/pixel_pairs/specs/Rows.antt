@@ -4,7 +4,7 @@ use Rattle.std.specs.Prelude.{◌≡◌, List, ℕ, ◌+◌, ◌*◌, ◌-◌, �
 use Rattle.definitions.specs.declared.FrameDescription.{FrameDescription}
 use Rattle.definitions.specs.Painted.{Painted}
 use Rattle.definitions.specs.Row.{pixels_of, luma_row, input420, input422, cb_row, cr_row}
-use Rattle.definitions.specs.Image.{pixel_size, chroma_size}
+use Rattle.definitions.specs.Image.{chroma_size}
 use Rattle.pixel_pairs.specs.declared.Block.{Block}
 
 -- ---- what is lent
@@ -33,16 +33,13 @@ pub record Row422 (d : FrameDescription) (count : ℕ) (this y : List ℕ) : Typ
   pub row : RowOf d count this
   pub luma : d.width ≤ length y
 
--- a frame's own rows, and room for their luma and chroma
-pub record Lent420 (d : FrameDescription) (this below y u v : List ℕ) : Type 0 where
-  pub upper_row : d.width * pixel_size d ≤ length this
-  pub lower_row : d.width * pixel_size d ≤ length below
-  pub luma : LumaRoom d y
+-- the same, and room for their chroma
+pub record Lent420 (d : FrameDescription) (count : ℕ) (this below y u v : List ℕ) : Type 0 where
+  pub rows : Rows420 d count this below y
   pub chroma : ChromaRoom d u v
 
-pub record Lent422 (d : FrameDescription) (this y u v : List ℕ) : Type 0 where
-  pub row : d.width * pixel_size d ≤ length this
-  pub luma : d.width ≤ length y
+pub record Lent422 (d : FrameDescription) (count : ℕ) (this y u v : List ℕ) : Type 0 where
+  pub row : Row422 d count this y
   pub chroma : ChromaRoom d u v
 
 -- pixel 2j of a row, and the pixel that stands for its right neighbour: an odd last pixel is its own
@@ -85,15 +82,15 @@ inputs420 d count row below = input420 d (pixels_of count row) (pixels_of count 
 abbrev pub inputs422 : FrameDescription → (count : ℕ) → (row : List ℕ) → ℕ → ℕ → ℕ
 inputs422 d count row = input422 d (pixels_of count row)
 
--- luma of a row of the frame, and of two whose luma rows begin a Y stride apart
-abbrev pub LumaWritten : FrameDescription → (row y y' : List ℕ) → Type 0
-LumaWritten d row y y' = Painted d.width (lumas d (pixel_size d) row) y y'
+-- luma of a row, and of two whose luma rows begin a Y stride apart
+abbrev pub LumaWritten : FrameDescription → (count : ℕ) → (row y y' : List ℕ) → Type 0
+LumaWritten d count row y y' = Painted d.width (lumas d count row) y y'
 
 abbrev pub LumasPainted : FrameDescription → (count : ℕ) → (row below : List ℕ) → (n : ℕ) → (y y' : List ℕ) → Type 0
 LumasPainted d count row below n y y' = TwoPainted 0 d.y_stride n (lumas d count row) (lumas d count below) y y'
 
-abbrev pub LumasWritten : FrameDescription → (row below y y' : List ℕ) → Type 0
-LumasWritten d row below y y' = LumasPainted d (pixel_size d) row below d.width y y'
+abbrev pub LumasWritten : FrameDescription → (count : ℕ) → (row below y y' : List ℕ) → Type 0
+LumasWritten d count row below y y' = LumasPainted d count row below d.width y y'
 
 -- both chroma rows, as far as their first n bytes
 pub record ChromaPainted (d : FrameDescription) (input : ℕ → ℕ → ℕ) (n : ℕ) (u v u' v' : List ℕ) : Type 0 where

@@ -1,9 +1,10 @@
 -- The weights of a pixel's bytes. This serves contracts: no meaning stands here.
 -- Assumes nothing.
-use Rattle.std.specs.Prelude.{◌≡◌, ℕ, ◌≤◌, ◌<◌, ℤ, pos, nat_abs}
+use Rattle.std.specs.Prelude.{◌≡◌, true, ℕ, ◌≤◌, ◌<◌, ℤ, pos, nat_abs}
 use Rattle.yuv_support.specs.declared.YuvSourceChannels.{YuvSourceChannels}
 use Rattle.yuv_support.specs.declared.YuvSourceChannels.TheVariants.{Rgb, Rgba, Bgra, Bgr}
-use Rattle.forward_transform.specs.declared.CbCrForwardTransformI32.{CbCrForwardTransformI32}
+use Rattle.yuv_support.specs.Matrix.{accepted}
+use Rattle.forward_transform.specs.declared.CbCrForwardTransform.{CbCrForwardTransform}
 use Rattle.forward_transform.specs.Shape.{Shape}
 use Rattle.definitions.specs.declared.YuvSettings.{YuvSettings}
 use Rattle.definitions.specs.declared.FrameDescription.{FrameDescription}
@@ -31,15 +32,15 @@ abbrev pub conversion_of : FrameDescription → Conversion
 conversion_of d = record { frame = d; cb = cb_weights d.settings; cr = cr_weights d.settings }
 
 -- t has the weights of the settings, and their matrix is an accepted one
-pub record Weighed (s : YuvSettings) (t : CbCrForwardTransformI32) : Type 0 where
+pub record Weighed (s : YuvSettings) (t : CbCrForwardTransform ℤ) : Type 0 where
   pub weights : t ≡ weights_of s
   pub shape : Shape s.range t
 
--- so have the rows
+-- so have the rows, and their matrix is an accepted one
 pub record Converts (rows : Conversion) : Type 0 where
   pub cb : rows.cb ≡ cb_weights rows.frame.settings
   pub cr : rows.cr ≡ cr_weights rows.frame.settings
-  pub shape : Shape rows.frame.settings.range (weights_of rows.frame.settings)
+  pub matrix : accepted rows.frame.settings.matrix ≡ true
 
 -- a number that is a byte
 pub record InByte (z : ℤ) : Type 0 where

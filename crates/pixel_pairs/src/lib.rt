@@ -9,19 +9,20 @@
 // so no sum reaches 2^64. No accepted matrix takes luma or chroma out of the range that the definition holds them in, so nothing is held here.
 #![tactic(auto)]
 
-pub mod tables; // tables.rt: weights and tables
+pub mod frame_tables; // the tables of a frame, and that they are its own
+pub mod tables; // weights and tables
 
 ghost use Rattle.std.specs.Prelude.{◌≡◌, ◌+◌, ◌*◌, ◌≤◌, ◌<◌, pos, get_or, length, set};
 ghost use Rattle.definitions.specs.Pixel.{weigh};
 ghost use Rattle.definitions.specs.Row.{pixels_of};
-ghost use Rattle.pixel_pairs.specs.Weights.{Converts, ByteWeights};
-ghost use Rattle.pixel_pairs.specs.Tables.{Summed, Prepared};
-ghost use Rattle.pixel_pairs.specs.Pixels.{first_three, Paired, Light, total, left_luma, right_luma};
+ghost use Rattle.pixel_pairs.specs.Weights.{ByteWeights};
+ghost use Rattle.pixel_pairs.specs.Pixels.{first_three, Paired, total, left_luma, right_luma};
 ghost use Rattle.pixel_pairs.specs.Pixels.{sixteenths_of, quarters_of, corrected_by, Over, Linears, ColourAt, ColoursAt, cb_byte, cr_byte};
 ghost use Rattle.pixel_pairs.specs.Rows.{lumas, inputs420, inputs422, RowOf, Rows420, Row422, InRow, put_pair};
 ghost use Rattle.pixel_pairs.specs.Rows.{LumasPainted, Lumas422, LumaMore, ChromaMore, put_block420, put_block422, block_at};
 
-use tables::{Conversion, Weights};
+use frame_tables::FrameTables;
+use tables::Weights;
 
 // Weights are in units of 1 / 8,192, which is 13 bits.
 const PRECISION: i32 = 13;
@@ -30,7 +31,7 @@ const PRECISION: i32 = 13;
 const CHROMA_BIAS: i32 = 1052671;
 
 // The first three bytes of a pixel: its colour, in the order of its channels.
-#[derive(Clone, Copy)]
+#[derive(Clone, Copy, Debug, PartialEq, Eq)]
 pub struct Bytes {
     pub b0: u8,
     pub b1: u8,
@@ -38,14 +39,14 @@ pub struct Bytes {
 }
 
 // The colours of two blocks.
-#[derive(Clone, Copy)]
+#[derive(Clone, Copy, Debug, PartialEq, Eq)]
 pub struct Colours {
     pub first: Bytes,
     pub second: Bytes,
 }
 
 // For each byte of a colour the entries of a pair of pixels, added.
-#[derive(Clone, Copy)]
+#[derive(Clone, Copy, Debug, PartialEq, Eq)]
 pub struct Sums {
     pub e0: u64,
     pub e1: u64,
@@ -53,87 +54,34 @@ pub struct Sums {
 }
 
 // Where chroma byte j comes from: pixel 2j, and `next`, its neighbour to the right.
-#[derive(Clone, Copy)]
+#[derive(Clone, Copy, Debug, PartialEq, Eq)]
 pub struct Block {
     pub j: usize,
     pub next: usize,
 }
 
 // Pixel x of a row.
-fn at(row: &[u8], count: usize, x: usize) -> Bytes
-    requires { x * count + 2 < length row.now }
-    ensures { result ≡ first_three (pixels_of count row.now x) }
+fn at<const N: usize>(row: &[u8], x: usize) -> Bytes
+    requires { x * N + 2 < length row.now }
+    ensures { result ≡ first_three (pixels_of N row.now x) }
 {
-    let first = x * count;
-    let second = first + 1;
-    let third = first + 2;
+    let first = x * N;
     Bytes {
         b0: row[first],
-        b1: row[second],
-        b2: row[third],
-    }
-}
-
-// The entries of a left and of a right byte at one place of their pixels.
-fn entries(sums: &[u64; 1536], place: usize, left: u8, right: u8) -> u64
-    requires place_bound { place ≤ 512 }
-    requires light { Light sums.now }
-    ensures { result ≡ get_or sums.now (place + left) 0 + get_or sums.now (768 + place + right) 0 }
-{
-    let l = place + left as usize;
-    let r = 768 + place + right as usize;
-    sums[l] + sums[r]
-}
-
-// The sums of pixels x and next of a row.
-pub fn pair(row: &[u8], count: usize, x: usize, next: usize, sums: &[u64; 1536]) -> Sums
-    requires count_in_bounds { (x * count + 2 < length row.now) × (next * count + 2 < length row.now) }
-    requires light { Light sums.now }
-    ensures { Paired sums.now (pixels_of count row.now x) (pixels_of count row.now next) result }
-{
-    let a = at(row, count, x);
-    let b = at(row, count, next);
-    Sums {
-        e0: entries(sums, 0, a.b0, b.b0),
-        e1: entries(sums, 256, a.b1, b.b1),
-        e2: entries(sums, 512, a.b2, b.b2),
+        b1: row[first + 1],
+        b2: row[first + 2],
     }
 }
 
 // Both lumas of a pair, into the luma row that begins at `start`.
 fn put_luma(y: &mut [u8], start: usize, x: usize, next: usize, s: Sums)
-    requires x_in_bounds { (start + x < length y.old) × (start + next < length y.old) }
-    requires s_bound { total s < 18446744073709551616 }
+    requires in_row { (start + x < length y.old) × (start + next < length y.old) }
+    requires total_fits { total s < 18446744073709551616 }
     ensures { y.new ≡ set (set y.old (start + x) (left_luma s)) (start + next) (right_luma s) }
 {
     let both = s.e0 + s.e1 + s.e2;
-    let left = start + x;
-    let right = start + next;
-    y[left] = (both / 8192 % 256) as u8;
-    y[right] = (both / 17179869184 % 256) as u8;
-}
-
-// Pixels x and next of a row: their lumas, into the luma row that begins at `start`, and their sums.
-pub fn luma_pair(
-    rows: Conversion,
-    row: &[u8],
-    count: usize,
-    x: usize,
-    next: usize,
-    y: &mut [u8],
-    start: usize,
-    sums: &[u64; 1536],
-) -> Sums
-    requires summed { Summed rows sums.now }
-    requires row_of { RowOf rows.frame count row.now }
-    requires x_lt_width { (x < rows.frame.width) × (next < rows.frame.width) }
-    requires width_in_bounds { start + rows.frame.width ≤ length y.old }
-    ensures paired { Paired sums.now (pixels_of count row.now x) (pixels_of count row.now next) result }
-    ensures y_after { y.new ≡ put_pair start x next (lumas rows.frame count row.now) y.old }
-{
-    let s = pair(row, count, x, next, sums);
-    put_luma(y, start, x, next, s);
-    s
+    y[start + x] = (both / 8192 % 256) as u8;
+    y[start + next] = (both / 17179869184 % 256) as u8;
 }
 
 // Three weighed bytes. The shift of a signed number rounds down.
@@ -143,41 +91,6 @@ fn weigh(w: Weights, b: Bytes) -> u8
 {
     ((b.b0 as i32 * w.first + b.b1 as i32 * w.second + b.b2 as i32 * w.third + CHROMA_BIAS)
         >> PRECISION) as u8
-}
-
-// The chroma of a colour, at place j of both chroma rows. No accepted matrix takes it out of the range that the definition holds it in.
-pub fn put_chroma(rows: Conversion, b: Bytes, j: usize, u: &mut [u8], v: &mut [u8])
-    requires converts { Converts rows }
-    requires j_in_bounds { (j < length u.old) × (j < length v.old) }
-    ensures chroma_more { ChromaMore rows.frame (λ input. ColourAt input j b) j (j + 1) u.old v.old u.new v.new }
-    ensures u_after { (u.new ≡ set u.old j (cb_byte rows.frame b)) × (v.new ≡ set v.old j (cr_byte rows.frame b)) }
-{
-    let cb = rows.cb;
-    let cr = rows.cr;
-    u[j] = weigh(cb, b);
-    v[j] = weigh(cr, b);
-}
-
-// Of two colours, at place j and the next.
-pub fn put_chromas(rows: Conversion, c: Colours, j: usize, u: &mut [u8], v: &mut [u8])
-    requires converts { Converts rows }
-    requires j_in_bounds { (j + 1 < length u.old) × (j + 1 < length v.old) }
-    ensures chroma_more { ChromaMore rows.frame (λ input. ColoursAt input j c) j (j + 2) u.old v.old u.new v.new }
-    ensures u_after { (u.new ≡ set (set u.old j (cb_byte rows.frame c.first)) (j + 1) (cb_byte rows.frame c.second))
-        × (v.new ≡ set (set v.old j (cr_byte rows.frame c.first)) (j + 1) (cr_byte rows.frame c.second)) }
-{
-    let first = c.first;
-    let second = c.second;
-    put_chroma(rows, first, j, u, v);
-    put_chroma(rows, second, j + 1, u, v);
-}
-
-fn corrected(gamma: &[u8; 65536], linear: u64) -> u8
-    requires { linear < 65536 }
-    ensures { result ≡ get_or gamma.now linear 0 }
-{
-    let i = linear as usize;
-    gamma[i]
 }
 
 // The linear values of a pair over another: 9, 3, 3 and 1 sixteenths, and a half, rounded down.
@@ -203,132 +116,177 @@ fn quarters(a: Sums) -> Sums
     }
 }
 
-// The colour of linear values.
-pub fn mixed(linear: Sums, gamma: &[u8; 65536]) -> Bytes
-    requires { Linears linear }
-    ensures { result ≡ first_three (corrected_by gamma.now linear) }
-{
-    Bytes {
-        b0: corrected(gamma, linear.e0),
-        b1: corrected(gamma, linear.e1),
-        b2: corrected(gamma, linear.e2),
+impl FrameTables<'_> {
+    // The entries of a left and of a right byte at one place of their pixels.
+    fn entries(&self, place: usize, left: u8, right: u8) -> u64
+        requires { place ≤ 512 }
+        ensures { result ≡ get_or self.now.sums.now (place + left) 0 + get_or self.now.sums.now (768 + place + right) 0 }
+    {
+        let l = place + left as usize;
+        let r = 768 + place + right as usize;
+        self.sums[l] + self.sums[r]
     }
-}
 
-// The colour of 4:2:0 chroma, and the lumas of its pixels, in two rows. An odd last pixel is its own neighbour to the right: 9 + 3 is 12, and 3 + 1
-// is 4.
-pub fn block420(
-    rows: Conversion,
-    this: &[u8],
-    below: &[u8],
-    count: usize,
-    block: Block,
-    y: &mut [u8],
-    sums: &[u64; 1536],
-    gamma: &[u8; 65536],
-) -> Bytes
-    requires prepared { Prepared rows sums.now gamma.now }
-    requires rows420 { Rows420 rows.frame count this.now below.now y.old }
-    requires in_row { InRow rows.frame block }
-    ensures colour_at { ColourAt (inputs420 rows.frame count this.now below.now) block.j result }
-    ensures luma_more { LumaMore (LumasPainted rows.frame count this.now below.now) rows.frame block.j (block.j + 1)
-        y.old y.new }
-    ensures y_after { y.new ≡ put_block420 rows.frame count this.now below.now block y.old }
-{
-    let frame = rows.frame;
-    let lower = frame.y_stride as usize;
-    let x = 2 * block.j;
-    let next = block.next;
-    let a = luma_pair(rows, this, count, x, next, y, 0, sums);
-    let b = luma_pair(rows, below, count, x, next, y, lower, sums);
-    mixed(sixteenths(a, b), gamma)
-}
-
-// The colour of 4:2:2 chroma, and the lumas of its pixels. An odd last pixel's own bytes go through no table.
-pub fn block422(
-    rows: Conversion,
-    this: &[u8],
-    count: usize,
-    block: Block,
-    y: &mut [u8],
-    sums: &[u64; 1536],
-    gamma: &[u8; 65536],
-) -> Bytes
-    requires prepared { Prepared rows sums.now gamma.now }
-    requires row422 { Row422 rows.frame count this.now y.old }
-    requires in_row { InRow rows.frame block }
-    ensures colour_at { ColourAt (inputs422 rows.frame count this.now) block.j result }
-    ensures luma_more { LumaMore (Lumas422 rows.frame count this.now) rows.frame block.j (block.j + 1) y.old y.new }
-    ensures y_after { y.new ≡ put_block422 rows.frame count this.now block y.old }
-{
-    let x = 2 * block.j;
-    let next = block.next;
-    let a = luma_pair(rows, this, count, x, next, y, 0, sums);
-    if next == x {
-        at(this, count, x)
-    } else {
-        mixed(quarters(a), gamma)
+    // The sums of pixels x and next of a row.
+    pub fn pair<const N: usize>(&self, row: &[u8], x: usize, next: usize) -> Sums
+        requires { (x * N + 2 < length row.now) × (next * N + 2 < length row.now) }
+        ensures { Paired self.now.sums.now (pixels_of N row.now x) (pixels_of N row.now next) result }
+    {
+        let a = at::<N>(row, x);
+        let b = at::<N>(row, next);
+        Sums {
+            e0: self.entries(0, a.b0, b.b0),
+            e1: self.entries(256, a.b1, b.b1),
+            e2: self.entries(512, a.b2, b.b2),
+        }
     }
-}
 
-// Two blocks of 4:2:0, whose pixels are all there.
-pub fn four420(
-    rows: Conversion,
-    this: &[u8],
-    below: &[u8],
-    count: usize,
-    j: usize,
-    y: &mut [u8],
-    sums: &[u64; 1536],
-    gamma: &[u8; 65536],
-) -> Colours
-    requires prepared { Prepared rows sums.now gamma.now }
-    requires rows420 { Rows420 rows.frame count this.now below.now y.old }
-    requires j_bound { 2 * j + 3 < rows.frame.width }
-    ensures colours_at { ColoursAt (inputs420 rows.frame count this.now below.now) j result }
-    ensures luma_more { LumaMore (LumasPainted rows.frame count this.now below.now) rows.frame j (j + 2)
-        y.old y.new }
-    ensures y_after { y.new ≡ put_block420 rows.frame count this.now below.now (block_at (j + 1))
-        (put_block420 rows.frame count this.now below.now (block_at j) y.old) }
-{
-    let k = j + 1;
-    let here = Block { j, next: 2 * j + 1 };
-    let there = Block {
-        j: k,
-        next: 2 * k + 1,
-    };
-    let first = block420(rows, this, below, count, here, y, sums, gamma);
-    let second = block420(rows, this, below, count, there, y, sums, gamma);
-    Colours { first, second }
-}
+    // Pixels x and next of a row: their lumas, into the luma row that begins at `start`, and their sums.
+    pub fn luma_pair<const N: usize>(
+        &self,
+        row: &[u8],
+        x: usize,
+        next: usize,
+        y: &mut [u8],
+        start: usize,
+    ) -> Sums
+        requires row_of { RowOf self.now.rows.frame N row.now }
+        requires in_row { (x < self.now.rows.frame.width) × (next < self.now.rows.frame.width) }
+        requires luma_room { start + self.now.rows.frame.width ≤ length y.old }
+        ensures paired { Paired self.now.sums.now (pixels_of N row.now x) (pixels_of N row.now next) result }
+        ensures y_after { y.new ≡ put_pair start x next (lumas self.now.rows.frame N row.now) y.old }
+    {
+        let s = self.pair::<N>(row, x, next);
+        put_luma(y, start, x, next, s);
+        s
+    }
 
-// Two blocks of 4:2:2. Both pairs are read, and both colours looked up, before a luma is written: a tenth faster.
-pub fn four422(
-    rows: Conversion,
-    this: &[u8],
-    count: usize,
-    j: usize,
-    y: &mut [u8],
-    sums: &[u64; 1536],
-    gamma: &[u8; 65536],
-) -> Colours
-    requires prepared { Prepared rows sums.now gamma.now }
-    requires row422 { Row422 rows.frame count this.now y.old }
-    requires j_bound { 2 * j + 3 < rows.frame.width }
-    ensures colours_at { ColoursAt (inputs422 rows.frame count this.now) j result }
-    ensures luma_more { LumaMore (Lumas422 rows.frame count this.now) rows.frame j (j + 2) y.old y.new }
-    ensures y_after { y.new ≡ put_block422 rows.frame count this.now (block_at (j + 1))
-        (put_block422 rows.frame count this.now (block_at j) y.old) }
-{
-    let x = 2 * j;
-    let right = x + 1;
-    let z = 2 * (j + 1);
-    let last = z + 1;
-    let a = pair(this, count, x, right, sums);
-    let b = pair(this, count, z, last, sums);
-    let first = mixed(quarters(a), gamma);
-    let second = mixed(quarters(b), gamma);
-    put_luma(y, 0, x, right, a);
-    put_luma(y, 0, z, last, b);
-    Colours { first, second }
+    // The chroma of a colour, at place j of both chroma rows. No accepted matrix takes it out of the range that the definition holds it in.
+    pub fn put_chroma(&self, b: Bytes, j: usize, u: &mut [u8], v: &mut [u8])
+        requires { (j < length u.old) × (j < length v.old) }
+        ensures chroma_more { ChromaMore self.now.rows.frame (λ input. ColourAt input j b) j (j + 1) u.old v.old u.new v.new }
+        ensures u_after { u.new ≡ set u.old j (cb_byte self.now.rows.frame b) }
+        ensures v_after { v.new ≡ set v.old j (cr_byte self.now.rows.frame b) }
+    {
+        u[j] = weigh(self.rows.cb, b);
+        v[j] = weigh(self.rows.cr, b);
+    }
+
+    // Of two colours, at place j and the next.
+    pub fn put_chromas(&self, c: Colours, j: usize, u: &mut [u8], v: &mut [u8])
+        requires { (j + 1 < length u.old) × (j + 1 < length v.old) }
+        ensures chroma_more { ChromaMore self.now.rows.frame (λ input. ColoursAt input j c) j (j + 2) u.old v.old u.new v.new }
+        ensures u_after { u.new ≡ set (set u.old j (cb_byte self.now.rows.frame c.first)) (j + 1) (cb_byte self.now.rows.frame c.second) }
+        ensures v_after { v.new ≡ set (set v.old j (cr_byte self.now.rows.frame c.first)) (j + 1) (cr_byte self.now.rows.frame c.second) }
+    {
+        self.put_chroma(c.first, j, u, v);
+        self.put_chroma(c.second, j + 1, u, v);
+    }
+
+    fn corrected(&self, linear: u64) -> u8
+        requires { linear < 65536 }
+        ensures { result ≡ get_or self.now.gamma.now linear 0 }
+    {
+        self.gamma[linear as usize]
+    }
+
+    // The colour of linear values.
+    pub fn mixed(&self, linear: Sums) -> Bytes
+        requires { Linears linear }
+        ensures { result ≡ first_three (corrected_by self.now.gamma.now linear) }
+    {
+        Bytes {
+            b0: self.corrected(linear.e0),
+            b1: self.corrected(linear.e1),
+            b2: self.corrected(linear.e2),
+        }
+    }
+
+    // The colour of 4:2:0 chroma, and the lumas of its pixels, in two rows. An odd last pixel is its own neighbour to the right: 9 + 3 is 12, and
+    // 3 + 1 is 4.
+    pub fn block420<const N: usize>(
+        &self,
+        this: &[u8],
+        below: &[u8],
+        block: Block,
+        y: &mut [u8],
+    ) -> Bytes
+        requires rows420 { Rows420 self.now.rows.frame N this.now below.now y.old }
+        requires in_row { InRow self.now.rows.frame block }
+        ensures colour_at { ColourAt (inputs420 self.now.rows.frame N this.now below.now) block.j result }
+        ensures luma_more { LumaMore (LumasPainted self.now.rows.frame N this.now below.now) self.now.rows.frame block.j (block.j + 1)
+            y.old y.new }
+        ensures y_after { y.new ≡ put_block420 self.now.rows.frame N this.now below.now block y.old }
+    {
+        let x = 2 * block.j;
+        let a = self.luma_pair::<N>(this, x, block.next, y, 0);
+        let b = self.luma_pair::<N>(below, x, block.next, y, self.rows.frame.y_stride as usize);
+        self.mixed(sixteenths(a, b))
+    }
+
+    // The colour of 4:2:2 chroma, and the lumas of its pixels. An odd last pixel's own bytes go through no table.
+    pub fn block422<const N: usize>(&self, this: &[u8], block: Block, y: &mut [u8]) -> Bytes
+        requires row422 { Row422 self.now.rows.frame N this.now y.old }
+        requires in_row { InRow self.now.rows.frame block }
+        ensures colour_at { ColourAt (inputs422 self.now.rows.frame N this.now) block.j result }
+        ensures luma_more { LumaMore (Lumas422 self.now.rows.frame N this.now) self.now.rows.frame block.j (block.j + 1) y.old y.new }
+        ensures y_after { y.new ≡ put_block422 self.now.rows.frame N this.now block y.old }
+    {
+        let x = 2 * block.j;
+        let next = block.next;
+        let a = self.luma_pair::<N>(this, x, next, y, 0);
+        if next == x {
+            at::<N>(this, x)
+        } else {
+            self.mixed(quarters(a))
+        }
+    }
+
+    // Two blocks of 4:2:0, whose pixels are all there.
+    pub fn four420<const N: usize>(
+        &self,
+        this: &[u8],
+        below: &[u8],
+        j: usize,
+        y: &mut [u8],
+    ) -> Colours
+        requires rows420 { Rows420 self.now.rows.frame N this.now below.now y.old }
+        requires inside { 2 * j + 3 < self.now.rows.frame.width }
+        ensures colours_at { ColoursAt (inputs420 self.now.rows.frame N this.now below.now) j result }
+        ensures luma_more { LumaMore (LumasPainted self.now.rows.frame N this.now below.now) self.now.rows.frame j (j + 2) y.old y.new }
+        ensures y_after { y.new ≡ put_block420 self.now.rows.frame N this.now below.now (block_at (j + 1))
+            (put_block420 self.now.rows.frame N this.now below.now (block_at j) y.old) }
+    {
+        let k = j + 1;
+        let here = Block { j, next: 2 * j + 1 };
+        let there = Block {
+            j: k,
+            next: 2 * k + 1,
+        };
+        let first = self.block420::<N>(this, below, here, y);
+        let second = self.block420::<N>(this, below, there, y);
+        Colours { first, second }
+    }
+
+    // Two blocks of 4:2:2. Both pairs are read, and both colours looked up, before a luma is written: a tenth faster.
+    pub fn four422<const N: usize>(&self, this: &[u8], j: usize, y: &mut [u8]) -> Colours
+        requires row422 { Row422 self.now.rows.frame N this.now y.old }
+        requires inside { 2 * j + 3 < self.now.rows.frame.width }
+        ensures colours_at { ColoursAt (inputs422 self.now.rows.frame N this.now) j result }
+        ensures luma_more { LumaMore (Lumas422 self.now.rows.frame N this.now) self.now.rows.frame j (j + 2) y.old y.new }
+        ensures y_after { y.new ≡ put_block422 self.now.rows.frame N this.now (block_at (j + 1))
+            (put_block422 self.now.rows.frame N this.now (block_at j) y.old) }
+    {
+        let x = 2 * j;
+        let right = x + 1;
+        let z = 2 * (j + 1);
+        let last = z + 1;
+        let a = self.pair::<N>(this, x, right);
+        let b = self.pair::<N>(this, z, last);
+        let first = self.mixed(quarters(a));
+        let second = self.mixed(quarters(b));
+        put_luma(y, 0, x, right, a);
+        put_luma(y, 0, z, last, b);
+        Colours { first, second }
+    }
 }

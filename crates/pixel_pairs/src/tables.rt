@@ -24,7 +24,7 @@ const LINEAR: u64 = 17592186044416;
 const RIGHT: u64 = 2097152;
 
 // A weight for each of the first three bytes of a pixel.
-#[derive(Clone, Copy)]
+#[derive(Clone, Copy, Debug, PartialEq, Eq)]
 pub struct Weights {
     pub first: i32,
     pub second: i32,
@@ -32,7 +32,7 @@ pub struct Weights {
 }
 
 // A frame's description, and the weights of chroma that its settings give.
-#[derive(Clone, Copy)]
+#[derive(Clone, Copy, Debug, PartialEq)]
 pub struct Conversion {
     pub frame: FrameDescription,
     pub cb: Weights,
@@ -44,22 +44,12 @@ fn by_place(channels: YuvSourceChannels, r: i32, g: i32, b: i32) -> Weights
     ensures { result ≡ by_place channels r g b }
 {
     match channels {
-        YuvSourceChannels::Rgb => Weights {
+        YuvSourceChannels::Rgb | YuvSourceChannels::Rgba => Weights {
             first: r,
             second: g,
             third: b,
         },
-        YuvSourceChannels::Rgba => Weights {
-            first: r,
-            second: g,
-            third: b,
-        },
-        YuvSourceChannels::Bgra => Weights {
-            first: b,
-            second: g,
-            third: r,
-        },
-        YuvSourceChannels::Bgr => Weights {
+        YuvSourceChannels::Bgra | YuvSourceChannels::Bgr => Weights {
             first: b,
             second: g,
             third: r,
@@ -71,19 +61,10 @@ pub fn conversion_of(frame: FrameDescription, t: CbCrForwardTransformI32) -> Con
     requires { Weighed frame.settings t }
     ensures { result ≡ conversion_of frame }
 {
-    let settings = frame.settings;
-    let channels = settings.channels;
+    let channels = frame.settings.channels;
     let cb = by_place(channels, t.cb_r, t.cb_g, t.cb_b);
     let cr = by_place(channels, t.cr_r, t.cr_g, t.cr_b);
     Conversion { frame, cb, cr }
-}
-
-// The size of a weight.
-pub fn magnitude(w: i32) -> u64
-    requires { nat_abs w ≤ 8193 }
-    ensures { result ≡ nat_abs w }
-{
-    if w < 0 { (0 - w) as u64 } else { w as u64 }
 }
 
 fn wide(x: u16) -> u64
@@ -108,13 +89,11 @@ fn fill(linear: &[u16; 256], at: usize, weight: u64, start: u64, sums: &mut [u64
         (λ x. right_entry (x * weight + start) (get_or linear.now x 0)) sums.old sums.new }
 {
     let right = 768 + at;
-    let mut x: usize = 0;
-    while x < 256 {
+    for x in 0..256 {
         let value = wide(linear[x]);
         let luma = weighed(x, weight, start);
         sums[at + x] = LINEAR * (3 * value + 2) + luma;
         sums[right + x] = LINEAR * value + RIGHT * luma;
-        x += 1;
     }
 }
 
@@ -130,13 +109,9 @@ pub fn sum_tables(
     requires sums_len { length sums.old ≡ 1536 }
     ensures { SumTables frame.settings sums.new }
 {
-    let settings = frame.settings;
-    let range = settings.range;
-    let channels = settings.channels;
-    let levels = get_yuv_range(range);
-    let weights = by_place(channels, t.yr, t.yg, t.yb);
-    let bias = levels.bias_y as u64 * ONE + ROUNDING;
-    fill(linear, 0, magnitude(weights.first), bias, sums);
-    fill(linear, 256, magnitude(weights.second), 0, sums);
-    fill(linear, 512, magnitude(weights.third), 0, sums);
+    let weights = by_place(frame.settings.channels, t.yr, t.yg, t.yb);
+    let bias = get_yuv_range(frame.settings.range).bias_y as u64 * ONE + ROUNDING;
+    fill(linear, 0, weights.first.unsigned_abs() as u64, bias, sums);
+    fill(linear, 256, weights.second.unsigned_abs() as u64, 0, sums);
+    fill(linear, 512, weights.third.unsigned_abs() as u64, 0, sums);
 }

@@ -1,26 +1,25 @@
 -- The place that is told is that of the first byte that differs: the front ends there, and every byte before it is in it. Assumes nothing.
 use Prim.Native.Nat.{ℕ, zero, suc, ◌+◌, ◌*◌, ◌-◌, ◌/◌, ◌%◌, ◌≤◌, ◌<◌}
-use mathlib.Core.Path.{◌≡◌, refl, sym, ◌∙◌, ap, subst}
+use mathlib.Core.Path.{◌≡◌, refl, sym, ap, subst}
 use mathlib.Core.Bool.{Bool, true, false, cond}
-use mathlib.Core.List.{List, [], ◌∷◌}
+use mathlib.Core.List.{List}
 use native.Mathlib.Nat.{mod-add-div, mod-lt, div-lt_iff_lt-mul, mul_comm, zero-mul}
 use native.Mathlib.Omega.{arith}
 use borrow.Author.Tests.{ltb-true, ltb-false}
 use lib.Dec.{ltb}
 use lib.ListN.{length, get_or}
-use Rattle.plane_difference.specs.declared.PlaneDifference.{PlaneDifference}
-use Rattle.plane_difference.specs.declared.PlaneDifference.TheVariants.{Same, At}
-use Rattle.plane_difference.specs.Difference.{equal_front, place_of, plane_difference, byte_at, FirstByte, FirstByteTold}
+use Rattle.std.proofs.Common.{Option, Some, None}
+use Rattle.plane_difference.specs.Difference.{equal_front, place_of, plane_difference, FirstByte, FirstByteTold}
 use Rattle.plane_difference.proofs.Front.{front_more, front_ends, front_byte, row_end, differs_at}
 
--- row and column of a place
-abbrev row_of : PlaneDifference → ℕ
-row_of Same = 0
-row_of (At row column) = row
+-- row and column of a place, if there is one
+abbrev row_of : Option (ℕ × ℕ) → ℕ
+row_of None = 0
+row_of (Some p) = p.0
 
-abbrev column_of : PlaneDifference → ℕ
-column_of Same = 0
-column_of (At row column) = column
+abbrev column_of : Option (ℕ × ℕ) → ℕ
+column_of None = 0
+column_of (Some p) = p.1
 
 -- the front reaches as far as all bytes are equal
 front_reaches : (a b : List ℕ) (i : ℕ) → i ≤ length a → i ≤ length b → ((k : ℕ) → k < i → get_or a k 0 ≡ get_or b k 0) → i ≤ equal_front a b
@@ -49,11 +48,11 @@ module _ (w h : ℕ) (a b : List ℕ) (ha : length a ≡ w * h) (hb : length b �
           left = λ c l. front_byte a b (w * row + c) (omega arith);
         }
 
-    told_first : plane_difference w a b ≡ At row column → FirstByte w h a b row column
+    told_first : plane_difference w a b ≡ Some (row, column) → FirstByte w h a b row column
     unfolding plane_difference
     told_first e = at (ltb (equal_front a b) (length a)) refl e
       where
-        at : (t : Bool) → ltb (equal_front a b) (length a) ≡ t → cond t (place_of w (equal_front a b)) Same ≡ At row column
+        at : (t : Bool) → ltb (equal_front a b) (length a) ≡ t → cond t (Some (place_of w (equal_front a b))) None ≡ Some (row, column)
             → FirstByte w h a b row column
         at true l q =
             let below : equal_front a b < w * h = omega (arith, ltb-true (equal_front a b) (length a) l) in
@@ -84,7 +83,7 @@ module _ (w h : ℕ) (a b : List ℕ) (ha : length a ≡ w * h) (hb : length b �
               let whole : w * row + (k - w * row) ≡ k = omega arith in
               subst (λ (i : ℕ). get_or a i 0 ≡ get_or b i 0) whole (f.left (k - w * row) (omega arith))
 
-      first_told : plane_difference w a b ≡ At row column
+      first_told : plane_difference w a b ≡ Some (row, column)
       first_told =
           let inside : w * row + column < w * h = omega (arith, row_end w row h f.row_inside, f.column_inside) in
           let reaches = front_reaches a b (w * row + column) (omega arith) (omega arith) equal_before in

@@ -7,12 +7,11 @@ use mathlib.Core.List.{List, [], ◌∷◌}
 use native.Mathlib.Nat.{add-zero, mul-suc, mul-add-div, mul-add-mod_self_left, div-eq_of_lt, mod-eq_of_lt, mul-le-mul_left}
 use native.Mathlib.Omega.{arith}
 use borrow.Author.Tests.{eqb-true, eq-eqb, ne_eqb, lt-ltb, le-ltb, leb-true}
-use lib.Dec.{ltb, leb, eqb}
+use lib.Dec.{leb, eqb}
 use lib.ListN.{length, get_or, drop}
 use lib.Seq.{get_or-drop, drop-drop}
 use Rattle.little_endian.specs.Number.{Bytes, number_in}
-use Rattle.plane_difference.specs.declared.PlaneDifference.{PlaneDifference}
-use Rattle.plane_difference.specs.declared.PlaneDifference.TheVariants.{Same, At}
+use Rattle.std.proofs.Common.{Some, None}
 use Rattle.plane_difference.specs.Difference.{equal_front, plane_difference}
 
 -- one byte more, or none
@@ -123,13 +122,13 @@ next_row w r = omega (arith, mul-suc w r)
 
 -- ---- what a comparison answers
 
-pub differs_at : (w : ℕ) (a b : List ℕ) (r c : ℕ) → c < w → w * r + c < length a → equal_front a b ≡ w * r + c → At r c ≡ plane_difference w a b
+pub differs_at : (w : ℕ) (a b : List ℕ) (r c : ℕ) → c < w → w * r + c < length a → equal_front a b ≡ w * r + c → Some (r, c) ≡ plane_difference w a b
 unfolding plane_difference
 differs_at w a b r c hc inside e =
     let row : (w * r + c) / w ≡ r = mul-add-div {m = w} (omega arith) r c ∙ ap (λ (k : ℕ). r + k) (div-eq_of_lt hc) ∙ add-zero r in
     let column : (w * r + c) % w ≡ c = mul-add-mod_self_left w r c ∙ mod-eq_of_lt hc in
-    rw (e, lt-ltb (w * r + c) (length a) inside) (ap₂ At (sym row) (sym column))
+    rw (e, lt-ltb (w * r + c) (length a) inside) (ap₂ (λ (x y : ℕ). Some (x, y)) (sym row) (sym column))
 
-pub nowhere : (w : ℕ) (a b : List ℕ) → length a ≤ equal_front a b → Same ≡ plane_difference w a b
+pub nowhere : (w : ℕ) (a b : List ℕ) → length a ≤ equal_front a b → None ≡ plane_difference w a b
 unfolding plane_difference
 nowhere w a b h = rw (le-ltb (equal_front a b) (length a) h)

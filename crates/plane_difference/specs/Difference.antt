@@ -1,8 +1,6 @@
 -- The first byte at which two planes of one size differ: docs/RULES.md, 13.3.
 -- Assumes nothing.
-use Rattle.std.specs.Prelude.{ℕ, suc, ◌+◌, ◌*◌, ◌/◌, ◌%◌, ◌<◌, ◌≡◌, cond, List, [], ◌∷◌, ◌↔◌, ltb, eqb, length, get_or}
-use Rattle.plane_difference.specs.declared.PlaneDifference.{PlaneDifference}
-use Rattle.plane_difference.specs.declared.PlaneDifference.TheVariants.{Same, At}
+use Rattle.std.specs.Prelude.{ℕ, suc, ◌+◌, ◌*◌, ◌/◌, ◌%◌, ◌<◌, ◌≡◌, cond, List, [], ◌∷◌, ◌↔◌, ltb, eqb, length, get_or, Option, Some, None}
 
 -- RULES 13.3: how many bytes are equal before the first that is not
 unfoldable pub equal_front : (a b : List ℕ) → ℕ
@@ -11,12 +9,12 @@ equal_front (x ∷ a) [] = 0
 equal_front (x ∷ a) (y ∷ b) = cond (eqb x y) (suc (equal_front a b)) 0
 
 -- RULES 13.3: byte k of rows of w bytes stands in row k / w and column k % w
-abbrev pub place_of : (w k : ℕ) → PlaneDifference
-place_of w k = At (k / w) (k % w)
+abbrev pub place_of : (w k : ℕ) → ℕ × ℕ
+place_of w k = (k / w, k % w)
 
--- RULES 13.3: the place of the first unequal byte of two planes with rows of w bytes
-unfoldable pub plane_difference : (w : ℕ) → (a b : List ℕ) → PlaneDifference
-plane_difference w a b = cond (ltb (equal_front a b) (length a)) (place_of w (equal_front a b)) Same
+-- RULES 13.3: row and column of the first unequal byte of two planes with rows of w bytes, or none
+unfoldable pub plane_difference : (w : ℕ) → (a b : List ℕ) → Option (ℕ × ℕ)
+plane_difference w a b = cond (ltb (equal_front a b) (length a)) (Some (place_of w (equal_front a b))) None
 
 -- ---- what it means
 
@@ -35,4 +33,4 @@ pub record FirstByte (w h : ℕ) (a b : List ℕ) (row column : ℕ) : Type 0 wh
 -- RULES 13.3: a place is told exactly where that byte is the first that differs
 abbrev pub FirstByteTold : Type 0
 FirstByteTold = (w h : ℕ) (a b : List ℕ) → length a ≡ w * h → length b ≡ w * h → (row column : ℕ)
-    → (plane_difference w a b ≡ At row column) ↔ FirstByte w h a b row column
+    → (plane_difference w a b ≡ Some (row, column)) ↔ FirstByte w h a b row column

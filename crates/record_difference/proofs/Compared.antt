@@ -1,12 +1,14 @@
 -- Two sizes that test as the same are one size; a plane has the bytes that its size says; the planes say what the first unequal one says.
 -- Assumes nothing.
-use Prim.Native.Nat.{ℕ, ◌*◌, ◌≤◌}
+use Prim.Native.Nat.{ℕ, zero, suc, ◌*◌, ◌≤◌}
 use mathlib.Core.Path.{◌≡◌, refl, sym, ◌∙◌, ap, ap₂}
-use mathlib.Core.Bool.{Bool, true, false}
+use mathlib.Core.Bool.{Bool, true, false, not, ◌&&◌, true≢false}
+use denote.Enum.Bare.{sameb}
 use mathlib.Core.List.{List, [], ◌++◌, append-nil}
 use borrow.Author.Tests.{eqb-true, eq-eqb}
 use lib.Dec.{eqb}
 use lib.ListN.{length}
+use Rattle.yuv_support.specs.contracts.YuvChromaSubsampling.{the_type}
 use Rattle.yuv_support.specs.declared.YuvChromaSubsampling.{YuvChromaSubsampling}
 use Rattle.yuv_support.specs.declared.YuvChromaSubsampling.TheVariants.{Yuv420, Yuv422}
 use Rattle.shift_file.specs.declared.ShiftForm.{ShiftForm}
@@ -16,15 +18,14 @@ use Rattle.shift_file.proofs.Record.{both, settings_is}
 use Rattle.shift_reader.specs.Entry.{record_of}
 use Rattle.shift_reader.specs.Known.{HasRecord}
 use Rattle.shift_reader.proofs.Places.{allowed, header_there}
-use Rattle.plane_difference.specs.declared.PlaneDifference.{PlaneDifference}
-use Rattle.plane_difference.specs.declared.PlaneDifference.TheVariants as planes
+use Rattle.std.proofs.Common.{Option, Some, None}
 use Rattle.record_difference.specs.declared.Plane.{Plane}
 use Rattle.record_difference.specs.declared.Plane.TheVariants.{Y, U, «V»}
 use Rattle.record_difference.specs.declared.FrameSize.{FrameSize}
-use Rattle.record_difference.specs.declared.RecordDifference.{RecordDifference}
-use Rattle.record_difference.specs.declared.RecordDifference.TheVariants.{Same, Sizes}
+use Rattle.record_difference.specs.declared.Difference.{Difference}
+use Rattle.record_difference.specs.declared.Difference.TheVariants.{Sizes}
 use Rattle.record_difference.specs.Record.{size_of, same_sampling, same_size, plane_of, plane_width, plane_height}
-use Rattle.record_difference.specs.Record.{is_same_plane, in_plane, difference_in, planes_difference, record_difference}
+use Rattle.record_difference.specs.Record.{in_plane, difference_in, planes_difference, record_difference}
 
 -- ---- sizes
 
@@ -50,6 +51,18 @@ size_same a b e =
 pub size_itself : (a : FrameSize) → same_size a a ≡ true
 size_itself a = rw (eq-eqb a.width a.width refl, eq-eqb a.height a.height refl) (sampling_itself a.sampling)
 
+-- the test of the code, on equal sizes
+sampling_is : (a b : YuvChromaSubsampling) → sameb the_type a b ≡ same_sampling a b
+sampling_is Yuv420 Yuv420 = refl
+sampling_is Yuv420 Yuv422 = refl
+sampling_is Yuv422 Yuv420 = refl
+sampling_is Yuv422 Yuv422 = refl
+
+pub sizes_differ : (a b : FrameSize) → true ≡ not (eqb a.width b.width && (eqb a.height b.height && sameb the_type a.sampling b.sampling)) → a ≡ b → ⊥
+sizes_differ a b t e =
+    let same = ap (λ (s : Bool). eqb a.width b.width && (eqb a.height b.height && s)) (sampling_is a.sampling b.sampling) in
+    true≢false (t ∙ ap not (same ∙ ap (same_size a) (sym e) ∙ size_itself a))
+
 -- ---- planes
 
 pub its_Allowed : (form : ShiftForm) (file : List ℕ) (k : ℕ) → HasRecord form file k → Allowed form (record_of form file k)
@@ -61,15 +74,6 @@ unfolding size_of chroma_bytes
 plane_size Y form r size a e = rw e a.y_size
 plane_size U form r size a e = rw e a.u_size
 plane_size «V» form r size a e = rw e a.v_size
-
--- an unequal plane tells, whatever the later ones say; an equal one leaves it to them
-pub told_here : (plane : Plane) (d : PlaneDifference) (later : RecordDifference) → is_same_plane d ≡ false → in_plane plane d Same ≡ in_plane plane d later
-told_here plane planes.Same later e = let z : true ≡ false = e in cc
-told_here plane (planes.At row column) later e = refl
-
-pub told_later : (plane : Plane) (d : PlaneDifference) (later : RecordDifference) → is_same_plane d ≡ true → in_plane plane d later ≡ later
-told_later plane planes.Same later e = refl
-told_later plane (planes.At row column) later e = let z : false ≡ true = e in cc
 
 -- ---- what the call tells
 
@@ -88,15 +92,15 @@ module _ (form : ShiftForm) (r : ShiftRecord) (a : Allowed form r) (part : List 
       let sampled : s ≡ sampling_of form r.settings = es ∙ ap (sampling_of form) (ap (settings_at form) whole ∙ settings_is form r a []) in
       λ i. record { width = ew i; height = eh i; sampling = sampled i }
 
--- what the later planes say
-abbrev after_u : FrameSize → (r s : ShiftRecord) → RecordDifference
-after_u size r s = in_plane «V» (difference_in «V» size r s) Same
-
-abbrev after_y : FrameSize → (r s : ShiftRecord) → RecordDifference
-after_y size r s = in_plane U (difference_in U size r s) (after_u size r s)
+-- what the planes from number k on say
+abbrev pub from_plane : ℕ → FrameSize → (r s : ShiftRecord) → Option Difference
+from_plane zero size r s = planes_difference size r s
+from_plane (suc zero) size r s = in_plane U (difference_in U size r s) (in_plane «V» (difference_in «V» size r s) None)
+from_plane (suc (suc zero)) size r s = in_plane «V» (difference_in «V» size r s) None
+from_plane (suc (suc (suc k))) size r s = None
 
 module _ (form_r : ShiftForm) (r : ShiftRecord) (form_s : ShiftForm) (s : ShiftRecord) where
-  pub by_sizes : same_size (size_of form_r r) (size_of form_s s) ≡ false → Sizes (size_of form_r r) (size_of form_s s) ≡ record_difference form_r r form_s s
+  pub by_sizes : same_size (size_of form_r r) (size_of form_s s) ≡ false → Some (Sizes (size_of form_r r) (size_of form_s s)) ≡ record_difference form_r r form_s s
   unfolding record_difference
   by_sizes e = rw e
 
@@ -104,33 +108,35 @@ module _ (form_r : ShiftForm) (r : ShiftRecord) (form_s : ShiftForm) (s : ShiftR
   unfolding record_difference
   by_planes e = rw e
 
-  module _ (a b : FrameSize) (ours : a ≡ size_of form_r r) (theirs : b ≡ size_of form_s s) (t : Bool) (tested : t ≡ same_size a b) where
-    tested_sizes : same_size (size_of form_r r) (size_of form_s s) ≡ t
-    tested_sizes = sym (tested ∙ ap₂ same_size ours theirs)
+  module _ (a b : FrameSize) (ours : a ≡ size_of form_r r) (theirs : b ≡ size_of form_s s) where
+    pub told_sizes : (a ≡ b → ⊥) → Some (Sizes a b) ≡ record_difference form_r r form_s s
+    told_sizes differ =
+        ap₂ (λ (x y : FrameSize). Some (Sizes x y)) ours theirs ∙ by_sizes (at (same_size (size_of form_r r) (size_of form_s s)) refl)
+      where
+        at : (t : Bool) → same_size (size_of form_r r) (size_of form_s s) ≡ t → t ≡ false
+        at true e = absurd (differ (ours ∙ size_same _ _ e ∙ sym theirs))
+        at false e = refl
 
-    pub told_sizes : t ≡ false → Sizes a b ≡ record_difference form_r r form_s s
-    told_sizes e = ap₂ Sizes ours theirs ∙ by_sizes (tested_sizes ∙ e)
+    pub planes_tell : a ≡ b → from_plane 0 a r s ≡ record_difference form_r r form_s s
+    planes_tell one =
+        ap (λ (size : FrameSize). planes_difference size r s) ours
+        ∙ by_planes (ap (same_size (size_of form_r r)) (sym (sym ours ∙ one ∙ theirs)) ∙ size_itself (size_of form_r r))
 
-    module _ (e : t ≡ true) where
-      pub one_size : a ≡ size_of form_s s
-      one_size = size_same a b (sym tested ∙ e) ∙ theirs
+    -- the first plane that has a difference is the one that is told
+    module _ (one : a ≡ b) where
+      pub told_y : (p : ℕ × ℕ) → difference_in Y a r s ≡ Some p → in_plane Y (Some p) None ≡ record_difference form_r r form_s s
+      told_y p e =
+          ap (λ (d : Option (ℕ × ℕ)). in_plane Y d (in_plane U (difference_in U a r s) (in_plane «V» (difference_in «V» a r s) None))) (sym e)
+          ∙ planes_tell one
 
-      planes_tell : planes_difference a r s ≡ record_difference form_r r form_s s
-      planes_tell = ap (λ (size : FrameSize). planes_difference size r s) ours ∙ by_planes (tested_sizes ∙ e)
+      pub told_u : difference_in Y a r s ≡ None → (p : ℕ × ℕ) → difference_in U a r s ≡ Some p → in_plane U (Some p) None ≡ record_difference form_r r form_s s
+      told_u y_same p e =
+          ap (λ (d : Option (ℕ × ℕ)). in_plane U d (in_plane «V» (difference_in «V» a r s) None)) (sym e)
+          ∙ ap (λ (d : Option (ℕ × ℕ)). in_plane Y d (in_plane U (difference_in U a r s) (in_plane «V» (difference_in «V» a r s) None))) (sym y_same)
+          ∙ planes_tell one
 
-      module _ (y : PlaneDifference) (in_y : y ≡ difference_in Y a r s) where
-        y_tells : in_plane Y y (after_y a r s) ≡ record_difference form_r r form_s s
-        y_tells = ap (λ (d : PlaneDifference). in_plane Y d (after_y a r s)) in_y ∙ planes_tell
-
-        pub told_y : is_same_plane y ≡ false → in_plane Y y Same ≡ record_difference form_r r form_s s
-        told_y differs = told_here Y y (after_y a r s) differs ∙ y_tells
-
-        module _ (y_same : is_same_plane y ≡ true) (u : PlaneDifference) (in_u : u ≡ difference_in U a r s) where
-          u_tells : in_plane U u (after_u a r s) ≡ record_difference form_r r form_s s
-          u_tells = ap (λ (d : PlaneDifference). in_plane U d (after_u a r s)) in_u ∙ sym (told_later Y y (after_y a r s) y_same) ∙ y_tells
-
-          pub told_u : is_same_plane u ≡ false → in_plane U u Same ≡ record_difference form_r r form_s s
-          told_u differs = told_here U u (after_u a r s) differs ∙ u_tells
-
-          pub told_v : is_same_plane u ≡ true → (v : PlaneDifference) → v ≡ difference_in «V» a r s → in_plane «V» v Same ≡ record_difference form_r r form_s s
-          told_v u_same v in_v = ap (λ (d : PlaneDifference). in_plane «V» d Same) in_v ∙ sym (told_later U u (after_u a r s) u_same) ∙ u_tells
+      pub told_v : difference_in Y a r s ≡ None → difference_in U a r s ≡ None → in_plane «V» (difference_in «V» a r s) None ≡ record_difference form_r r form_s s
+      told_v y_same u_same =
+          ap (λ (d : Option (ℕ × ℕ)). in_plane U d (in_plane «V» (difference_in «V» a r s) None)) (sym u_same)
+          ∙ ap (λ (d : Option (ℕ × ℕ)). in_plane Y d (in_plane U (difference_in U a r s) (in_plane «V» (difference_in «V» a r s) None))) (sym y_same)
+          ∙ planes_tell one

@@ -1,20 +1,18 @@
 -- When two records are equal, and how they differ: docs/RULES.md, 13.2 and 13.3.
 -- Assumes nothing.
-use Rattle.std.specs.Prelude.{ℕ, ◌≡◌, Bool, true, false, cond, ◌&&◌, List, ◌↔◌, eqb}
+use Rattle.std.specs.Prelude.{ℕ, ◌≡◌, Bool, true, false, cond, ◌&&◌, List, ◌↔◌, eqb, Option, Some, None}
 use Rattle.yuv_support.specs.declared.YuvChromaSubsampling.{YuvChromaSubsampling}
 use Rattle.yuv_support.specs.declared.YuvChromaSubsampling.TheVariants.{Yuv420, Yuv422}
 use Rattle.yuv_support.specs.Sampling.{chroma_width, chroma_height}
 use Rattle.shift_file.specs.declared.ShiftForm.{ShiftForm}
 use Rattle.shift_file.specs.File.{ShiftRecord, Allowed, sampling_of}
-use Rattle.plane_difference.specs.declared.PlaneDifference.{PlaneDifference}
-use Rattle.plane_difference.specs.declared.PlaneDifference.TheVariants as planes
 use Rattle.plane_difference.specs.Difference.{plane_difference, FirstByte}
 use Rattle.record_difference.specs.declared.Plane.{Plane}
 use Rattle.record_difference.specs.declared.Plane.TheVariants.{Y, U, «V»}
 use Rattle.record_difference.specs.declared.FrameSize.{FrameSize}
 use Rattle.record_difference.specs.declared.PlanePlace.{PlanePlace}
-use Rattle.record_difference.specs.declared.RecordDifference.{RecordDifference}
-use Rattle.record_difference.specs.declared.RecordDifference.TheVariants.{Same, Sizes, At}
+use Rattle.record_difference.specs.declared.Difference.{Difference}
+use Rattle.record_difference.specs.declared.Difference.TheVariants.{Sizes, At}
 
 -- ---- sizes
 
@@ -55,35 +53,25 @@ plane_height «V» s = chroma_height s.sampling s.height
 
 -- ---- the difference
 
--- RULES 13.2
-abbrev pub is_same : RecordDifference → Bool
-is_same Same = true
-is_same (Sizes a b) = false
-is_same (At p) = false
-
-abbrev pub is_same_plane : PlaneDifference → Bool
-is_same_plane planes.Same = true
-is_same_plane (planes.At row column) = false
-
 -- RULES 13.3: the place in this plane, or else what the later planes say
-abbrev pub in_plane : Plane → PlaneDifference → (later : RecordDifference) → RecordDifference
-in_plane plane planes.Same later = later
-in_plane plane (planes.At row column) later = At (record { plane = plane; row = row; column = column })
+abbrev pub in_plane : Plane → Option (ℕ × ℕ) → (later : Option Difference) → Option Difference
+in_plane plane None later = later
+in_plane plane (Some place) later = Some (At (record { plane = plane; row = place.0; column = place.1 }))
 
 -- RULES 13.3: the first unequal byte of a plane
-abbrev pub difference_in : Plane → FrameSize → (r s : ShiftRecord) → PlaneDifference
+abbrev pub difference_in : Plane → FrameSize → (r s : ShiftRecord) → Option (ℕ × ℕ)
 difference_in plane size r s = plane_difference (plane_width plane size) (plane_of plane r) (plane_of plane s)
 
 -- RULES 13.3: the first unequal byte in Y, U, V
-abbrev pub planes_difference : FrameSize → (r s : ShiftRecord) → RecordDifference
+abbrev pub planes_difference : FrameSize → (r s : ShiftRecord) → Option Difference
 planes_difference size r s =
-    in_plane Y (difference_in Y size r s) (in_plane U (difference_in U size r s) (in_plane «V» (difference_in «V» size r s) Same))
+    in_plane Y (difference_in Y size r s) (in_plane U (difference_in U size r s) (in_plane «V» (difference_in «V» size r s) None))
 
 -- RULES 13.3: the two sizes where they differ; else the first unequal byte
-unfoldable pub record_difference : (form_r : ShiftForm) → (r : ShiftRecord) → (form_s : ShiftForm) → (s : ShiftRecord) → RecordDifference
+unfoldable pub record_difference : (form_r : ShiftForm) → (r : ShiftRecord) → (form_s : ShiftForm) → (s : ShiftRecord) → Option Difference
 record_difference form_r r form_s s =
     let size = size_of form_r r in
-    cond (same_size size (size_of form_s s)) (planes_difference size r s) (Sizes size (size_of form_s s))
+    cond (same_size size (size_of form_s s)) (planes_difference size r s) (Some (Sizes size (size_of form_s s)))
 
 -- ---- what it means
 
@@ -97,7 +85,7 @@ pub record EqualRecords (form_r : ShiftForm) (r : ShiftRecord) (form_s : ShiftFo
 -- RULES 13.2: no difference, exactly where sizes and all three planes are equal
 abbrev pub SameIsEqual : Type 0
 SameIsEqual = (form_r : ShiftForm) (r : ShiftRecord) (form_s : ShiftForm) (s : ShiftRecord) → Allowed form_r r → Allowed form_s s
-    → (record_difference form_r r form_s s ≡ Same) ↔ EqualRecords form_r r form_s s
+    → (record_difference form_r r form_s s ≡ None) ↔ EqualRecords form_r r form_s s
 
 -- RULES 13.3: the planes before this one are equal; Y comes before U, and U before V
 abbrev pub EqualBefore : Plane → (r s : ShiftRecord) → Type 0
@@ -116,9 +104,9 @@ pub record FirstDifference (form_r : ShiftForm) (r : ShiftRecord) (form_s : Shif
 -- RULES 13.3: a place is told exactly where it is that of the first byte that differs
 abbrev pub PlaceIsFirst : Type 0
 PlaceIsFirst = (form_r : ShiftForm) (r : ShiftRecord) (form_s : ShiftForm) (s : ShiftRecord) → Allowed form_r r → Allowed form_s s → (p : PlanePlace)
-    → (record_difference form_r r form_s s ≡ At p) ↔ FirstDifference form_r r form_s s p
+    → (record_difference form_r r form_s s ≡ Some (At p)) ↔ FirstDifference form_r r form_s s p
 
 -- RULES 13.3: sizes are told exactly where they differ, both as they are
 abbrev pub SizesAreTold : Type 0
 SizesAreTold = (form_r : ShiftForm) (r : ShiftRecord) (form_s : ShiftForm) (s : ShiftRecord) (a b : FrameSize)
-    → (record_difference form_r r form_s s ≡ Sizes a b) ↔ ((a ≡ size_of form_r r) × (b ≡ size_of form_s s) × (size_of form_r r ≡ size_of form_s s → ⊥))
+    → (record_difference form_r r form_s s ≡ Some (Sizes a b)) ↔ ((a ≡ size_of form_r r) × (b ≡ size_of form_s s) × (size_of form_r r ≡ size_of form_s s → ⊥))

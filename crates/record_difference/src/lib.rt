@@ -4,15 +4,14 @@
 ghost use Rattle.std.specs.Prelude.{◌≡◌};
 ghost use Rattle.shift_reader.specs.Entry.{record_of};
 ghost use Rattle.shift_reader.specs.Known.{HasRecord};
-ghost use Rattle.record_difference.specs.Record.{plane_of, plane_width, plane_height, size_of, same_sampling, same_size};
-ghost use Rattle.record_difference.specs.Record.{is_same, is_same_plane, in_plane, difference_in, record_difference};
+ghost use Rattle.record_difference.specs.Record.{plane_of, plane_width, plane_height, size_of, difference_in, record_difference};
 ghost use Rattle.record_difference.specs.Known.{Comparable};
 
-use plane_difference::PlaneDifference;
 use shift_file::ShiftForm;
 use yuv_support::YuvChromaSubsampling;
 
-#[derive(Clone, Copy)]
+// A plane of a frame.
+#[derive(Clone, Copy, Debug, PartialEq, Eq)]
 pub enum Plane {
     Y,
     U,
@@ -20,7 +19,7 @@ pub enum Plane {
 }
 
 // What two frames must have in common before their planes are compared.
-#[derive(Clone, Copy)]
+#[derive(Clone, Copy, Debug, PartialEq, Eq)]
 pub struct FrameSize {
     pub width: u16,
     pub height: u16,
@@ -28,56 +27,18 @@ pub struct FrameSize {
 }
 
 // A byte of a frame's planes: row and column from 0.
-#[derive(Clone, Copy)]
+#[derive(Clone, Copy, Debug, PartialEq, Eq)]
 pub struct PlanePlace {
     pub plane: Plane,
     pub row: usize,
     pub column: usize,
 }
 
-// None, the two sizes, or the first unequal byte.
-#[derive(Clone, Copy)]
-pub enum RecordDifference {
-    Same,
+// How two records differ: the two sizes, or the first unequal byte.
+#[derive(Clone, Copy, Debug, PartialEq, Eq)]
+pub enum Difference {
     Sizes(FrameSize, FrameSize),
     At(PlanePlace),
-}
-
-impl RecordDifference {
-    pub fn is_same(self) -> bool
-        ensures { result ≡ is_same self }
-    {
-        match self {
-            RecordDifference::Same => true,
-            RecordDifference::Sizes(_, _) => false,
-            RecordDifference::At(_) => false,
-        }
-    }
-}
-
-// ---- sizes
-
-fn is_same_sampling(a: YuvChromaSubsampling, b: YuvChromaSubsampling) -> bool
-    ensures { result ≡ same_sampling a b }
-{
-    match a {
-        YuvChromaSubsampling::Yuv420 => match b {
-            YuvChromaSubsampling::Yuv420 => true,
-            YuvChromaSubsampling::Yuv422 => false,
-        },
-        YuvChromaSubsampling::Yuv422 => match b {
-            YuvChromaSubsampling::Yuv420 => false,
-            YuvChromaSubsampling::Yuv422 => true,
-        },
-    }
-}
-
-fn is_same_size(a: FrameSize, b: FrameSize) -> bool
-    ensures { result ≡ same_size a b }
-{
-    let ours = a.sampling;
-    let theirs = b.sampling;
-    (a.width == b.width) & ((a.height == b.height) & is_same_sampling(ours, theirs))
 }
 
 // The size of record k.
@@ -113,24 +74,21 @@ fn plane_width(plane: Plane, size: FrameSize) -> usize
     let width = size.width as usize;
     match plane {
         Plane::Y => width,
-        Plane::U => yuv_support::chroma_width(width),
-        Plane::V => yuv_support::chroma_width(width),
+        Plane::U | Plane::V => yuv_support::chroma_width(width),
     }
 }
 
 fn plane_height(plane: Plane, size: FrameSize) -> usize
     ensures { result ≡ plane_height plane size }
 {
-    let sampling = size.sampling;
     let height = size.height as usize;
     match plane {
         Plane::Y => height,
-        Plane::U => sampling.chroma_height(height),
-        Plane::V => sampling.chroma_height(height),
+        Plane::U | Plane::V => size.sampling.chroma_height(height),
     }
 }
 
-// The first unequal byte of a plane of two records of one size.
+// Row and column of the first unequal byte of a plane of two records of one size.
 fn compare_plane(
     plane: Plane,
     size: FrameSize,
@@ -140,7 +98,7 @@ fn compare_plane(
     form_b: ShiftForm,
     theirs: &[u8],
     j: usize,
-) -> PlaneDifference
+) -> Option<(usize, usize)>
     requires { Comparable size form_a ours.now i form_b theirs.now j }
     ensures { result ≡ difference_in plane size (record_of form_a ours.now i) (record_of form_b theirs.now j) }
 {
@@ -151,25 +109,7 @@ fn compare_plane(
 
 // ---- records
 
-fn is_same_plane(difference: PlaneDifference) -> bool
-    ensures { result ≡ is_same_plane difference }
-{
-    match difference {
-        PlaneDifference::Same => true,
-        PlaneDifference::At(_, _) => false,
-    }
-}
-
-fn tell_place(plane: Plane, difference: PlaneDifference) -> RecordDifference
-    ensures { result ≡ in_plane plane difference RecordDifference.Same }
-{
-    match difference {
-        PlaneDifference::Same => RecordDifference::Same,
-        PlaneDifference::At(row, column) => RecordDifference::At(PlanePlace { plane, row, column }),
-    }
-}
-
-// The difference of record i of ours and record j of theirs. No plane after the first unequal byte is looked at.
+// The difference of record i of ours and record j of theirs, or none. No plane after the first unequal byte is looked at.
 pub fn compare_records(
     form_a: ShiftForm,
     ours: &[u8],
@@ -177,26 +117,21 @@ pub fn compare_records(
     form_b: ShiftForm,
     theirs: &[u8],
     j: usize,
-) -> RecordDifference
-    requires has_record { HasRecord form_a ours.now i }
-    requires has_record_2 { HasRecord form_b theirs.now j }
+) -> Option<Difference>
+    requires our_record { HasRecord form_a ours.now i }
+    requires their_record { HasRecord form_b theirs.now j }
     ensures { result ≡ record_difference form_a (record_of form_a ours.now i) form_b (record_of form_b theirs.now j) }
 {
     let a = size_of(form_a, ours, i);
     let b = size_of(form_b, theirs, j);
-    if !is_same_size(a, b) {
-        return RecordDifference::Sizes(a, b);
+    if a != b {
+        return Some(Difference::Sizes(a, b));
     }
-    let y = compare_plane(Plane::Y, a, form_a, ours, i, form_b, theirs, j);
-    if !is_same_plane(y) {
-        return tell_place(Plane::Y, y);
+    for plane in [Plane::Y, Plane::U, Plane::V] {
+        let place = compare_plane(plane, a, form_a, ours, i, form_b, theirs, j);
+        if let Some((row, column)) = place {
+            return Some(Difference::At(PlanePlace { plane, row, column }));
+        }
     }
-    let u = compare_plane(Plane::U, a, form_a, ours, i, form_b, theirs, j);
-    if !is_same_plane(u) {
-        return tell_place(Plane::U, u);
-    }
-    tell_place(
-        Plane::V,
-        compare_plane(Plane::V, a, form_a, ours, i, form_b, theirs, j),
-    )
+    None
 }

@@ -3,95 +3,97 @@
 #![tactic(auto)]
 
 use band_calls::{FrameAnswer, FrameState};
+use replay::{Answer, Digest, List, Planes};
+use std::io::{BufReader, BufWriter, Read, Write};
+use std::{fmt, io};
 
-fn print_answered(answered: FrameAnswer) {
-    let answer = answered.answer;
-    let state = answered.state;
-    replay::print_answer(answer);
-    replay::print(b" done=");
-    replay::print_number(state.done as usize);
-}
+// The most bytes of a source, and the bytes of each plane and of the carried row, which a sequence keeps from call to call.
+const SOURCE: usize = 4096;
 
-fn replay_opening(sequence: u32) {
-    let answered = FrameState::open(replay::read_frame());
-    replay::print_number(sequence as usize);
-    print_answered(answered);
-    replay::print(b"\n");
-}
+const ROOM: usize = 256;
 
-fn read_state() -> FrameState {
-    FrameState {
-        frame: replay::read_frame(),
-        done: replay::read_number(),
+#[derive(Clone, Copy)]
+struct Answered(FrameAnswer);
+
+impl fmt::Display for Answered {
+    fn fmt<W: fmt::Write>(&self, f: &mut fmt::Formatter<W>) -> fmt::Result {
+        let answer = Answer(self.0.answer);
+        let done = self.0.state.done;
+        write!(f, "{answer} done={done}")
     }
+}
+
+fn read_state<R: Read + Drop>(list: &mut List<R>) -> io::Result<FrameState> {
+    Ok(FrameState {
+        frame: list.frame()?,
+        done: list.number()?,
+    })
 }
 
 // Makes a call on as much of each buffer as it is lent.
-fn make(
-    source: &mut [u8],
-    y: &mut [u8],
-    u: &mut [u8],
-    v: &mut [u8],
+fn make<R: Read + Drop>(
+    list: &mut List<R>,
+    planes: &mut Planes,
     carried: &mut [u8],
-) -> FrameAnswer {
-    let state = read_state();
-    let rows = replay::read_number();
-    let stride = replay::read_number();
-    let y_length = replay::read_length(y);
-    let u_length = replay::read_length(u);
-    let v_length = replay::read_length(v);
-    let carried_length = replay::read_length(carried);
-    replay::fill(source);
-    state.band(
+) -> io::Result<FrameAnswer> {
+    let mut source = list.buffer(SOURCE)?;
+    let state = read_state(list)?;
+    let rows = list.number()?;
+    let stride = list.number()?;
+    let y_length = list.room(planes.y.len())?;
+    let u_length = list.room(planes.u.len())?;
+    let v_length = list.room(planes.v.len())?;
+    let carried_length = list.room(carried.len())?;
+    list.fill(&mut source)?;
+    Ok(state.band(
         rows,
-        source,
+        &source,
         stride,
-        &mut y[..y_length],
-        &mut u[..u_length],
-        &mut v[..v_length],
+        &mut planes.y[..y_length],
+        &mut planes.u[..u_length],
+        &mut planes.v[..v_length],
         &mut carried[..carried_length],
-    )
+    ))
 }
 
-fn print_label(sequence: u32, call: u32) {
-    replay::print_number(sequence as usize);
-    replay::print(b".");
-    replay::print_number(call as usize);
-}
-
-fn print_held(y: &[u8; 256], u: &[u8; 256], v: &[u8; 256], carried: &[u8; 256]) {
-    replay::print_planes(y, u, v);
-    replay::print_buffer(b" carried=", carried);
-    replay::print(b"\n");
-}
-
-fn replay_call(y: &mut [u8; 256], u: &mut [u8; 256], v: &mut [u8; 256], carried: &mut [u8; 256]) {
-    let mut source = io::buffer();
-    let source_length = replay::read_length(&source);
-    let answered = make(&mut source[..source_length], y, u, v, carried);
-    print_answered(answered);
-    print_held(y, u, v, carried);
+fn call<R: Read + Drop, W: Write + Drop>(
+    list: &mut List<R>,
+    planes: &mut Planes,
+    carried: &mut [u8],
+    out: &mut W,
+) -> io::Result<()> {
+    let answered = Answered(make(list, planes, carried)?);
+    let row = Digest(carried);
+    writeln!(out, "{answered}{planes} carried={row}")
 }
 
 // The opening, and the calls after it, all on the same buffers.
-fn replay_sequence(sequence: u32) {
-    let mut y = [0u8; 256];
-    let mut u = [0u8; 256];
-    let mut v = [0u8; 256];
-    let mut carried = [0u8; 256];
-    replay_opening(sequence);
-    replay::fill_planes(&mut y, &mut u, &mut v);
-    replay::fill(&mut carried);
-    let count = replay::read_number();
-    for call in 0..count {
-        print_label(sequence, call + 1);
-        replay_call(&mut y, &mut u, &mut v, &mut carried);
-    }
+fn sequence<R: Read + Drop, W: Write + Drop>(
+    sequence: u32,
+    list: &mut List<R>,
+    out: &mut W,
+) -> io::Result<()> {
+    let opened = Answered(FrameState::open(list.frame()?));
+    writeln!(out, "{sequence}{opened}")?;
+    let mut planes = Planes::new(list.alloc, ROOM)?;
+    let mut carried = vec![in list.alloc; 0u8; ROOM]?;
+    list.fill_planes(&mut planes)?;
+    list.fill(&mut carried)?;
+    replay::each(list, out, |place, list, out| {
+        write!(out, "{sequence}.{place}")?;
+        call(list, &mut planes, &mut carried, out)
+    })
 }
 
-fn main() {
-    let count = replay::read_number();
-    for sequence in 0..count {
-        replay_sequence(sequence + 1);
-    }
+fn main(rt: HostRuntime) -> io::Result<()> {
+    let alloc = rt.alloc();
+    let from = BufReader::new(alloc, rt.reader())?;
+    let mut list = List { from, alloc };
+    let mut out = BufWriter::new(alloc, io::writer(&rt))?;
+    replay::each(
+        &mut list,
+        &mut out,
+        |number, list, out| sequence(number, list, out),
+    )?;
+    out.flush()
 }

@@ -7,56 +7,34 @@
 // tools/counts.py makes both files.
 #![tactic(auto)]
 
-ghost use Rattle.std.specs.Prelude.{◌≡◌, length};
+use replay_text::Reply;
+use std::io;
+use std::io::{BufReader, BufWriter, Write};
 
-const STDIN_FILENO: i32 = 0;
-
-const STDOUT_FILENO: i32 = 1;
-
-fn output_buffer() -> [u8; 3328]
-    ensures { 3328 ≡ length result }
-{
-    [0; 3328]
-}
-
-// Black and white of either range, and the middle.
-fn print_counts(reply: &[u8]) {
+// The lines of black and white of either range, and of the middle, where there are lines.
+fn print_lines<W: Write + Drop>(reply: &[u8], out: &mut W) -> io::Result<()> {
     if reply.len() > 40 {
-        replay_text::print_line(reply, 0);
-        replay_text::print_line(reply, 16);
-        replay_text::print_line(reply, 128);
-        replay_text::print_line(reply, 235);
-        replay_text::print_line(reply, 255);
+        for (luma, line) in reply.split(|b| *b == b'\n').enumerate() {
+            if matches!(luma, 0 | 16 | 128 | 235 | 255) {
+                out.write_all(b", ")?;
+                out.write_all(line)?;
+            }
+        }
     }
+    Ok(())
 }
 
-fn replay_line(line: &[u8]) {
-    let mut request = [0; 16];
-    let mut output = output_buffer();
-    let size = replay_text::read_named(line, &mut request);
-    let bytes = counts_request::reply_to(&request[0..size], &mut output);
-    replay_text::print_reply(&output[..bytes]);
-    print_counts(&output[..bytes]);
-    replay::print(b"\n");
+fn reply<W: Write + Drop>(request: &[u8], out: &mut W) -> io::Result<()> {
+    let mut output = [0; 3328];
+    let size = counts_request::reply_to(request, &mut output);
+    let reply = Reply(&output[..size]);
+    write!(out, "{reply}")?;
+    print_lines(&output[..size], out)
 }
 
-// Answers how many lines there are.
-fn replay_lines(text: &[u8]) -> u64 {
-    let mut count = 0;
-    let mut at = 0;
-    while at < text.len() {
-        let end = replay_text::find(text, at, text.len(), b'\n');
-        replay_line(&text[at..end]);
-        count += 1;
-        at = end + 1;
-    }
-    count
-}
-
-fn main() {
-    let mut text = io::large_buffer();
-    let size = io::read_full(STDIN_FILENO, &mut text);
-    let count = replay_lines(&text[..size]);
-    io::print_decimal(STDOUT_FILENO, count);
-    io::write_all(STDOUT_FILENO, b" requests\n");
+fn main(rt: HostRuntime) -> io::Result<()> {
+    let alloc = rt.alloc();
+    let text = BufReader::new(alloc, rt.reader())?;
+    let mut out = BufWriter::new(alloc, io::writer(&rt))?;
+    replay_text::replay(alloc, text, &mut out, |request, out| reply(request, out))
 }

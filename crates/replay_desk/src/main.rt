@@ -1,6 +1,13 @@
 // Makes the calls of a stored list of desk histories, its standard input, and prints a line of what came of each. vectors/README.md has both forms.
 #![tactic(auto)]
 
+ghost use Rattle.std.specs.Prelude.{◌<◌, length};
+
+use replay::{Digest, List, Planes};
+use std::alloc::{AllocError, Global};
+use std::io::{BufReader, BufWriter, Read, Write};
+use std::{fmt, io};
+
 // What is asked of a desk; what is none of these is an offer. A delivery is no call: a camera writes bytes into the source.
 const OPENING: u32 = 0;
 
@@ -11,32 +18,69 @@ const DELIVERY: u32 = 3;
 // The most numbers of a description that an opening of the list has.
 const DESCRIBED: usize = 16;
 
-const ALL_ONES: u32 = 0xFFFF_FFFF;
+// The bytes of the source, and those of each plane and of the carried rows.
+const SOURCE: usize = 1024;
+
+const ROOM: usize = 512;
+
+// A desk as numbers.
+#[derive(Clone, Copy)]
+struct Desk {
+    numbers: [u32; 609],
+    customs: [f32; 64],
+    parts: [u64; 320],
+}
+
+// The buffers that the cameras of a desk share.
+#[derive(Drop)]
+struct Buffers {
+    source: Vec<u8>,
+    planes: Planes,
+    carried: Vec<u8>,
+}
 
 // ---- the desk before the first call: how many of a list's numbers are not 0, and of each its place and what stands there
 
-fn read_numbers(numbers: &mut [u32; 609]) {
-    let count = replay::read_number();
-    for k in 0..count {
-        let at = replay::read_room(608);
-        numbers[at] = replay::read_number();
+fn place<R: Read + Drop, T: Copy, F: FnMut(&mut List<R>) -> io::Result<T>>(
+    list: &mut List<R>,
+    places: &mut [T],
+    mut next: F,
+) -> io::Result<()>
+    requires some { 0 < length places.old }
+    requires callable { F.IsAlwaysCallable next }
+{
+    let count = list.number()?;
+    for _ in 0..count {
+        let at = list.room(places.len() - 1)?;
+        places[at] = next(list)?;
     }
+    Ok(())
 }
 
-fn read_customs(customs: &mut [f32; 64]) {
-    let count = replay::read_number();
-    for k in 0..count {
-        let at = replay::read_room(63);
-        customs[at] = replay::read_float();
-    }
+fn read_desk<R: Read + Drop>(list: &mut List<R>) -> io::Result<Desk> {
+    let mut desk = Desk {
+        numbers: [0; 609],
+        customs: [0.0; 64],
+        parts: [0; 320],
+    };
+    place(list, &mut desk.numbers, |list| list.number())?;
+    place(list, &mut desk.customs, |list| list.float())?;
+    place(list, &mut desk.parts, |list| list.wide())?;
+    Ok(desk)
 }
 
-fn read_parts(parts: &mut [u64; 320]) {
-    let count = replay::read_number();
-    for k in 0..count {
-        let at = replay::read_room(319);
-        parts[at] = replay::read_wide();
-    }
+fn read_buffers<R: Read + Drop>(list: &mut List<R>) -> io::Result<Buffers> {
+    let mut source = vec![in list.alloc; 0u8; SOURCE]?;
+    let mut planes = Planes::new(list.alloc, ROOM)?;
+    let mut carried = vec![in list.alloc; 0u8; ROOM]?;
+    list.fill(&mut source)?;
+    list.fill_planes(&mut planes)?;
+    list.fill(&mut carried)?;
+    Ok(Buffers {
+        source,
+        planes,
+        carried,
+    })
 }
 
 // ---- what is printed
@@ -50,273 +94,181 @@ fn bits_of(custom: f32) -> u32 {
     }
 }
 
-fn crc32_of_numbers(before: u32, numbers: &[u32]) -> u32 {
-    let mut crc = before;
-    for i in 0..numbers.len() {
-        crc = replay::crc32_of_number(crc, numbers[i]);
+// The bytes of the desk's three lists, one behind the other, low bytes first.
+fn bytes_of(alloc: Global, desk: &Desk) -> Result<Vec<u8>, AllocError> {
+    let mut bytes = Vec::new(alloc);
+    for number in &desk.numbers {
+        bytes.extend_from_slice(&number.to_le_bytes())?;
     }
-    crc
-}
-
-fn crc32_of_customs(before: u32, customs: &[f32]) -> u32 {
-    let mut crc = before;
-    for i in 0..customs.len() {
-        crc = replay::crc32_of_number(crc, bits_of(customs[i]));
+    for custom in &desk.customs {
+        bytes.extend_from_slice(&bits_of(*custom).to_le_bytes())?;
     }
-    crc
-}
-
-fn crc32_of_wide(crc: u32, number: u64) -> u32 {
-    let low = (number % 4294967296) as u32;
-    let high = (number / 4294967296) as u32;
-    replay::crc32_of_number(replay::crc32_of_number(crc, low), high)
-}
-
-fn crc32_of_parts(before: u32, parts: &[u64]) -> u32 {
-    let mut crc = before;
-    for i in 0..parts.len() {
-        crc = crc32_of_wide(crc, parts[i]);
+    for part in &desk.parts {
+        bytes.extend_from_slice(&part.to_le_bytes())?;
     }
-    crc
+    Ok(bytes)
 }
 
-// The digest of the desk's three lists, one behind the other, and the end of the line.
-fn print_desk(numbers: &[u32; 609], customs: &[f32; 64], parts: &[u64; 320]) {
-    let of_numbers = crc32_of_numbers(ALL_ONES, numbers);
-    let of_customs = crc32_of_customs(of_numbers, customs);
-    let of_parts = crc32_of_parts(of_customs, parts);
-    replay::print_digest(b" desk=", of_parts ^ ALL_ONES);
-    replay::print(b"\n");
+// The digest of the desk, and the end of the line.
+fn print_desk<W: Write + Drop>(alloc: Global, desk: &Desk, out: &mut W) -> io::Result<()> {
+    let bytes = bytes_of(alloc, desk)?;
+    let digest = Digest(&bytes);
+    writeln!(out, " desk={digest}")
 }
 
-fn print_label(history: u32, call: u32) {
-    replay::print_number(history as usize);
-    replay::print(b".");
-    replay::print_number(call as usize);
-    replay::print(b" ");
-}
-
-fn print_answer(number: u32, expected: usize, received: usize) {
-    replay::print_number(number as usize);
-    replay::print(b" ");
-    replay::print_number(expected);
-    replay::print(b" ");
-    replay::print_number(received);
-}
-
-fn print_step(number: u32, told: &[usize; 4]) {
-    print_answer(number, told[0], told[1]);
-    replay::print(b" served=");
-    replay::print_number(told[2]);
-    replay::print(b" camera=");
-    replay::print_number(told[3]);
-}
-
-fn print_buffers(y: &[u8], u: &[u8], v: &[u8], carried: &[u8]) {
-    replay::print_planes(y, u, v);
-    replay::print_buffer(b" carried=", carried);
+impl fmt::Display for Buffers {
+    fn fmt<W: fmt::Write>(&self, f: &mut fmt::Formatter<W>) -> fmt::Result {
+        let planes = &self.planes;
+        let carried = Digest(&self.carried);
+        write!(f, "{planes} carried={carried}")
+    }
 }
 
 // ---- the calls
 
-fn read_custom(custom: &mut [f32; 2]) {
-    custom[0] = replay::read_float();
-    custom[1] = replay::read_float();
-}
-
-// By numbers of a description that are still to be read.
-fn open_by(
-    camera: u32,
-    described: &mut [u32],
-    custom: &[f32; 2],
-    frame_parts: &[u64; 8],
-    lengths: &[u64; 4],
-    numbers: &mut [u32; 609],
-    customs: &mut [f32; 64],
-    parts: &mut [u64; 320],
-) {
-    let mut told = [0usize; 2];
-    replay::fill_numbers(described);
-    let number = desk_calls::call_desk_open(
-        camera,
-        described,
-        custom,
-        frame_parts,
-        lengths,
-        numbers,
-        customs,
-        parts,
-        &mut told,
-    );
-    print_answer(number, told[0], told[1]);
-    print_desk(numbers, customs, parts);
-}
-
-fn replay_opening(numbers: &mut [u32; 609], customs: &mut [f32; 64], parts: &mut [u64; 320]) {
+fn open<R: Read + Drop, W: Write + Drop>(
+    list: &mut List<R>,
+    desk: &mut Desk,
+    out: &mut W,
+) -> io::Result<()> {
     let mut custom = [0f32; 2];
     let mut frame_parts = [0u64; 8];
     let mut lengths = [0u64; 4];
-    let mut described = [0u32; 16];
-    let camera = replay::read_number();
-    read_custom(&mut custom);
-    replay::fill_wide(&mut frame_parts);
-    replay::fill_wide(&mut lengths);
-    let count = replay::read_room(DESCRIBED);
-    open_by(
+    let camera = list.number()?;
+    list.row(&mut custom, |list| list.float())?;
+    list.row(&mut frame_parts, |list| list.wide())?;
+    list.row(&mut lengths, |list| list.wide())?;
+    let count = list.room(DESCRIBED)?;
+    let mut described = vec![in list.alloc; 0u32; count]?;
+    list.row(&mut described, |list| list.number())?;
+    let mut told = [0usize; 2];
+    let number = desk_calls::call_desk_open(
         camera,
-        &mut described[0..count],
+        &described,
         &custom,
         &frame_parts,
         &lengths,
-        numbers,
-        customs,
-        parts,
+        &mut desk.numbers,
+        &mut desk.customs,
+        &mut desk.parts,
+        &mut told,
     );
+    let [expected, received] = told;
+    write!(out, "{number} {expected} {received}")
 }
 
-fn replay_offer(numbers: &mut [u32; 609], customs: &mut [f32; 64], parts: &mut [u64; 320]) {
+fn offer<R: Read + Drop, W: Write + Drop>(
+    list: &mut List<R>,
+    desk: &mut Desk,
+    out: &mut W,
+) -> io::Result<()> {
     let mut band = [0u32; 2];
-    let mut place = [0u64; 3];
-    let camera = replay::read_number();
-    replay::fill_numbers(&mut band);
-    replay::fill_wide(&mut place);
-    let number = desk_calls::call_desk_offer(camera, &band, &place, numbers, customs, parts);
-    replay::print_number(number as usize);
-    print_desk(numbers, customs, parts);
+    let mut part = [0u64; 3];
+    let camera = list.number()?;
+    list.row(&mut band, |list| list.number())?;
+    list.row(&mut part, |list| list.wide())?;
+    let number = desk_calls::call_desk_offer(
+        camera,
+        &band,
+        &part,
+        &mut desk.numbers,
+        &mut desk.customs,
+        &mut desk.parts,
+    );
+    write!(out, "{number}")
 }
 
-// On as much of each buffer as is lent.
-fn make_step(
-    source: &[u8],
-    y: &mut [u8],
-    u: &mut [u8],
-    v: &mut [u8],
-    carried: &mut [u8],
-    numbers: &mut [u32; 609],
-    customs: &mut [f32; 64],
-    parts: &mut [u64; 320],
-) {
+// On as much of each buffer as is lent. Answers the number of the refusal.
+fn make_step<R: Read + Drop>(
+    list: &mut List<R>,
+    desk: &mut Desk,
+    buffers: &mut Buffers,
+    told: &mut [usize; 4],
+) -> io::Result<u32> {
+    let source_length = list.room(buffers.source.len())?;
+    let y_length = list.room(buffers.planes.y.len())?;
+    let u_length = list.room(buffers.planes.u.len())?;
+    let v_length = list.room(buffers.planes.v.len())?;
+    let carried_length = list.room(buffers.carried.len())?;
+    Ok(desk_steps::call_desk_step(
+        &buffers.source[..source_length],
+        &mut buffers.planes.y[..y_length],
+        &mut buffers.planes.u[..u_length],
+        &mut buffers.planes.v[..v_length],
+        &mut buffers.carried[..carried_length],
+        &mut desk.numbers,
+        &mut desk.customs,
+        &mut desk.parts,
+        told,
+    ))
+}
+
+fn step<R: Read + Drop, W: Write + Drop>(
+    list: &mut List<R>,
+    desk: &mut Desk,
+    buffers: &mut Buffers,
+    out: &mut W,
+) -> io::Result<()> {
     let mut told = [0usize; 4];
-    let number = desk_steps::call_desk_step(
-        source, y, u, v, carried, numbers, customs, parts, &mut told,
-    );
-    print_step(number, &told);
-}
-
-fn replay_step(
-    source: &[u8],
-    y: &mut [u8],
-    u: &mut [u8],
-    v: &mut [u8],
-    carried: &mut [u8],
-    numbers: &mut [u32; 609],
-    customs: &mut [f32; 64],
-    parts: &mut [u64; 320],
-) {
-    let source_length = replay::read_length(source);
-    let y_length = replay::read_length(y);
-    let u_length = replay::read_length(u);
-    let v_length = replay::read_length(v);
-    let carried_length = replay::read_length(carried);
-    make_step(
-        &source[..source_length],
-        &mut y[..y_length],
-        &mut u[..u_length],
-        &mut v[..v_length],
-        &mut carried[..carried_length],
-        numbers,
-        customs,
-        parts,
-    );
-    print_buffers(y, u, v, carried);
-    print_desk(numbers, customs, parts);
+    let number = make_step(list, desk, buffers, &mut told)?;
+    let [expected, received, served, camera] = told;
+    write!(
+        out,
+        "{number} {expected} {received} served={served} camera={camera}{buffers}"
+    )
 }
 
 // Bytes of a length for the start of a part.
-fn deliver_to(part: &mut [u8]) {
-    let length = replay::read_length(part);
-    replay::fill(&mut part[..length]);
+fn deliver<R: Read + Drop>(list: &mut List<R>, source: &mut [u8]) -> io::Result<()> {
+    let offset = list.room(source.len())?;
+    let part = &mut source[offset..];
+    let length = list.room(part.len())?;
+    list.fill(&mut part[..length])
 }
 
-fn deliver(source: &mut [u8]) {
-    let offset = replay::read_length(source);
-    deliver_to(&mut source[offset..]);
-}
-
-fn replay_call(
+// A call of this kind, and its line.
+fn call<R: Read + Drop, W: Write + Drop>(
     kind: u32,
-    numbers: &mut [u32; 609],
-    customs: &mut [f32; 64],
-    parts: &mut [u64; 320],
-) {
-    if kind == OPENING {
-        replay_opening(numbers, customs, parts);
-        return;
+    list: &mut List<R>,
+    desk: &mut Desk,
+    buffers: &mut Buffers,
+    out: &mut W,
+) -> io::Result<()> {
+    match kind {
+        OPENING => open(list, desk, out)?,
+        STEP => step(list, desk, buffers, out)?,
+        _ => offer(list, desk, out)?,
     }
-    replay_offer(numbers, customs, parts);
+    print_desk(list.alloc, desk, out)
 }
 
-fn replay_ask(
+// The buffers, the desk, and what is asked, all of it on these.
+fn history<R: Read + Drop, W: Write + Drop>(
     history: u32,
-    call: u32,
-    source: &mut [u8; 1024],
-    y: &mut [u8; 512],
-    u: &mut [u8; 512],
-    v: &mut [u8; 512],
-    carried: &mut [u8; 512],
-    numbers: &mut [u32; 609],
-    customs: &mut [f32; 64],
-    parts: &mut [u64; 320],
-) {
-    let kind = replay::read_number();
-    if kind == DELIVERY {
-        deliver(source);
-        return;
-    }
-    print_label(history, call);
-    if kind == STEP {
-        replay_step(source, y, u, v, carried, numbers, customs, parts);
-        return;
-    }
-    replay_call(kind, numbers, customs, parts);
+    list: &mut List<R>,
+    out: &mut W,
+) -> io::Result<()> {
+    let mut buffers = read_buffers(list)?;
+    let mut desk = read_desk(list)?;
+    replay::each(list, out, |place, list, out| {
+        let kind = list.number()?;
+        if kind == DELIVERY {
+            return deliver(list, &mut buffers.source);
+        }
+        write!(out, "{history}.{place} ")?;
+        call(kind, list, &mut desk, &mut buffers, out)
+    })
 }
 
-// The desk, the buffers, and what is asked, all of it on these.
-fn replay_history(history: u32) {
-    let mut source = [0u8; 1024];
-    let mut y = [0u8; 512];
-    let mut u = [0u8; 512];
-    let mut v = [0u8; 512];
-    let mut carried = [0u8; 512];
-    let mut numbers = [0u32; 609];
-    let mut customs = [0f32; 64];
-    let mut parts = [0u64; 320];
-    replay::fill(&mut source);
-    replay::fill_planes(&mut y, &mut u, &mut v);
-    replay::fill(&mut carried);
-    read_numbers(&mut numbers);
-    read_customs(&mut customs);
-    read_parts(&mut parts);
-    let count = replay::read_number();
-    for call in 0..count {
-        replay_ask(
-            history,
-            call + 1,
-            &mut source,
-            &mut y,
-            &mut u,
-            &mut v,
-            &mut carried,
-            &mut numbers,
-            &mut customs,
-            &mut parts,
-        );
-    }
-}
-
-fn main() {
-    let count = replay::read_number();
-    for history in 0..count {
-        replay_history(history + 1);
-    }
+fn main(rt: HostRuntime) -> io::Result<()> {
+    let alloc = rt.alloc();
+    let from = BufReader::new(alloc, rt.reader())?;
+    let mut list = List { from, alloc };
+    let mut out = BufWriter::new(alloc, io::writer(&rt))?;
+    replay::each(
+        &mut list,
+        &mut out,
+        |number, list, out| history(number, list, out),
+    )?;
+    out.flush()
 }

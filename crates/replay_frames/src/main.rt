@@ -1,46 +1,35 @@
 // Makes the frame calls of a stored list, its standard input, and prints a line of what came of each. vectors/README.md has both forms.
 #![tactic(auto)]
 
-use yuv_error::YuvAnswer;
+use replay::{Answer, List};
+use std::io;
+use std::io::{BufReader, BufWriter, Read, Write};
 
-fn make(source: &mut [u8], y: &mut [u8], u: &mut [u8], v: &mut [u8]) -> YuvAnswer {
-    let frame = replay::read_frame();
-    let stride = replay::read_number();
-    replay::fill(source);
-    replay::fill_planes(y, u, v);
-    sharp_rgba_to_yuv::rgbx_to_sharp_yuv(frame, source, stride, y, u, v)
+// The most bytes of a buffer.
+const ROOM: usize = 65536;
+
+fn call<R: Read + Drop, W: Write + Drop>(list: &mut List<R>, out: &mut W) -> io::Result<()> {
+    let mut source = list.buffer(ROOM)?;
+    let mut planes = list.planes(ROOM)?;
+    let frame = list.frame()?;
+    let stride = list.number()?;
+    list.fill(&mut source)?;
+    list.fill_planes(&mut planes)?;
+    let answer = Answer(sharp_rgba_to_yuv::rgbx_to_sharp_yuv(
+        frame,
+        &source,
+        stride,
+        &mut planes.y,
+        &mut planes.u,
+        &mut planes.v,
+    ));
+    write!(out, "{answer}{planes}")
 }
 
-// On buffers of the call's lengths.
-fn replay_on(call: u32, source: &mut [u8], y: &mut [u8], u: &mut [u8], v: &mut [u8]) {
-    let answer = make(source, y, u, v);
-    replay::print_number(call as usize);
-    replay::print_answer(answer);
-    replay::print_planes(y, u, v);
-    replay::print(b"\n");
-}
-
-fn replay_call(call: u32) {
-    let mut source = io::large_buffer();
-    let mut y = io::large_buffer();
-    let mut u = io::large_buffer();
-    let mut v = io::large_buffer();
-    let source_length = replay::read_length(&source);
-    let y_length = replay::read_length(&y);
-    let u_length = replay::read_length(&u);
-    let v_length = replay::read_length(&v);
-    replay_on(
-        call,
-        &mut source[..source_length],
-        &mut y[..y_length],
-        &mut u[..u_length],
-        &mut v[..v_length],
-    );
-}
-
-fn main() {
-    let count = replay::read_number();
-    for call in 0..count {
-        replay_call(call + 1);
-    }
+fn main(rt: HostRuntime) -> io::Result<()> {
+    let alloc = rt.alloc();
+    let from = BufReader::new(alloc, rt.reader())?;
+    let mut list = List { from, alloc };
+    let mut out = BufWriter::new(alloc, io::writer(&rt))?;
+    replay::replay(&mut list, &mut out, |list, out| call(list, out))
 }

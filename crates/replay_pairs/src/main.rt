@@ -1,52 +1,36 @@
 // Makes the pairings of a stored list, its standard input, and prints a line of what came of each. vectors/README.md has both forms.
 #![tactic(auto)]
 
+use replay::{Answer, List, Numbers};
+use std::io;
+use std::io::{BufReader, BufWriter, Read, Write};
+
+// The most bytes of a file.
+const ROOM: usize = 65536;
+
 // What stands in each number of the report before a call.
 const BEFORE: u64 = 9;
 
-fn print_report(numbers: &[u64]) {
-    replay::print(b" report");
-    for i in 0..numbers.len() {
-        replay::print(b" ");
-        replay::print_number(numbers[i] as usize);
-    }
-}
-
-fn pair_files(ours: &[u8], theirs: &[u8]) {
-    let pairing = shift_pairs::pair_files(
-        shift_file::form_of(ours),
-        ours,
-        shift_file::form_of(theirs),
-        theirs,
-    );
+fn call<R: Read + Drop, W: Write + Drop>(list: &mut List<R>, out: &mut W) -> io::Result<()> {
+    let mut ours = list.buffer(ROOM)?;
+    let mut theirs = list.buffer(ROOM)?;
+    list.fill(&mut ours)?;
+    list.fill(&mut theirs)?;
+    let our_form = shift_file::form_of(&ours);
+    let their_form = shift_file::form_of(&theirs);
+    let pairing = shift_pairs::pair_files(our_form, &ours, their_form, &theirs);
     let mut numbers = [BEFORE; 18];
     report_numbers::tell_pairing(pairing, &mut numbers);
-    let answer = pairing.answer;
-    replay::print_answer(answer);
-    replay::print(b" broken=");
-    replay::print_number(pairing.broken as usize);
-    print_report(&numbers);
+    let answer = Answer(pairing.answer);
+    let broken = pairing.broken;
+    let report = Numbers(&numbers);
+    write!(out, "{answer} broken={broken} report{report}")
 }
 
-fn pair_on(ours: &mut [u8], theirs: &mut [u8]) {
-    replay::fill(ours);
-    replay::fill(theirs);
-    pair_files(ours, theirs);
-}
-
-fn replay_pairing(place: u32) {
-    let mut ours = io::large_buffer();
-    let mut theirs = io::large_buffer();
-    let our_length = replay::read_length(&ours);
-    let their_length = replay::read_length(&theirs);
-    replay::print_number(place as usize);
-    pair_on(&mut ours[..our_length], &mut theirs[..their_length]);
-    replay::print(b"\n");
-}
-
-fn main() {
-    let count = replay::read_number();
-    for place in 0..count {
-        replay_pairing(place + 1);
-    }
+fn main(rt: HostRuntime) -> io::Result<()> {
+    let alloc = rt.alloc();
+    let from = BufReader::new(alloc, rt.reader())?;
+    let mut list = List { from, alloc };
+    let mut out = BufWriter::new(alloc, io::writer(&rt))?;
+    replay::replay(&mut list, &mut out, |list, out| call(list, out))
 }

@@ -7,51 +7,20 @@
 // tools/requests.py makes both files.
 #![tactic(auto)]
 
-ghost use Rattle.std.specs.Prelude.{◌≡◌, length};
+use replay_text::Reply;
+use std::io;
+use std::io::{BufReader, BufWriter, Write};
 
-const STDIN_FILENO: i32 = 0;
-
-const STDOUT_FILENO: i32 = 1;
-
-fn output_buffer() -> [u8; 49152]
-    ensures { 49152 ≡ length result }
-{
-    [0; 49152]
+fn reply<W: Write + Drop>(request: &[u8], out: &mut W) -> io::Result<()> {
+    let mut output = [0; 49152];
+    let size = frame_request::reply_to(request, &mut output);
+    let reply = Reply(&output[..size]);
+    write!(out, "{reply}")
 }
 
-// One byte past the largest request.
-fn request_buffer() -> [u8; 65546]
-    ensures { 65546 ≡ length result }
-{
-    [0; 65546]
-}
-
-fn replay_line(line: &[u8]) {
-    let mut request = request_buffer();
-    let mut output = output_buffer();
-    let size = replay_text::read_named(line, &mut request);
-    let bytes = frame_request::reply_to(&request[0..size], &mut output);
-    replay_text::print_reply(&output[..bytes]);
-    replay::print(b"\n");
-}
-
-// Answers how many lines there are.
-fn replay_lines(text: &[u8]) -> u64 {
-    let mut count = 0;
-    let mut at = 0;
-    while at < text.len() {
-        let end = replay_text::find(text, at, text.len(), b'\n');
-        replay_line(&text[at..end]);
-        count += 1;
-        at = end + 1;
-    }
-    count
-}
-
-fn main() {
-    let mut text = io::large_buffer();
-    let size = io::read_full(STDIN_FILENO, &mut text);
-    let count = replay_lines(&text[..size]);
-    io::print_decimal(STDOUT_FILENO, count);
-    io::write_all(STDOUT_FILENO, b" requests\n");
+fn main(rt: HostRuntime) -> io::Result<()> {
+    let alloc = rt.alloc();
+    let text = BufReader::new(alloc, rt.reader())?;
+    let mut out = BufWriter::new(alloc, io::writer(&rt))?;
+    replay_text::replay(alloc, text, &mut out, |request, out| reply(request, out))
 }

@@ -1,120 +1,96 @@
 // Makes the calls on summaries of a stored list, its standard input, and prints a line of what came of each. vectors/README.md has both forms.
 #![tactic(auto)]
 
+use replay::{Answer, Digest, List};
+use std::io::{BufReader, BufWriter, Read, Write};
+use std::{fmt, io};
 use summary_calls::FoundRecord;
-use yuv_error::YuvAnswer;
 
-fn print_summary(answer: YuvAnswer, summary: &[u8]) {
-    replay::print_answer(answer);
-    replay::print_buffer(b" summary=", summary);
-}
+// The most bytes of a file and of a summary.
+const ROOM: usize = 65536;
 
-fn build_on(file: &mut [u8], summary: &mut [u8]) {
-    replay::fill(file);
-    replay::fill(summary);
-    let answer = summary_calls::build_summary(shift_file::form_of(file), file, summary);
-    print_summary(answer, summary);
-}
+// The record that a lookup found, if any.
+#[derive(Clone, Copy)]
+struct Found(FoundRecord);
 
-fn print_yes(yes: bool) {
-    if yes {
-        replay::print(b" yes=1");
-    } else {
-        replay::print(b" yes=0");
+impl fmt::Display for Found {
+    fn fmt<W: fmt::Write>(&self, f: &mut fmt::Formatter<W>) -> fmt::Result {
+        match self.0 {
+            FoundRecord::At(record) => write!(f, " found=1 record={record}"),
+            FoundRecord::Nowhere => write!(f, " found=0 record=0"),
+        }
     }
 }
 
-fn check_on(file: &mut [u8], summary: &mut [u8]) {
-    replay::fill(file);
-    replay::fill(summary);
+fn build<W: Write + Drop>(file: &[u8], summary: &mut [u8], out: &mut W) -> io::Result<()> {
+    let form = shift_file::form_of(file);
+    let answer = Answer(summary_calls::build_summary(form, file, summary));
+    let digest = Digest(summary);
+    write!(out, "{answer} summary={digest}")
+}
+
+fn check<W: Write + Drop>(file: &[u8], summary: &[u8], out: &mut W) -> io::Result<()> {
     let verdict = summary_calls::check_summary(shift_file::form_of(file), file, summary);
-    let answer = verdict.answer;
-    replay::print_answer(answer);
-    print_yes(verdict.is_summary);
+    let answer = Answer(verdict.answer);
+    let yes = u8::from(verdict.is_summary);
+    write!(out, "{answer} yes={yes}")
 }
 
-fn print_found(found: FoundRecord) {
-    match found {
-        FoundRecord::At(record) => {
-            replay::print(b" found=1 record=");
-            replay::print_number(record);
-        }
-        FoundRecord::Nowhere => {
-            replay::print(b" found=0 record=0");
-        }
-    }
+fn find<W: Write + Drop>(
+    file: &[u8],
+    summary: &[u8],
+    crossing: u32,
+    out: &mut W,
+) -> io::Result<()> {
+    let form = shift_file::form_of(file);
+    let finding = summary_calls::find_record(form, file, summary, crossing);
+    let answer = Answer(finding.answer);
+    let found = Found(finding.found);
+    write!(out, "{answer}{found}")
 }
 
-fn find_on(file: &mut [u8], summary: &mut [u8]) {
-    let crossing = replay::read_number();
-    replay::fill(file);
-    replay::fill(summary);
-    let finding = summary_calls::find_record(shift_file::form_of(file), file, summary, crossing);
-    let answer = finding.answer;
-    let found = finding.found;
-    replay::print_answer(answer);
-    print_found(found);
-}
-
-fn update_on(file: &mut [u8], added: &mut [u8], summary: &mut [u8]) {
-    replay::fill(file);
-    replay::fill(added);
-    replay::fill(summary);
-    let answer = summary_update::update_summary(shift_file::form_of(file), file, added, summary);
-    print_summary(answer, summary);
+fn update<R: Read + Drop, W: Write + Drop>(list: &mut List<R>, out: &mut W) -> io::Result<()> {
+    let mut file = list.buffer(ROOM)?;
+    let mut added = list.buffer(ROOM)?;
+    let mut summary = list.buffer(ROOM)?;
+    list.fill(&mut file)?;
+    list.fill(&mut added)?;
+    list.fill(&mut summary)?;
+    let form = shift_file::form_of(&file);
+    let answer = Answer(summary_update::update_summary(form, &file, &added, &mut summary));
+    let digest = Digest(&summary);
+    write!(out, "{answer} summary={digest}")
 }
 
 // A call of this kind on a file and a buffer for its summary.
-fn call_on(kind: u32, file: &mut [u8], summary: &mut [u8]) {
-    if kind == 0 {
-        build_on(file, summary);
-    } else if kind == 1 {
-        check_on(file, summary);
-    } else {
-        find_on(file, summary);
+fn call_on_two<R: Read + Drop, W: Write + Drop>(
+    kind: u32,
+    list: &mut List<R>,
+    out: &mut W,
+) -> io::Result<()> {
+    let mut file = list.buffer(ROOM)?;
+    let mut summary = list.buffer(ROOM)?;
+    let crossing = if kind < 2 { 0 } else { list.number()? };
+    list.fill(&mut file)?;
+    list.fill(&mut summary)?;
+    match kind {
+        0 => build(&file, &mut summary, out),
+        1 => check(&file, &summary, out),
+        _ => find(&file, &summary, crossing, out),
     }
 }
 
-fn replay_on_two(kind: u32) {
-    let mut file = io::large_buffer();
-    let mut summary = io::large_buffer();
-    let file_length = replay::read_length(&file);
-    let summary_length = replay::read_length(&summary);
-    call_on(
-        kind,
-        &mut file[..file_length],
-        &mut summary[..summary_length],
-    );
-}
-
-fn replay_update() {
-    let mut file = io::large_buffer();
-    let mut added = io::large_buffer();
-    let mut summary = io::large_buffer();
-    let file_length = replay::read_length(&file);
-    let added_length = replay::read_length(&added);
-    let summary_length = replay::read_length(&summary);
-    update_on(
-        &mut file[..file_length],
-        &mut added[..added_length],
-        &mut summary[..summary_length],
-    );
-}
-
-fn replay_call(call: u32) {
-    let kind = replay::read_number();
-    replay::print_number(call as usize);
-    if kind == 3 {
-        replay_update();
-    } else {
-        replay_on_two(kind);
+fn call<R: Read + Drop, W: Write + Drop>(list: &mut List<R>, out: &mut W) -> io::Result<()> {
+    match list.number()? {
+        3 => update(list, out),
+        kind => call_on_two(kind, list, out),
     }
-    replay::print(b"\n");
 }
 
-fn main() {
-    let count = replay::read_number();
-    for call in 0..count {
-        replay_call(call + 1);
-    }
+fn main(rt: HostRuntime) -> io::Result<()> {
+    let alloc = rt.alloc();
+    let from = BufReader::new(alloc, rt.reader())?;
+    let mut list = List { from, alloc };
+    let mut out = BufWriter::new(alloc, io::writer(&rt))?;
+    replay::replay(&mut list, &mut out, |list, out| call(list, out))
 }

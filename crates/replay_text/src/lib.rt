@@ -5,11 +5,32 @@
 //     one colour, 128 by 128 | 80 00 80 00 00 00 00 00 00 10 20 30 * 49161
 #![tactic(auto)]
 
-ghost use Rattle.std.specs.Prelude.{◌≡◌, ℕ, ◌≤◌, ◌<◌, length, slice_index};
+ghost use Rattle.std.specs.Prelude.{◌≡◌, ◌≢◌, ℕ, ◌<◌, ◌↔◌, All, length, slice_index, IfSome, IsNone};
 
-use replay::print;
+use replay::Digest;
+use std::alloc::{AllocError, Global};
+use std::io::{BufRead, Write};
+use std::{fmt, io};
 
-const STDOUT_FILENO: i32 = 1;
+// How many bytes of a request stand before those that come again.
+const HEADER: usize = 9;
+
+// The index of the first such byte.
+pub fn find(text: &[u8], byte: u8) -> Option<usize>
+    ensures none { IsNone result ↔ All (λ b. b ≢ byte) text.now }
+    ensures found { IfSome result (λ i. (i < length text.now) × (slice_index text.now i ≡ byte)) }
+    ensures first { IfSome result (λ i. (k : ℕ) → k < i → slice_index text.now k ≢ byte) }
+{
+    text.iter().position(|b| *b == byte)
+}
+
+// What stands before the first such byte and what stands behind it, or all and nothing.
+fn cut(text: &[u8], byte: u8) -> (&[u8], &[u8]) {
+    match find(text, byte) {
+        Some(i) => (&text[..i], &text[i + 1..]),
+        None => (text, &[]),
+    }
+}
 
 // The value of a digit in base 16; 0 for any other byte.
 fn digit(b: u8) -> u8
@@ -22,131 +43,82 @@ fn digit(b: u8) -> u8
     }
 }
 
-fn least(a: usize, b: usize) -> usize
-    ensures { (result ≤ a) × (result ≤ b) }
-{
-    if a < b { a } else { b }
-}
-
 // The bytes of ` 01 00 FF`: two digits each, and a space before them.
-fn read_bytes(text: &[u8], request: &mut [u8]) -> usize
-    ensures { result ≤ length request.new }
-{
-    let count = least(text.len() / 3, request.len());
-    for n in 0..count {
-        request[n] = digit(text[3 * n + 1]) * 16 + digit(text[3 * n + 2]);
+fn read_bytes(alloc: Global, text: &[u8]) -> Result<Vec<u8>, AllocError> {
+    let mut bytes = Vec::new(alloc);
+    let (words, _) = text.as_chunks::<3>();
+    for [_, high, low] in words {
+        bytes.push(digit(*high) * 16 + digit(*low))?;
     }
-    count
+    Ok(bytes)
 }
 
 // A number with one digit more, of which the last six count; a byte that is no digit changes nothing.
-fn with_digit(n: usize, b: u8) -> usize
-    requires { n < 1000000 }
-    ensures { result < 1000000 }
-{
+fn with_digit(n: usize, b: u8) -> usize {
     match b {
-        b'0'..=b'9' => (10 * n + (b - b'0') as usize) % 1000000,
+        b'0'..=b'9' => (10 * (n % 1000000) + (b - b'0') as usize) % 1000000,
         _ => n,
     }
 }
 
 fn read_number(text: &[u8]) -> usize {
-    let mut n = 0;
-    for i in 0..text.len() {
-        n = with_digit(n, text[i]);
-    }
-    n
-}
-
-// Makes a request of `given` bytes as long as `size`, by those past its ninth.
-fn repeat(request: &mut [u8], given: usize, size: usize) -> usize
-    requires { given ≤ length request.old }
-    ensures { result ≤ length request.new }
-{
-    if given <= 9 || request.len() < size {
-        return given;
-    }
-    let period = given - 9;
-    let mut n = given;
-    while n < size {
-        request[n] = request[n - period];
-        n += 1;
-    }
-    n
+    text.iter().fold(0, |n, b| with_digit(n, *b))
 }
 
 // The bytes of ` 01 00 FF`, or of ` 01 00 FF * 9`.
-fn read_request(text: &[u8], request: &mut [u8]) -> usize
-    ensures { result ≤ length request.new }
-{
-    let star = find(text, 0, text.len(), b'*');
-    let given = read_bytes(&text[0..star], request);
-    if star == text.len() {
-        return given;
-    }
-    repeat(request, given, read_number(&text[star..]))
-}
-
-// Prints what stands before the bar of a line, and the bar; answers how many bytes its request has, which are then at the start of `request`.
-pub fn read_named(line: &[u8], request: &mut [u8]) -> usize
-    ensures { result ≤ length request.new }
-{
-    let bar = find(line, 0, line.len(), b'|');
-    let from = least(bar + 1, line.len());
-    print(&line[0..bar]);
-    print(b"| ");
-    read_request(&line[from..], request)
-}
-
-// Where line n of a text starts, counted from 0, or the text's end.
-fn line_start(text: &[u8], n: usize) -> usize
-    ensures { result ≤ length text.now }
-{
-    let mut at = 0;
-    for _ in 0..n {
-        at = least(find(text, at, text.len(), b'\n') + 1, text.len());
-    }
-    at
-}
-
-// Prints line n of a reply, behind a comma.
-pub fn print_line(reply: &[u8], n: usize) {
-    let start = line_start(reply, n);
-    let end = find(reply, start, reply.len(), b'\n');
-    print(b", ");
-    print(&reply[start..end]);
-}
-
-fn print_bytes(bytes: &[u8]) {
-    for i in 0..bytes.len() {
-        io::print_hex(STDOUT_FILENO, bytes[i] as u64, 2);
-    }
-}
-
-// Prints how many bytes a program writes for a request, and these bytes, or their digest where they are more than 40.
-pub fn print_reply(reply: &[u8]) {
-    replay::print_number(reply.len());
-    if reply.len() <= 40 {
-        print(b" bytes ");
-        print_bytes(reply);
-    } else {
-        replay::print_buffer(b" bytes, CRC-32 ", reply);
-    }
-}
-
-// The index of the first such byte from `from` on and before `to`, or `to` where there is none.
-pub fn find(text: &[u8], from: usize, to: usize, byte: u8) -> usize
-    requires order { from ≤ to }
-    requires within { to ≤ length text.now }
-    ensures low { from ≤ result }
-    ensures high { result ≤ to }
-    ensures found { result < to → slice_index text.now result ≡ byte }
-    ensures first { (i : ℕ) → from ≤ i → i < result → slice_index text.now i ≡ byte → ⊥ }
-{
-    for i in from..to {
-        if text[i] == byte {
-            return i;
+fn read_request(alloc: Global, text: &[u8]) -> Result<Vec<u8>, AllocError> {
+    let (words, size) = cut(text, b'*');
+    let mut request = read_bytes(alloc, words)?;
+    if request.len() > HEADER {
+        let missing = read_number(size).saturating_sub(request.len());
+        let body = Vec::from_slice(alloc, &request[HEADER..])?;
+        for byte in body.iter().cycle().take(missing) {
+            request.push(*byte)?;
         }
     }
-    to
+    Ok(request)
+}
+
+// What a program writes for a request: how many bytes, and these bytes, or their digest where they are more than 40.
+#[derive(Clone, Copy)]
+pub struct Reply<'a>(pub &'a [u8]);
+
+impl fmt::Display for Reply<'_> {
+    fn fmt<W: fmt::Write>(&self, f: &mut fmt::Formatter<W>) -> fmt::Result {
+        let size = self.0.len();
+        if size > 40 {
+            let digest = Digest(self.0);
+            return write!(f, "{size} bytes, CRC-32 {digest}");
+        }
+        write!(f, "{size} bytes ")?;
+        for byte in self.0 {
+            write!(f, "{byte:02x}")?;
+        }
+        Ok(())
+    }
+}
+
+// Makes the request of each line, and prints a line of each: its name, a bar, and what the call prints of the reply. The last line
+// counts the requests.
+pub fn replay<T: BufRead + Drop, W: Write + Drop, F: FnMut(&[u8], &mut W) -> io::Result<()>>(
+    alloc: Global,
+    text: T,
+    out: &mut W,
+    mut call: F,
+) -> io::Result<()>
+    requires { F.IsAlwaysCallable call }
+{
+    let mut count = 0u64;
+    for line in text.split(alloc, b'\n') {
+        let line = line?;
+        let (name, words) = cut(&line, b'|');
+        let request = read_request(alloc, words)?;
+        out.write_all(name)?;
+        out.write_all(b"| ")?;
+        call(&request, out)?;
+        out.write_all(b"\n")?;
+        count = count.saturating_add(1);
+    }
+    writeln!(out, "{count} requests")?;
+    out.flush()
 }

@@ -1,158 +1,113 @@
 // Makes the calls on Y4M files of a stored list, its standard input, and prints a line of what came of each. vectors/README.md has both forms.
 #![tactic(auto)]
 
-ghost use Rattle.std.specs.Prelude.{◌≡◌, ◌≤◌, length};
-
+use replay::{Answer, Digest, List, Numbers};
+use std::io::{BufReader, BufWriter, Read, Write};
+use std::{fmt, io};
 use y4m_picture::PictureFrame;
 use y4m_reader::Y4mReading;
 use y4m_writer::Y4mWritten;
+
+// The most bytes of a file that is read, and of any other buffer.
+const FILE: usize = 131072;
+
+const ROOM: usize = 65536;
 
 // The most numbers that a call of the list lends for entries, and what stands in each before the call.
 const NUMBERS: usize = 36;
 
 const BEFORE: u64 = 9;
 
-fn read_wide() -> usize {
-    let low = replay::read_number() as usize;
-    let high = replay::read_number() as usize;
-    low + 4294967296 * high
-}
+#[derive(Clone, Copy)]
+struct Reading(Y4mReading);
 
-// The next number, at most `NUMBERS`.
-fn read_room() -> usize
-    ensures { result ≤ 36 }
-{
-    let room = replay::read_number() as usize;
-    if room > NUMBERS { NUMBERS } else { room }
-}
-
-fn print_entries(entries: &[u64]) {
-    replay::print(b" entries");
-    for i in 0..entries.len() {
-        replay::print(b" ");
-        replay::print_number(entries[i] as usize);
+impl fmt::Display for Reading {
+    fn fmt<W: fmt::Write>(&self, f: &mut fmt::Formatter<W>) -> fmt::Result {
+        let answer = Answer(self.0.answer);
+        let width = self.0.width;
+        let height = self.0.height;
+        let sampling = self.0.sampling;
+        let count = self.0.count;
+        let told = self.0.told;
+        write!(f, "{answer} width={width} height={height}")?;
+        write!(f, " sampling={sampling} count={count} told={told}")
     }
 }
 
-fn print_reading(reading: Y4mReading) {
-    let answer = reading.answer;
-    replay::print_answer(answer);
-    replay::print(b" width=");
-    replay::print_number(reading.width);
-    replay::print(b" height=");
-    replay::print_number(reading.height);
-    replay::print(b" sampling=");
-    replay::print_number(reading.sampling as usize);
-    replay::print(b" count=");
-    replay::print_number(reading.count);
-    replay::print(b" told=");
-    replay::print_number(reading.told);
-}
+#[derive(Clone, Copy)]
+struct Written(Y4mWritten);
 
-fn read_on(file: &mut [u8], first: usize, entries: &mut [u64]) {
-    replay::fill(file);
-    let reading = y4m_reader::read_pictures(file, first, entries);
-    print_reading(reading);
-    print_entries(entries);
-}
-
-// Room for a file of 131,072 bytes.
-fn file_buffer() -> [u8; 131072]
-    ensures { 131072 ≡ length result }
-{
-    [0; 131072]
-}
-
-fn replay_reading() {
-    let mut file = file_buffer();
-    let mut entries = [BEFORE; 36];
-    let length = replay::read_length(&file);
-    let first = read_wide();
-    let room = read_room();
-    read_on(&mut file[..length], first, &mut entries[0..room]);
-}
-
-fn print_written(written: Y4mWritten, output: &[u8]) {
-    let answer = written.answer;
-    replay::print_answer(answer);
-    replay::print(b" size=");
-    replay::print_number(written.size);
-    replay::print_buffer(b" output=", output);
-}
-
-fn write_on(pictures: &mut [u8], output: &mut [u8]) {
-    let width = replay::read_number() as usize;
-    let height = replay::read_number() as usize;
-    let sampling = replay::read_number();
-    replay::fill(pictures);
-    replay::fill(output);
-    let written = y4m_writer::write_pictures(sampling, width, height, pictures, output);
-    print_written(written, output);
-}
-
-fn replay_writing() {
-    let mut pictures = io::large_buffer();
-    let mut output = io::large_buffer();
-    let pictures_length = replay::read_length(&pictures);
-    let output_length = replay::read_length(&output);
-    write_on(
-        &mut pictures[..pictures_length],
-        &mut output[..output_length],
-    );
-}
-
-fn picture_on(y: &mut [u8], u: &mut [u8], v: &mut [u8], output: &mut [u8]) {
-    let frame = PictureFrame {
-        width: replay::read_number(),
-        height: replay::read_number(),
-        sampling: replay::read_number(),
-        y_stride: replay::read_number(),
-        u_stride: replay::read_number(),
-        v_stride: replay::read_number(),
-    };
-    replay::fill_planes(y, u, v);
-    replay::fill(output);
-    let written = y4m_picture::write_picture(frame, y, u, v, output);
-    print_written(written, output);
-}
-
-fn replay_picture() {
-    let mut y = io::large_buffer();
-    let mut u = io::large_buffer();
-    let mut v = io::large_buffer();
-    let mut output = io::large_buffer();
-    let y_length = replay::read_length(&y);
-    let u_length = replay::read_length(&u);
-    let v_length = replay::read_length(&v);
-    let output_length = replay::read_length(&output);
-    picture_on(
-        &mut y[..y_length],
-        &mut u[..u_length],
-        &mut v[..v_length],
-        &mut output[..output_length],
-    );
-}
-
-fn replay_kind(kind: u32) {
-    if kind == 0 {
-        replay_reading();
-    } else if kind == 1 {
-        replay_writing();
-    } else {
-        replay_picture();
+impl fmt::Display for Written {
+    fn fmt<W: fmt::Write>(&self, f: &mut fmt::Formatter<W>) -> fmt::Result {
+        let answer = Answer(self.0.answer);
+        let size = self.0.size;
+        write!(f, "{answer} size={size}")
     }
 }
 
-fn replay_call(call: u32) {
-    let kind = replay::read_number();
-    replay::print_number(call as usize);
-    replay_kind(kind);
-    replay::print(b"\n");
+fn read<R: Read + Drop, W: Write + Drop>(list: &mut List<R>, out: &mut W) -> io::Result<()> {
+    let mut file = list.buffer(FILE)?;
+    let first = list.wide()? as usize;
+    let room = list.room(NUMBERS)?;
+    list.fill(&mut file)?;
+    let mut entries = vec![in list.alloc; BEFORE; room]?;
+    let reading = Reading(y4m_reader::read_pictures(&file, first, &mut entries));
+    let entries = Numbers(&entries);
+    write!(out, "{reading} entries{entries}")
 }
 
-fn main() {
-    let count = replay::read_number();
-    for call in 0..count {
-        replay_call(call + 1);
+fn write<R: Read + Drop, W: Write + Drop>(list: &mut List<R>, out: &mut W) -> io::Result<()> {
+    let mut pictures = list.buffer(ROOM)?;
+    let mut output = list.buffer(ROOM)?;
+    let width = list.number()? as usize;
+    let height = list.number()? as usize;
+    let sampling = list.number()?;
+    list.fill(&mut pictures)?;
+    list.fill(&mut output)?;
+    let written = y4m_writer::write_pictures(sampling, width, height, &pictures, &mut output);
+    let written = Written(written);
+    let output = Digest(&output);
+    write!(out, "{written} output={output}")
+}
+
+fn read_frame<R: Read + Drop>(list: &mut List<R>) -> io::Result<PictureFrame> {
+    Ok(PictureFrame {
+        width: list.number()?,
+        height: list.number()?,
+        sampling: list.number()?,
+        y_stride: list.number()?,
+        u_stride: list.number()?,
+        v_stride: list.number()?,
+    })
+}
+
+fn write_picture<R: Read + Drop, W: Write + Drop>(
+    list: &mut List<R>,
+    out: &mut W,
+) -> io::Result<()> {
+    let mut planes = list.planes(ROOM)?;
+    let mut output = list.buffer(ROOM)?;
+    let frame = read_frame(list)?;
+    list.fill_planes(&mut planes)?;
+    list.fill(&mut output)?;
+    let written = y4m_picture::write_picture(frame, &planes.y, &planes.u, &planes.v, &mut output);
+    let written = Written(written);
+    let output = Digest(&output);
+    write!(out, "{written} output={output}")
+}
+
+fn call<R: Read + Drop, W: Write + Drop>(list: &mut List<R>, out: &mut W) -> io::Result<()> {
+    match list.number()? {
+        0 => read(list, out),
+        1 => write(list, out),
+        _ => write_picture(list, out),
     }
+}
+
+fn main(rt: HostRuntime) -> io::Result<()> {
+    let alloc = rt.alloc();
+    let from = BufReader::new(alloc, rt.reader())?;
+    let mut list = List { from, alloc };
+    let mut out = BufWriter::new(alloc, io::writer(&rt))?;
+    replay::replay(&mut list, &mut out, |list, out| call(list, out))
 }

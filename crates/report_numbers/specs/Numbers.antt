@@ -1,13 +1,13 @@
 -- The eighteen numbers of a report: docs/RULES.md, 10.7.
 -- Assumes nothing.
-use Rattle.std.specs.Prelude.{ℕ, List, [], ◌∷◌}
-use Rattle.yuv_error.specs.declared.YuvAnswer.{YuvAnswer}
-use Rattle.yuv_error.specs.declared.YuvAnswer.TheVariants.{Finished, Refused}
+use Rattle.std.specs.Prelude.{ℕ, List, [], ◌∷◌, Option, Some, None, Result, Ok, Err}
+use Rattle.yuv_error.specs.declared.YuvError.{YuvError}
 use Rattle.setting_codes.specs.Codes.{sampling_code}
 use Rattle.record_difference.specs.declared.Plane.{Plane}
 use Rattle.record_difference.specs.declared.Plane.TheVariants.{Y, U, «V»}
-use Rattle.record_difference.specs.declared.RecordDifference.{RecordDifference}
-use Rattle.record_difference.specs.declared.RecordDifference.TheVariants.{Same, Sizes, At}
+use Rattle.record_difference.specs.declared.Difference.{Difference}
+use Rattle.record_difference.specs.declared.Difference.TheVariants.{Sizes, At}
+use Rattle.shift_pairs.specs.declared.DifferingPair.{DifferingPair}
 use Rattle.shift_pairs.specs.declared.PairReport.{PairReport}
 use Rattle.shift_pairs.specs.declared.Pairing.{Pairing}
 use Rattle.report_numbers.specs.declared.DifferenceNumbers.{DifferenceNumbers}
@@ -18,24 +18,8 @@ plane_number Y = 0
 plane_number U = 1
 plane_number «V» = 2
 
--- RULES 10.7: no difference is kind 0
-abbrev pub no_numbers : DifferenceNumbers
-no_numbers = record {
-  kind = 0;
-  our_width = 0;
-  our_height = 0;
-  their_width = 0;
-  their_height = 0;
-  plane = 0;
-  row = 0;
-  column = 0;
-  our_sampling = 0;
-  their_sampling = 0;
-}
-
 -- RULES 10.7: sizes are kind 1, a place is kind 2
-abbrev pub difference_numbers : RecordDifference → DifferenceNumbers
-difference_numbers Same = no_numbers
+abbrev pub difference_numbers : Difference → DifferenceNumbers
 difference_numbers (Sizes a b) = record {
   kind = 1;
   our_width = a.width;
@@ -61,19 +45,23 @@ difference_numbers (At p) = record {
   their_sampling = 0;
 }
 
--- RULES 10.7: counts, the first difference's kind and pair, sizes, place, samplings, 0
-unfoldable pub report_numbers : PairReport → List ℕ
-report_numbers r =
-    let d = difference_numbers r.first.difference in
-    r.equal ∷ r.differing ∷ r.only_ours ∷ r.only_theirs
-    ∷ d.kind ∷ r.first.crossing ∷ r.first.ours ∷ r.first.theirs
+-- RULES 10.7: the first difference's kind and pair, sizes, place, samplings, 0; no difference is kind 0
+abbrev pub first_numbers : Option DifferingPair → List ℕ
+first_numbers None = 0 ∷ 0 ∷ 0 ∷ 0 ∷ 0 ∷ 0 ∷ 0 ∷ 0 ∷ 0 ∷ 0 ∷ 0 ∷ 0 ∷ 0 ∷ 0 ∷ []
+first_numbers (Some p) =
+    let d = difference_numbers p.difference in
+    d.kind ∷ p.crossing ∷ p.ours ∷ p.theirs
     ∷ d.our_width ∷ d.our_height ∷ d.their_width ∷ d.their_height
     ∷ d.plane ∷ d.row ∷ d.column ∷ d.our_sampling ∷ d.their_sampling ∷ 0 ∷ []
 
+-- RULES 10.7: counts, then the first difference
+unfoldable pub report_numbers : PairReport → List ℕ
+report_numbers r = r.equal ∷ r.differing ∷ r.only_ours ∷ r.only_theirs ∷ first_numbers r.first
+
 -- RULES 10.7: what the lent numbers are after a call
-abbrev pub numbers_after : YuvAnswer → PairReport → (before : List ℕ) → List ℕ
-numbers_after Finished r before = report_numbers r
-numbers_after (Refused e) r before = before
+abbrev pub numbers_after : Result Unit YuvError → PairReport → (before : List ℕ) → List ℕ
+numbers_after (Ok done) r before = report_numbers r
+numbers_after (Err e) r before = before
 
 -- RULES 10.7
 abbrev pub pairing_numbers : Pairing → (before : List ℕ) → List ℕ

@@ -1,15 +1,14 @@
 // The report of two shift files as eighteen numbers, for those who link the library (RULES 10.7).
 #![tactic(auto)]
 
-ghost use Rattle.std.specs.Prelude.{◌≡◌, length};
-ghost use Rattle.report_numbers.specs.Numbers.{plane_number, difference_numbers, report_numbers, pairing_numbers};
+ghost use Rattle.std.specs.Prelude.{◌≡◌};
+ghost use Rattle.report_numbers.specs.Numbers.{plane_number, difference_numbers, first_numbers, report_numbers, pairing_numbers};
 
-use record_difference::{Plane, RecordDifference};
-use shift_pairs::{PairReport, Pairing};
-use yuv_error::YuvAnswer;
+use record_difference::{Difference, Plane};
+use shift_pairs::{DifferingPair, PairReport, Pairing};
 
 // A difference: its kind, and the numbers that the kind names; the others are 0.
-#[derive(Clone, Copy)]
+#[derive(Clone, Copy, Debug, PartialEq, Eq)]
 pub struct DifferenceNumbers {
     pub kind: u64,
     pub our_width: u64,
@@ -23,6 +22,7 @@ pub struct DifferenceNumbers {
     pub their_sampling: u64,
 }
 
+// A match, no `From`: type and number are of other crates.
 fn plane_number(plane: Plane) -> u64
     ensures { result ≡ plane_number plane }
 {
@@ -33,94 +33,93 @@ fn plane_number(plane: Plane) -> u64
     }
 }
 
-fn difference_numbers(difference: RecordDifference) -> DifferenceNumbers
+const NO_NUMBERS: DifferenceNumbers = DifferenceNumbers {
+    kind: 0,
+    our_width: 0,
+    our_height: 0,
+    their_width: 0,
+    their_height: 0,
+    plane: 0,
+    row: 0,
+    column: 0,
+    our_sampling: 0,
+    their_sampling: 0,
+};
+
+fn difference_numbers(difference: Difference) -> DifferenceNumbers
     ensures { result ≡ difference_numbers difference }
 {
     match difference {
-        RecordDifference::Same => DifferenceNumbers {
-            kind: 0,
-            our_width: 0,
-            our_height: 0,
-            their_width: 0,
-            their_height: 0,
-            plane: 0,
-            row: 0,
-            column: 0,
-            our_sampling: 0,
-            their_sampling: 0,
+        Difference::Sizes(ours, theirs) => DifferenceNumbers {
+            kind: 1,
+            our_width: ours.width as u64,
+            our_height: ours.height as u64,
+            their_width: theirs.width as u64,
+            their_height: theirs.height as u64,
+            our_sampling: setting_codes::sampling_code(ours.sampling) as u64,
+            their_sampling: setting_codes::sampling_code(theirs.sampling) as u64,
+            ..NO_NUMBERS
         },
-        RecordDifference::Sizes(ours, theirs) => {
-            let our_sampling = ours.sampling;
-            let their_sampling = theirs.sampling;
-            DifferenceNumbers {
-                kind: 1,
-                our_width: ours.width as u64,
-                our_height: ours.height as u64,
-                their_width: theirs.width as u64,
-                their_height: theirs.height as u64,
-                plane: 0,
-                row: 0,
-                column: 0,
-                our_sampling: setting_codes::sampling_code(our_sampling) as u64,
-                their_sampling: setting_codes::sampling_code(their_sampling) as u64,
-            }
-        }
-        RecordDifference::At(place) => {
-            let plane = place.plane;
-            DifferenceNumbers {
-                kind: 2,
-                our_width: 0,
-                our_height: 0,
-                their_width: 0,
-                their_height: 0,
-                plane: plane_number(plane),
-                row: place.row as u64,
-                column: place.column as u64,
-                our_sampling: 0,
-                their_sampling: 0,
-            }
+        Difference::At(place) => DifferenceNumbers {
+            kind: 2,
+            plane: plane_number(place.plane),
+            row: place.row as u64,
+            column: place.column as u64,
+            ..NO_NUMBERS
+        },
+    }
+}
+
+// The kind of the first difference, the crossing of its pair and the places of its records; width and height of ours and of theirs; plane, row and
+// column; the samplings of ours and of theirs; 0. All are 0 where no pair differs.
+fn first_numbers(first: Option<DifferingPair>) -> [u64; 14]
+    ensures { result ≡ first_numbers first }
+{
+    match first {
+        None => [0; 14],
+        Some(pair) => {
+            let told = difference_numbers(pair.difference);
+            [
+                told.kind,
+                pair.crossing as u64,
+                pair.ours as u64,
+                pair.theirs as u64,
+                told.our_width,
+                told.our_height,
+                told.their_width,
+                told.their_height,
+                told.plane,
+                told.row,
+                told.column,
+                told.our_sampling,
+                told.their_sampling,
+                0,
+            ]
         }
     }
 }
 
-// Equal, differing, only ours, only theirs; the kind of the first difference, the crossing of its pair and the places of its records; width and
-// height of ours and of theirs; plane, row and column; the samplings of ours and of theirs; 0.
-fn tell_report(report: PairReport, numbers: &mut [u64])
-    requires { length numbers.old ≡ 18 }
+// Equal, differing, only ours, only theirs; then the numbers of the first pair that differs.
+fn tell_report(report: PairReport, numbers: &mut [u64; 18])
     ensures { numbers.new ≡ report_numbers report }
 {
-    let first = report.first;
-    let difference = first.difference;
-    let told = difference_numbers(difference);
-    numbers[0] = report.equal as u64;
-    numbers[1] = report.differing as u64;
-    numbers[2] = report.only_ours as u64;
-    numbers[3] = report.only_theirs as u64;
-    numbers[4] = told.kind;
-    numbers[5] = first.crossing as u64;
-    numbers[6] = first.ours as u64;
-    numbers[7] = first.theirs as u64;
-    numbers[8] = told.our_width;
-    numbers[9] = told.our_height;
-    numbers[10] = told.their_width;
-    numbers[11] = told.their_height;
-    numbers[12] = told.plane;
-    numbers[13] = told.row;
-    numbers[14] = told.column;
-    numbers[15] = told.our_sampling;
-    numbers[16] = told.their_sampling;
-    numbers[17] = 0;
+    let counts = [
+        report.equal as u64,
+        report.differing as u64,
+        report.only_ours as u64,
+        report.only_theirs as u64,
+    ];
+    let first = first_numbers(report.first);
+    numbers[..4].copy_from_slice(&counts);
+    numbers[4..].copy_from_slice(&first);
 }
 
 // The report's numbers; none where the pairing was refused.
-pub fn tell_pairing(pairing: Pairing, numbers: &mut [u64])
-    requires { length numbers.old ≡ 18 }
+pub fn tell_pairing(pairing: Pairing, numbers: &mut [u64; 18])
     ensures { numbers.new ≡ pairing_numbers pairing numbers.old }
 {
-    let answer = pairing.answer;
-    let report = pairing.report;
-    match answer {
-        YuvAnswer::Finished => tell_report(report, numbers),
-        YuvAnswer::Refused(_) => {}
+    match pairing.answer {
+        Ok(()) => tell_report(pairing.report, numbers),
+        Err(_) => {}
     }
 }

@@ -211,7 +211,7 @@ pub fn segvartin_call_shift_records_any(
 pub fn segvartin_call_shift_write(records: &[u8], file: &mut [u8], told: &mut [usize; 1]) -> u32
     ensures { WritingKept ShiftForm.WithoutSettings (exported_writing records.now file.old result told.new file.new) }
 {
-    shift_calls::call_shift_write(records, file, told)
+    shift_calls::call_shift_write(ShiftForm::WithoutSettings, records, file, told)
 }
 
 // As `segvartin_call_shift_write`, of records and a file with settings.
@@ -222,7 +222,7 @@ pub fn segvartin_call_shift_write_settings(
 ) -> u32
     ensures { WritingKept ShiftForm.WithSettings (exported_writing records.now file.old result told.new file.new) }
 {
-    shift_calls::call_shift_write_settings(records, file, told)
+    shift_calls::call_shift_write(ShiftForm::WithSettings, records, file, told)
 }
 
 // Writes a shift file without settings as one with them, 4:2:0 and nothing recorded, at the front of `output` (0); or answers 15 where these bytes are

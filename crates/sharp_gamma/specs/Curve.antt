@@ -3,7 +3,7 @@
 use Rattle.std.specs.Prelude.{ℕ, Bool, cond}
 use Rattle.sharp_gamma.specs.declared.SharpYuvGammaTransfer.{SharpYuvGammaTransfer}
 use Rattle.sharp_gamma.specs.declared.SharpYuvGammaTransfer.TheVariants.{Srgb, Rec709, Gamma2p2, Gamma2p8}
-use Rattle.sharp_gamma.specs.Fraction.{Fraction, ◌over◌, whole, decimal, ◌plus◌, ◌less◌, ◌times◌, ◌divided_by◌, power, ◌not_above◌, ◌below◌}
+use Rattle.sharp_gamma.specs.Fraction.{Fraction, whole, decimal, ◌plus◌, ◌less◌, ◌times◌, ◌divided_by◌, power, ◌not_above◌, ◌below◌}
 
 -- RULES 3.1: the four decimals of a transfer and its power, up / down
 pub record Curve : Type 0 where

@@ -2,3 +2,4 @@ pub mod Fraction
 pub mod Curve
 pub mod Entry
 pub mod FirstIndices
+pub mod Codes

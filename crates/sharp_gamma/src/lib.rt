@@ -2,6 +2,7 @@
 // makes both once and lends them to its rows.
 #![tactic(auto)]
 
+mod codes; // settings from numbers, and as numbers
 mod nearest; // the constants of each rounding, made by tools/tables.py
 mod truncated;
 
@@ -10,7 +11,7 @@ ghost use Rattle.sharp_gamma.specs.Entry.{TableOf, linear_entry, gamma_entry};
 ghost use Rattle.sharp_gamma.specs.FirstIndices.{FirstIndices};
 
 // Declares transfer function for transfer components into a linear colorspace and its inverse
-#[derive(Clone, Copy)]
+#[derive(Clone, Copy, Debug, PartialEq, Eq, Hash)]
 pub enum SharpYuvGammaTransfer {
     // sRGB Transfer function
     Srgb,
@@ -23,7 +24,7 @@ pub enum SharpYuvGammaTransfer {
 }
 
 // Which whole number stands in a table for the curve's value there, in both tables of a call alike
-#[derive(Clone, Copy)]
+#[derive(Clone, Copy, Debug, PartialEq, Eq, Hash)]
 pub enum TableRounding {
     // The largest that is not above the value
     Truncated,
@@ -63,18 +64,12 @@ pub fn gamma_map_table(
     ensures { TableOf 65536 (gamma_entry transfer rounding) table.new }
 {
     let first = first_index_table(transfer, rounding);
-    let mut i: usize = 0;
     for k in 0..255u8 {
+        let start = first[k as usize] as usize;
         let end = first[k as usize + 1] as usize;
-        while i < end {
-            table[i] = k;
-            i += 1;
-        }
+        table[start..end].fill(k);
     }
-    while i < 65536 {
-        table[i] = 255;
-        i += 1;
-    }
+    table[first[255] as usize..].fill(255);
 }
 
 // For each byte k the first index whose gamma entry is at least k.

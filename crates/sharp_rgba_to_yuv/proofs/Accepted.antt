@@ -5,9 +5,10 @@ use mathlib.Core.Path.{◌≡◌, refl}
 use native.Mathlib.Nat.{mul_comm, mul-le-mul_left}
 use native.Mathlib.Omega.{arith}
 use lib.ListN.{length}
-use Rattle.yuv_error.specs.declared.YuvAnswer.TheVariants.{Finished}
+use Rattle.std.specs.Prelude.{Result, Ok}
+use Rattle.yuv_error.specs.declared.YuvError.{YuvError}
 use Rattle.yuv_error.specs.declared.Lengths.{Lengths}
-use Rattle.yuv_error.specs.Numbers.{numbers}
+use Rattle.yuv_error.specs.Numbers.{numbers, numbers_of}
 use Rattle.yuv_error.specs.Rules.{first_numbers}
 use Rattle.yuv_error.specs.Lent.{lengths_of, opening_rules, lent_rules}
 use Rattle.yuv_error.specs.Known.{Sized, Lent}
@@ -55,10 +56,13 @@ accepted d stride n e =
     long w c stride h n three row size some most =
         omega (arith, mul-le-mul_left {m = 3} {n = c} w three, mul_comm w 3, mul-le-mul_left {m = 1} {n = h} stride some)
 
-pub call_Accepted : (k : FrameCall) → k.answer ≡ Finished → FramePost k → Accepted k.frame k.stride (lengths_of k.source k.y k.u k.v)
-call_Accepted k is p =
-    let n = lengths_of k.source k.y k.u k.v in
-    accepted k.frame k.stride n (finished_number (frame_rules k.frame k.stride n) is p.answered)
+-- of an answer that is no refusal
+pub answered : (d : FrameDescription) (stride : ℕ) (n : Lengths) {a : Result Unit YuvError} → a ≡ Ok tt
+    → numbers_of a ≡ first_numbers (frame_rules d stride n) → Accepted d stride n
+answered d stride n is e = accepted d stride n (finished_number (frame_rules d stride n) is e)
+
+pub call_Accepted : (k : FrameCall) → k.answer ≡ Ok tt → FramePost k → Accepted k.frame k.stride (lengths_of k.source k.y k.u k.v)
+call_Accepted k is p = answered k.frame k.stride (lengths_of k.source k.y k.u k.v) is p.answered
 
 pub frame_passes : {d : FrameDescription} {stride : ℕ} {n : Lengths} → Sized d → Buffers d d.window.source_height stride n
     → first_numbers (frame_rules d stride n) ≡ numbers 0 0 0

@@ -7,8 +7,8 @@ use mathlib.Core.List.{List}
 use native.Mathlib.Nat.{le_refl}
 use native.Mathlib.Omega.{arith}
 use lib.ListN.{length}
-use Rattle.yuv_error.specs.declared.YuvAnswer.{YuvAnswer}
-use Rattle.yuv_error.specs.declared.YuvAnswer.TheVariants.{Finished, Refused}
+use Rattle.std.specs.Prelude.{Result, Ok, Err}
+use Rattle.yuv_error.specs.declared.YuvError.{YuvError}
 use Rattle.yuv_error.specs.Rules.{first_numbers}
 use Rattle.yuv_error.proofs.Numbers.{same_answer}
 use Rattle.definitions.specs.declared.FrameDescription.{FrameDescription}
@@ -28,27 +28,27 @@ seen d same = record { own = λ r _ l x i m n. sym (same r x i l m n); above = �
 
 module _ (k j : FrameCall) (p : FramePost k) (same : SameColourBytes k j) where
   -- calls of one answer and one frame, whose planes were alike
-  planes : (b : YuvAnswer) → k.answer ≡ b → (q : FramePost (frame_call k.frame k.stride j.source k.y k.u k.v k.answer j.y' j.u'
+  planes : (b : Result Unit YuvError) → k.answer ≡ b → (q : FramePost (frame_call k.frame k.stride j.source k.y k.u k.v k.answer j.y' j.u'
       j.v'))
       → image_of j ≡ frame_image k.frame k.stride j.source → (k.y' ≡ j.y') × (k.u' ≡ j.u') × (k.v' ≡ j.v')
-  planes Finished is q image =
+  planes (Ok done) is q image =
       let o = (call_Accepted k is p).lent.sized.height_least in
       let x = rw is at p.planes in
       let z = Sharpened-like o (le_refl k.frame.height) (rw image at (seen k.frame same)) (rw is at q.planes) in
       (plane_unique x.luma z.luma, plane_unique x.cb z.cb, plane_unique x.cr z.cr)
-  planes (Refused e) is q image =
+  planes (Err e) is q image =
       let x = refused_writes_nothing k is p in
       let z = refused_writes_nothing _ is q in
       (x.0 ∙ sym z.0, x.1 ∙ sym z.1, x.2 ∙ sym z.2)
 
 pub alpha_and_padding : AlphaAndPadding
 alpha_and_padding k j p q s same =
-    let given : YuvAnswer → FrameCall = λ (a : YuvAnswer). frame_call k.frame k.stride j.source k.y k.u k.v a j.y' j.u' j.v' in
+    let given : Result Unit YuvError → FrameCall = λ (a : Result Unit YuvError). frame_call k.frame k.stride j.source k.y k.u k.v a j.y' j.u' j.v' in
     let r : FramePost (given j.answer) = subst FramePost s.others q in
     let answers : k.answer ≡ j.answer = same_answer k.answer j.answer
     (p.answered ∙ ap (λ (n : ℕ). first_numbers (frame_rules k.frame k.stride
     (record { source = n; y = length k.y; u = length k.u; v = length k.v }))) (sym s.size) ∙ sym r.answered) in
-    let equal = planes k j p same k.answer refl (subst (λ (a : YuvAnswer). FramePost (given a)) (sym answers) r) (ap image_of s.others) in
+    let equal = planes k j p same k.answer refl (subst (λ (a : Result Unit YuvError). FramePost (given a)) (sym answers) r) (ap image_of s.others) in
     (answers, equal.0, equal.1, equal.2)
 
 pub windows_and_buffers : WindowsAndBuffers

@@ -1,7 +1,7 @@
 -- A frame call: what it is given, what it answers and what it leaves. docs/RULES.md, 7.8.
 -- Assumes nothing.
-use Rattle.std.specs.Prelude.{ℕ, ◌≡◌, List, ◌++◌}
-use Rattle.yuv_error.specs.declared.YuvAnswer.{YuvAnswer}
+use Rattle.std.specs.Prelude.{ℕ, ◌≡◌, List, ◌++◌, Result}
+use Rattle.yuv_error.specs.declared.YuvError.{YuvError}
 use Rattle.yuv_error.specs.declared.Lengths.{Lengths}
 use Rattle.yuv_error.specs.Numbers.{numbers_of}
 use Rattle.yuv_error.specs.Rules.{Rule, first_numbers}
@@ -18,12 +18,12 @@ pub record FrameCall : Type 0 where
   pub y : List ℕ
   pub u : List ℕ
   pub v : List ℕ
-  pub answer : YuvAnswer
+  pub answer : Result Unit YuvError
   pub y' : List ℕ
   pub u' : List ℕ
   pub v' : List ℕ
 
-abbrev pub frame_call : FrameDescription → (stride : ℕ) (source y u v : List ℕ) (answer : YuvAnswer) (y' u' v' : List ℕ) → FrameCall
+abbrev pub frame_call : FrameDescription → (stride : ℕ) (source y u v : List ℕ) (answer : Result Unit YuvError) (y' u' v' : List ℕ) → FrameCall
 frame_call d stride source y u v answer y' u' v' =
     record { frame = d; stride = stride; source = source; y = y; u = u; v = v; answer = answer; y' = y'; u' = u'; v' = v' }
 

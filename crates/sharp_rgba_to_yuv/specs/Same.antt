@@ -1,10 +1,9 @@
 -- What frame calls have in common that are given the same colours: docs/RULES.md, 2.3.
 -- Assumes nothing.
-use Rattle.std.specs.Prelude.{ℕ, ◌*◌, ◌<◌, ◌≡◌, List, ◌++◌, length, take, drop}
+use Rattle.std.specs.Prelude.{ℕ, ◌*◌, ◌<◌, ◌≡◌, List, ◌++◌, length, take, drop, Ok}
 use Rattle.yuv_error.specs.declared.Lengths.{Lengths}
 use Rattle.yuv_error.specs.Rules.{first_numbers, size_rules, matrix_rules, buffer_rules}
 use Rattle.yuv_error.specs.Lent.{y_of, u_of, v_of}
-use Rattle.yuv_error.specs.declared.YuvAnswer.TheVariants.{Finished}
 use Rattle.definitions.specs.declared.Window.{Window}
 use Rattle.definitions.specs.declared.FrameDescription.{FrameDescription}
 use Rattle.definitions.specs.Row.{pixels_of}
@@ -40,7 +39,7 @@ SameElsewhere d e = e ≡ elsewhere d e.window e.y_stride e.u_stride e.v_stride
 -- window's planes are those of the rectangle copied out
 abbrev pub WindowsAndBuffers : Type 0
 WindowsAndBuffers =
-    (k j : FrameCall) → FramePost k → FramePost j → k.answer ≡ Finished → j.answer ≡ Finished
+    (k j : FrameCall) → FramePost k → FramePost j → k.answer ≡ Ok tt → j.answer ≡ Ok tt
     → SameElsewhere k.frame j.frame → SameColourBytes k j
     → let d : FrameDescription = k.frame in let e : FrameDescription = j.frame in
     RowsEqual d.height d.width d.y_stride e.y_stride k.y' j.y'

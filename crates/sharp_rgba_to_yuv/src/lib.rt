@@ -1,27 +1,24 @@
 // The frame call: the Rust's rgbx_to_sharp_yuv, over lent slices beside a plain description.
 #![tactic(auto)]
 
-ghost use Rattle.std.specs.Prelude.{◌≡◌};
+ghost use Rattle.std.specs.Prelude.{◌≡◌, OnOk};
 ghost use Rattle.yuv_error.specs.Numbers.{numbers_of};
 ghost use Rattle.yuv_error.specs.Rules.{first_numbers};
+ghost use Rattle.yuv_error.specs.Lent.{source_of};
+ghost use Rattle.yuv_error.specs.Known.{Sized, WholeRows, PlanesLent};
 ghost use Rattle.sharp_rgba_to_yuv.specs.FrameCall.{frame_call, frame_rules, FramePost};
 
 use definitions::{Band, FrameDescription};
-use yuv_error::{Lengths, YuvAnswer};
+use yuv_error::{Lengths, YuvError};
 
 // Refusals 2, 3, 4, 14 and 6 to 12.
-fn check_frame(frame: FrameDescription, stride: u32, lent: Lengths) -> YuvAnswer
-    ensures { numbers_of result ≡ first_numbers (frame_rules frame stride lent) }
+fn check_frame(frame: FrameDescription, stride: u32, lent: Lengths) -> Result<(), YuvError>
+    ensures numbers { numbers_of result ≡ first_numbers (frame_rules frame stride lent) }
+    ensures sized { OnOk result (Sized frame) }
+    ensures whole { OnOk result (WholeRows (source_of frame frame.window.source_height stride lent.source) × PlanesLent frame lent.y lent.u lent.v) }
 {
-    let opened = yuv_error::check_opening(frame);
-    match opened {
-        YuvAnswer::Refused(_) => {
-            return opened;
-        }
-        YuvAnswer::Finished => {}
-    }
-    let window = frame.window;
-    yuv_error::check_lent(frame, window.source_height as usize, stride, lent)
+    yuv_error::check_opening(frame)?;
+    yuv_error::check_lent(frame, frame.window.source_height as usize, stride, lent)
 }
 
 // Converts a whole frame, or answers one numbered refusal and writes no byte.
@@ -32,7 +29,7 @@ pub fn rgbx_to_sharp_yuv(
     y: &mut [u8],
     u: &mut [u8],
     v: &mut [u8],
-) -> YuvAnswer
+) -> Result<(), YuvError>
     ensures { FramePost (frame_call frame stride source.now y.old u.old v.old
         result y.new u.new v.new) }
 {
@@ -42,22 +39,15 @@ pub fn rgbx_to_sharp_yuv(
         u: u.len(),
         v: v.len(),
     };
-    let answer = check_frame(frame, stride, lent);
-    match answer {
-        YuvAnswer::Refused(_) => {
-            return answer;
-        }
-        YuvAnswer::Finished => {}
-    }
+    check_frame(frame, stride, lent)?;
     let band = Band {
         frame,
         done: 0,
         rows: frame.height,
         stride,
     };
-    let window = frame.window;
-    let at = window.top as usize * stride as usize;
+    let at = frame.window.top as usize * stride as usize;
     // no row is above the first, so what stands for the carried row is never read
     band_planes::sharpen_band(band, &source[at..], source, y, u, v);
-    answer
+    Ok(())
 }

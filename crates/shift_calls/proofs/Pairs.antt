@@ -2,9 +2,9 @@
 -- Assumes nothing.
 use Prim.Native.Nat.{ℕ, ◌≤◌}
 use mathlib.Core.Path.{◌≡◌, refl, ap, subst, ◌∙◌}
-use mathlib.Core.List.{List}
-use Rattle.yuv_error.specs.declared.YuvAnswer.{YuvAnswer}
-use Rattle.yuv_error.specs.Numbers.{numbers, numbers_of}
+use Rattle.std.specs.Prelude.{Result}
+use Rattle.yuv_error.specs.declared.YuvError.{YuvError}
+use Rattle.yuv_error.specs.Numbers.{numbers}
 use Rattle.yuv_error.specs.Rules.{first_numbers}
 use Rattle.report_numbers.specs.Numbers.{numbers_after}
 use Rattle.shift_calls.specs.Pairs.{ExportedPairing, rules_of_pairing, PairingKept}
@@ -18,5 +18,5 @@ module _ {k : ExportedPairing} (p : PairingKept k) where
   pub pairing_writes_nothing : 1 ≤ k.number → k.report' ≡ k.report
   pairing_writes_nothing l =
       p.report
-      ∙ ap (λ (a : YuvAnswer). numbers_after a p.pairing.report k.report)
+      ∙ ap (λ (a : Result Unit YuvError). numbers_after a p.pairing.report k.report)
       (is_refused p.pairing.answer (subst (λ (n : ℕ). 1 ≤ n) p.number l)).1

@@ -1,11 +1,11 @@
 -- What the exported calls of the shift file come to: the numbers that they told are those of the first rule that holds, and refused, they wrote nothing.
 -- Assumes nothing.
 use Prim.Native.Nat.{ℕ, ◌≤◌}
-use mathlib.Core.Path.{◌≡◌, refl, sym, ap, subst, ◌∙◌}
+use mathlib.Core.Path.{◌≡◌, refl, ap, subst, ◌∙◌}
 use mathlib.Core.List.{List}
-use Rattle.yuv_error.specs.declared.YuvAnswer.{YuvAnswer}
-use Rattle.yuv_error.specs.declared.YuvAnswer.TheVariants.{Refused}
-use Rattle.yuv_error.specs.Numbers.{Numbers, numbers, numbers_of}
+use Rattle.std.specs.Prelude.{Result}
+use Rattle.yuv_error.specs.declared.YuvError.{YuvError}
+use Rattle.yuv_error.specs.Numbers.{numbers, numbers_of}
 use Rattle.yuv_error.specs.Rules.{first_numbers}
 use Rattle.yuv_error.proofs.Plain.{Plain, alone}
 use Rattle.shift_file.specs.declared.ShiftForm.{ShiftForm}
@@ -20,8 +20,8 @@ use Rattle.shift_calls.specs.Shift.{ExportedMove, rules_of_move, MoveKept}
 use Rattle.frame_calls.proofs.Lists.{is_refused}
 
 -- an output that a refused call left
-pub unwritten : (a : YuvAnswer) (bytes : List ℕ) {before after : List ℕ} → 1 ≤ (numbers_of a).number → after ≡ overwritten a bytes before → after ≡ before
-unwritten a bytes {before} l e = e ∙ ap (λ (a : YuvAnswer). overwritten a bytes before) (is_refused a l).1
+pub unwritten : (a : Result Unit YuvError) (bytes : List ℕ) {before after : List ℕ} → 1 ≤ (numbers_of a).number → after ≡ overwritten a bytes before → after ≡ before
+unwritten a bytes {before} l e = e ∙ ap (λ (a : Result Unit YuvError). overwritten a bytes before) (is_refused a l).1
 
 module _ {k : ExportedReading} (p : ReadingKept k) where
   pub reading_first : numbers k.number 0 0 ≡ first_numbers (rules_of_reading k)

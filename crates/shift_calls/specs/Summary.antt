@@ -1,8 +1,8 @@
 -- The summary of a shift file for C and Rust: what the four calls `segvartin_call_summary_build`, `_check`, `_find` and `_update` answer and leave, which
 -- is the promise of the call under each, in the form that the file has. docs/RULES.md, 10.6.
 -- Assumes nothing.
-use Rattle.std.specs.Prelude.{ℕ, ◌≡◌, Bool, true, false, List, [], ◌∷◌, length}
-use Rattle.yuv_error.specs.declared.YuvAnswer.{YuvAnswer}
+use Rattle.std.specs.Prelude.{ℕ, ◌≡◌, Bool, true, false, List, [], ◌∷◌, length, Result}
+use Rattle.yuv_error.specs.declared.YuvError.{YuvError}
 use Rattle.yuv_error.specs.Numbers.{numbers_of}
 use Rattle.yuv_error.specs.Rules.{Rule}
 use Rattle.shift_file.specs.Check.{form_in}
@@ -33,7 +33,7 @@ rules_of_build k = build_rules (form_in k.file) k.file (length k.summary)
 
 -- RULES 10.6: the promise of `build_summary`
 pub record BuildKept (k : ExportedBuild) : Type 0 where
-  pub answer : YuvAnswer
+  pub answer : Result Unit YuvError
   pub number : k.number ≡ (numbers_of answer).number
   pub built : BuildPost (form_in k.file) k.file k.summary answer k.summary'
 
@@ -123,6 +123,6 @@ rules_of_update k = update_rules (form_in k.file) k.file k.added k.summary
 
 -- RULES 10.6: the promise of `update_summary`
 pub record UpdateKept (k : ExportedUpdate) : Type 0 where
-  pub answer : YuvAnswer
+  pub answer : Result Unit YuvError
   pub number : k.number ≡ (numbers_of answer).number
   pub wrote : UpdatePost (form_in k.file) k.file k.added k.summary answer k.summary'

@@ -2,7 +2,7 @@
 // what is told goes to numbers that the caller lends.
 #![tactic(auto)]
 
-ghost use Rattle.std.specs.Prelude.{◌≡◌, ◌≤◌, length, set};
+ghost use Rattle.std.specs.Prelude.{◌≡◌, [], ◌∷◌};
 ghost use Rattle.yuv_error.specs.Numbers.{numbers_of};
 ghost use Rattle.yuv_error.specs.Lent.{taken};
 ghost use Rattle.shift_calls.specs.Summary.{exported_build, BuildKept, exported_check, as_number, CheckKept};
@@ -17,19 +17,16 @@ use shift_reader::{EntryKind, ShiftReading};
 use shift_record::RecordFrame;
 use shift_writer::ShiftWritten;
 use summary_calls::{FoundRecord, SummaryFinding, SummaryVerdict};
-use yuv_error::YuvAnswer;
+use yuv_error::YuvError;
 
 // ---- The shift file. Its refusals 15 and 16 come without expected and received, so those who answer no other have room for counts instead.
 
-fn tell_reading(reading: ShiftReading, told: &mut [usize]) -> u32
-    requires { 2 ≤ length told.old }
-    ensures { (result ≡ (numbers_of reading.answer).number) × (told.new ≡ set (set told.old 0 reading.count) 1 reading.told) }
+fn tell_reading(reading: ShiftReading, told: &mut [usize; 2]) -> u32
+    ensures number { result ≡ (numbers_of reading.answer).number }
+    ensures told { told.new ≡ reading.count ∷ reading.told ∷ [] }
 {
-    let answer = reading.answer;
-    let numbered = error_numbers::answer_numbers(answer);
-    told[0] = reading.count;
-    told[1] = reading.told;
-    numbered.number
+    *told = [reading.count, reading.told];
+    error_numbers::answer_numbers(reading.answer).number
 }
 
 // `segvartin_call_shift_records` of crate `segvartin` is one call of this.
@@ -51,28 +48,21 @@ pub fn call_shift_records(
     tell_reading(reading, told)
 }
 
-fn form_told(answer: YuvAnswer, form: ShiftForm) -> usize
+fn form_told(answer: Result<(), YuvError>, form: ShiftForm) -> usize
     ensures { result ≡ taken answer (form_number form) }
 {
-    match answer {
-        YuvAnswer::Finished => match form {
-            ShiftForm::WithoutSettings => 0,
-            ShiftForm::WithSettings => 1,
-        },
-        YuvAnswer::Refused(_) => 0,
+    match (answer, form) {
+        (Ok(()), ShiftForm::WithSettings) => 1,
+        _ => 0,
     }
 }
 
-fn tell_reading_any(reading: ShiftReading, form: ShiftForm, told: &mut [usize]) -> u32
-    requires { 3 ≤ length told.old }
-    ensures { (result ≡ (numbers_of reading.answer).number)
-        × (told.new ≡ set (set (set told.old 0 reading.count) 1 reading.told) 2 (taken reading.answer (form_number form))) }
+fn tell_reading_any(reading: ShiftReading, form: ShiftForm, told: &mut [usize; 3]) -> u32
+    ensures number { result ≡ (numbers_of reading.answer).number }
+    ensures told { told.new ≡ reading.count ∷ reading.told ∷ taken reading.answer (form_number form) ∷ [] }
 {
-    let answer = reading.answer;
-    told[0] = reading.count;
-    told[1] = reading.told;
-    told[2] = form_told(answer, form);
-    number_of(answer)
+    *told = [reading.count, reading.told, form_told(reading.answer, form)];
+    error_numbers::answer_numbers(reading.answer).number
 }
 
 // `segvartin_call_shift_records_any` of crate `segvartin` is one call of this.
@@ -95,29 +85,24 @@ pub fn call_shift_records_any(
     tell_reading_any(reading, form, told)
 }
 
-fn tell_size(written: ShiftWritten, told: &mut [usize]) -> u32
-    requires { 1 ≤ length told.old }
-    ensures { (result ≡ (numbers_of written.answer).number) × (told.new ≡ set told.old 0 written.size) }
+fn tell_size(written: ShiftWritten, told: &mut [usize; 1]) -> u32
+    ensures number { result ≡ (numbers_of written.answer).number }
+    ensures told { told.new ≡ written.size ∷ [] }
 {
-    let answer = written.answer;
-    let numbered = error_numbers::answer_numbers(answer);
-    told[0] = written.size;
-    numbered.number
+    *told = [written.size];
+    error_numbers::answer_numbers(written.answer).number
 }
 
-// `segvartin_call_shift_write` of crate `segvartin` is one call of this.
-pub fn call_shift_write(records: &[u8], file: &mut [u8], told: &mut [usize; 1]) -> u32
-    ensures { WritingKept ShiftForm.WithoutSettings (exported_writing records.now file.old result told.new file.new) }
+// `segvartin_call_shift_write` and `segvartin_call_shift_write_settings` of crate `segvartin` are one call of this each.
+pub fn call_shift_write(
+    form: ShiftForm,
+    records: &[u8],
+    file: &mut [u8],
+    told: &mut [usize; 1],
+) -> u32
+    ensures { WritingKept form (exported_writing records.now file.old result told.new file.new) }
 {
-    let written = shift_writer::write_file(ShiftForm::WithoutSettings, records, file);
-    tell_size(written, told)
-}
-
-// `segvartin_call_shift_write_settings` of crate `segvartin` is one call of this.
-pub fn call_shift_write_settings(records: &[u8], file: &mut [u8], told: &mut [usize; 1]) -> u32
-    ensures { WritingKept ShiftForm.WithSettings (exported_writing records.now file.old result told.new file.new) }
-{
-    let written = shift_writer::write_file(ShiftForm::WithSettings, records, file);
+    let written = shift_writer::write_file(form, records, file);
     tell_size(written, told)
 }
 
@@ -137,15 +122,13 @@ pub fn call_shift_back(file: &[u8], output: &mut [u8], told: &mut [usize; 1]) ->
     tell_size(written, told)
 }
 
-fn tell_written(written: ShiftWritten, told: &mut [usize]) -> u32
-    requires { 3 ≤ length told.old }
-    ensures { (result ≡ (numbers_of written.answer).number) × (told.new
-        ≡ set (set (set told.old 0 (numbers_of written.answer).expected) 1 (numbers_of written.answer).received) 2 written.size) }
+fn tell_written(written: ShiftWritten, told: &mut [usize; 3]) -> u32
+    ensures number { result ≡ (numbers_of written.answer).number }
+    ensures told { told.new ≡ (numbers_of written.answer).expected ∷ (numbers_of written.answer).received ∷ written.size ∷ [] }
 {
-    let answer = written.answer;
-    let number = call_numbers::tell_answer(answer, told);
-    told[2] = written.size;
-    number
+    let numbers = error_numbers::answer_numbers(written.answer);
+    *told = [numbers.size.expected, numbers.size.received, written.size];
+    numbers.number
 }
 
 // `segvartin_call_shift_record` of crate `segvartin` is one call of this.
@@ -214,19 +197,12 @@ pub fn call_shift_record_settings(
 
 // ---- The summary of a shift file of either form. Its refusals 15 and 17 come without expected and received.
 
-fn number_of(answer: YuvAnswer) -> u32
-    ensures { result ≡ (numbers_of answer).number }
-{
-    let numbered = error_numbers::answer_numbers(answer);
-    numbered.number
-}
-
 // `segvartin_call_summary_build` of crate `segvartin` is one call of this.
 pub fn call_summary_build(file: &[u8], summary: &mut [u8]) -> u32
     ensures { BuildKept (exported_build file.now summary.old result summary.new) }
 {
     let answer = summary_calls::build_summary(shift_file::form_of(file), file, summary);
-    number_of(answer)
+    error_numbers::answer_numbers(answer).number
 }
 
 fn yes_or_no(yes: bool) -> usize
@@ -235,13 +211,12 @@ fn yes_or_no(yes: bool) -> usize
     if yes { 1 } else { 0 }
 }
 
-fn tell_verdict(verdict: SummaryVerdict, told: &mut [usize]) -> u32
-    requires { 1 ≤ length told.old }
-    ensures { (result ≡ (numbers_of verdict.answer).number) × (told.new ≡ set told.old 0 (as_number verdict.is_summary)) }
+fn tell_verdict(verdict: SummaryVerdict, told: &mut [usize; 1]) -> u32
+    ensures number { result ≡ (numbers_of verdict.answer).number }
+    ensures told { told.new ≡ as_number verdict.is_summary ∷ [] }
 {
-    let answer = verdict.answer;
-    told[0] = yes_or_no(verdict.is_summary);
-    number_of(answer)
+    *told = [yes_or_no(verdict.is_summary)];
+    error_numbers::answer_numbers(verdict.answer).number
 }
 
 // `segvartin_call_summary_check` of crate `segvartin` is one call of this.
@@ -270,16 +245,12 @@ fn found_place(found: FoundRecord) -> usize
     }
 }
 
-fn tell_finding(finding: SummaryFinding, told: &mut [usize]) -> u32
-    requires { 2 ≤ length told.old }
-    ensures { (result ≡ (numbers_of finding.answer).number)
-        × (told.new ≡ set (set told.old 0 (found_count finding.found)) 1 (found_place finding.found)) }
+fn tell_finding(finding: SummaryFinding, told: &mut [usize; 2]) -> u32
+    ensures number { result ≡ (numbers_of finding.answer).number }
+    ensures told { told.new ≡ found_count finding.found ∷ found_place finding.found ∷ [] }
 {
-    let answer = finding.answer;
-    let found = finding.found;
-    told[0] = found_count(found);
-    told[1] = found_place(found);
-    number_of(answer)
+    *told = [found_count(finding.found), found_place(finding.found)];
+    error_numbers::answer_numbers(finding.answer).number
 }
 
 // `segvartin_call_summary_find` of crate `segvartin` is one call of this.
@@ -295,17 +266,15 @@ pub fn call_summary_update(file: &[u8], added: &[u8], summary: &mut [u8]) -> u32
     ensures { UpdateKept (exported_update file.now added.now summary.old result summary.new) }
 {
     let answer = summary_update::update_summary(shift_file::form_of(file), file, added, summary);
-    number_of(answer)
+    error_numbers::answer_numbers(answer).number
 }
 
-fn tell_broken(pairing: Pairing, told: &mut [usize]) -> u32
-    requires { 1 ≤ length told.old }
-    ensures { (result ≡ (numbers_of pairing.answer).number) × (told.new ≡ set told.old 0 pairing.broken) }
+fn tell_broken(pairing: Pairing, told: &mut [usize; 1]) -> u32
+    ensures number { result ≡ (numbers_of pairing.answer).number }
+    ensures told { told.new ≡ pairing.broken ∷ [] }
 {
-    let answer = pairing.answer;
-    let numbered = error_numbers::answer_numbers(answer);
-    told[0] = pairing.broken as usize;
-    numbered.number
+    *told = [pairing.broken as usize];
+    error_numbers::answer_numbers(pairing.answer).number
 }
 
 // `segvartin_call_shift_pairs` of crate `segvartin` is one call of this.

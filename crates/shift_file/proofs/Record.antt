@@ -1,14 +1,14 @@
 -- A record and its bytes: what stands at the front of `bytes_of r ++ t` is r's, number by number and plane by plane, and where an allowed record
 -- stands whole, `bytes_of` gives its bytes again. Assumes nothing.
-use Prim.Native.Nat.{ℕ, ◌+◌, ◌*◌, ◌^◌, ◌≤◌, ◌<◌}
-use mathlib.Core.Path.{◌≡◌, refl, ap, sym, ◌∙◌}
-use mathlib.Core.Bool.{Bool, true, false, ◌&&◌, and-eq-true_iff}
+use Prim.Native.Nat.{ℕ, ◌+◌, ◌*◌, ◌^◌, ◌≤◌}
+use mathlib.Core.Path.{◌≡◌, refl, sym, ◌∙◌}
+use mathlib.Core.Bool.{Bool, true, ◌&&◌, and-eq-true_iff}
 use mathlib.Core.List.{List, ◌++◌, append_assoc}
 use native.Mathlib.Omega.{arith}
 use lib.Dec.{leb}
 use lib.ListN.{length, take, drop, length-append, length-drop}
 use lib.Seq.{take-add, drop-drop, drop_at, take_at, length-take-le}
-use borrow.Author.Tests.{le-leb, lt-leb, leb-true}
+use borrow.Author.Tests.{le-leb, leb-true}
 use Rattle.little_endian.specs.Number.{Bytes, low_bytes, number_in}
 use Rattle.little_endian.proofs.Number.{length_low, bytes_drop, bytes_take, number_low, low_number, number_below, drop_low}
 use Rattle.shift_file.specs.declared.ShiftForm.{ShiftForm}
@@ -55,15 +55,6 @@ module _ (form : ShiftForm) (l : List ℕ) where
       (also (shape_allowed form l) _
       (also (is_side (width_at l)) _ s.width (also (is_side (height_at l)) _ s.height s.codes))
       (le-leb _ _ s.whole))
-
-  -- the check, by its first test
-  pub stands_short : length l < header_size form → record_stands form l ≡ false
-  unfolding record_stands
-  stands_short h = rw (lt-leb (header_size form) (length l) h)
-
-  pub stands_long : header_size form ≤ length l → record_stands form l ≡ (shape_allowed form l && leb (size_at form l) (length l))
-  unfolding record_stands
-  stands_long h = rw (le-leb (header_size form) (length l) h)
 
   pub size_positive : 8 ≤ size_at form l
   unfolding size_at
@@ -169,10 +160,10 @@ module _ (form : ShiftForm) (r : ShiftRecord) (a : Allowed form r) where
     pub settings_is : settings_at form (bytes_of r ++ t) ≡ r.settings
     settings_is = rw at8 (take_at r.settings _ (settings_size form) a.settings)
 
-    luma_is : luma_at (bytes_of r ++ t) ≡ r.width * r.height
+    pub luma_is : luma_at (bytes_of r ++ t) ≡ r.width * r.height
     luma_is = rw (width_is, height_is)
 
-    chroma_is : chroma_at form (bytes_of r ++ t) ≡ chroma_bytes form r.settings r.width r.height
+    pub chroma_is : chroma_at form (bytes_of r ++ t) ≡ chroma_bytes form r.settings r.width r.height
     chroma_is = rw (settings_is, width_is, height_is)
 
     pub size_bytes : size_at form (bytes_of r ++ t) ≡ length (bytes_of r)

@@ -7,16 +7,17 @@ use mathlib.Core.List.{List, [], ◌∷◌, ◌++◌, append_assoc}
 use native.Mathlib.Nat.{add-zero}
 use native.Mathlib.Omega.{arith}
 use lib.Dec.{eqb}
-use lib.ListN.{length, take, drop, length-append, length-drop, take-append-drop, drop_of_length-le}
+use lib.ListN.{length, drop, length-append, length-drop, take-append-drop, drop_of_length-le}
 use lib.Seq.{drop-drop, drop_at, length-take-le}
 use borrow.Author.Tests.{eqb-true, eq-eqb}
 use Rattle.little_endian.specs.Number.{Bytes, low_bytes, number_in}
-use Rattle.little_endian.proofs.Number.{length_low, bytes_drop, number_low, low_rest, drop_low}
+use Rattle.little_endian.proofs.Number.{bytes_drop, number_low, low_rest, drop_low}
 use Rattle.shift_file.specs.declared.ShiftForm.{ShiftForm}
 use Rattle.shift_file.specs.File.{ShiftRecord, EachAllowed, bytes_of, pairs_of, record_bytes}
+use Rattle.std.specs.Prelude.{Some, None}
 use Rattle.shift_file.specs.Read.{size_at, record_at, records_from}
 use Rattle.shift_file.specs.Check.{record_stands, pair_is, next_size, walk}
-use Rattle.shift_file.proofs.Record.{both, also, Stands, Stands-true, size_positive, bytes_record, record_Allowed, size_bytes, stands_bytes, size_most, record_bytes_lem}
+use Rattle.shift_file.proofs.Record.{both, also, Stands, Stands-true, bytes_record, record_Allowed, size_bytes, stands_bytes, size_most, record_bytes_lem}
 
 -- ---- records back to back
 
@@ -124,49 +125,43 @@ records_walk form b t (r ∷ rs) pair at hb ha es hp hs =
 
 -- ---- the walk as the loop takes it
 
+refused : (t u v : Bool) (n : ℕ) → cond (t && u) (Some n) None ≡ None → (t && (u && v)) ≡ false
+refused true true v n e = cc
+refused true false v n e = refl
+refused false u v n e = refl
+
+taken : (t u : Bool) (n s : ℕ) → cond (t && u) (Some n) None ≡ Some s → (t ≡ true) × (u ≡ true) × (n ≡ s)
+taken true true n s e = (refl, refl, cc)
+taken true false n s e = cc
+taken false u n s e = cc
+
 module _ (form : ShiftForm) (b : List ℕ) (pair at : ℕ) where
-  refused : (t u v : Bool) (s : ℕ) → 0 < s → cond (t && u) s 0 ≡ 0 → (t && (u && v)) ≡ false
-  refused true true v s h e = absurd (omega arith)
-  refused true false v s h e = refl
-  refused false u v s h e = refl
-
-  taken : (t u : Bool) (s : ℕ) → 0 < cond (t && u) s 0 → (t ≡ true) × (u ≡ true)
-  taken true true s h = (refl, refl)
-  taken true false s h = absurd (omega arith)
-  taken false u s h = absurd (omega arith)
-
-  pub walk_none : (n : ℕ) → 0 < n → next_size form b pair at ≡ 0 → walk form b pair at n ≡ false
+  pub walk_none : (n : ℕ) → 0 < n → next_size form b pair at ≡ None → walk form b pair at n ≡ false
   unfolding walk next_size
   walk_none zero h e = absurd (omega arith)
-  walk_none (suc n) h e =
-      refused (record_stands form (drop at b)) (pair_is (drop pair b) at (size_at form (drop at b))) _ (size_at form (drop at b))
-      (omega (arith, size_positive form (drop at b))) e
+  walk_none (suc n) h e = refused (record_stands form (drop at b)) (pair_is (drop pair b) at (size_at form (drop at b))) _ (size_at form (drop at b)) e
 
-  both_hold : 0 < next_size form b pair at
-      → (record_stands form (drop at b) ≡ true) × (pair_is (drop pair b) at (size_at form (drop at b)) ≡ true)
-  unfolding next_size
-  both_hold h = taken (record_stands form (drop at b)) _ _ h
-
-  next_is : 0 < next_size form b pair at → next_size form b pair at ≡ size_at form (drop at b)
-  unfolding next_size
-  next_is h = rw ((both_hold h).0, (both_hold h).1)
-
-  pub walk_some : (n : ℕ) → 0 < n → 0 < next_size form b pair at
-      → walk form b pair at n ≡ walk form b (pair + 12) (at + next_size form b pair at) (n - 1)
+  pub walk_end : (n : ℕ) → n ≡ 0 → eqb at (length b) ≡ walk form b pair at n
   unfolding walk
-  walk_some zero h e = absurd (omega arith)
-  walk_some (suc n) h e = let one : suc n - 1 ≡ n = omega arith in rw (next_is e, (both_hold e).0, (both_hold e).1, one)
+  walk_end n e = rw e
 
-  pub next_inside : at ≤ length b → 0 < next_size form b pair at → at + next_size form b pair at ≤ length b
-  next_inside h e = omega (arith, next_is e, (Stands-true form (drop at b) (both_hold e).0).whole, length-drop at b)
+  module _ (s : ℕ) (e : next_size form b pair at ≡ Some s) where
+    next_is : (record_stands form (drop at b) ≡ true) × (pair_is (drop pair b) at (size_at form (drop at b)) ≡ true) × (size_at form (drop at b) ≡ s)
+    unfolding next_size
+    next_is = taken (record_stands form (drop at b)) _ _ s e
 
-  pub walk_end : (n : ℕ) → n ≤ 0 → eqb at (length b) ≡ walk form b pair at n
-  unfolding walk
-  walk_end zero h = refl
-  walk_end (suc n) h = absurd (omega arith)
+    pub walk_some : (n : ℕ) → 0 < n → walk form b pair at n ≡ walk form b (pair + 12) (at + s) (n - 1)
+    unfolding walk
+    walk_some zero h = absurd (omega arith)
+    walk_some (suc n) h = let one : suc n - 1 ≡ n = omega arith in rw (next_is.0, next_is.1, next_is.2, one)
 
-  -- the size from the tests' answers
-  pub next_case : (t u : Bool) (s : ℕ) (l q : List ℕ) → l ≡ drop at b → q ≡ drop pair b → t ≡ record_stands form l → s ≡ size_at form l
-      → u ≡ pair_is q at s → cond (t && u) s 0 ≡ next_size form b pair at
-  unfolding next_size
-  next_case t u s l q el eq et es eu = rw (eu, et, es, el, eq)
+    pub next_inside : at ≤ length b → at + s ≤ length b
+    next_inside h = omega (arith, next_is.2, (Stands-true form (drop at b) next_is.0).whole, length-drop at b)
+
+-- the same, of a loop that has come to pair k of n
+pub walk_more : (form : ShiftForm) (b : List ℕ) (first at n k s : ℕ) → next_size form b (first + 12 * k) at ≡ Some s → k < n
+    → walk form b (first + 12 * (k + 1)) (at + s) (n - (k + 1)) ≡ walk form b (first + 12 * k) at (n - k)
+walk_more form b first at n k s e h =
+    let pair : first + 12 * (k + 1) ≡ first + 12 * k + 12 = omega arith in
+    let left : n - (k + 1) ≡ n - k - 1 = omega arith in
+    rw (pair, left) (sym (walk_some form b (first + 12 * k) at s e (n - k) (omega arith)))

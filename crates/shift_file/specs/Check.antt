@@ -1,7 +1,7 @@
 -- Which bytes are a shift file, as it is computed: the pairs and headers are looked at and the planes are not. docs/RULES.md, 11.3. `Means` says
 -- that it is true exactly where some list of records has these bytes.
 -- Assumes nothing.
-use Rattle.std.specs.Prelude.{ℕ, zero, suc, ◌+◌, Bool, true, cond, ◌&&◌, List, leb, eqb, length, drop}
+use Rattle.std.specs.Prelude.{ℕ, zero, suc, ◌+◌, Bool, true, cond, ◌&&◌, List, Option, Some, None, leb, eqb, length, drop}
 use Rattle.little_endian.specs.Number.{number_in}
 use Rattle.shift_file.specs.declared.ShiftForm.{ShiftForm}
 use Rattle.shift_file.specs.declared.ShiftForm.TheVariants.{WithoutSettings, WithSettings}
@@ -27,10 +27,14 @@ walk form b pair at (suc n) =
     record_stands form (drop at b)
     && (pair_is (drop pair b) at (size_at form (drop at b)) && walk form b (pair + 12) (at + size_at form (drop at b)) n)
 
--- the bytes of the record at a place, where it is whole and has that pair; else 0: what one step of the walk looks for
-unfoldable pub next_size : ShiftForm → List ℕ → (pair at : ℕ) → ℕ
+-- the bytes of the record at the front, where an allowed one stands there, whole
+unfoldable pub size_standing : ShiftForm → List ℕ → Option ℕ
+size_standing form l = cond (record_stands form l) (Some (size_at form l)) None
+
+-- the bytes of the record at a place, where it is whole and has that pair: what one step of the walk looks for
+unfoldable pub next_size : ShiftForm → List ℕ → (pair at : ℕ) → Option ℕ
 next_size form b pair at =
-    cond (record_stands form (drop at b) && pair_is (drop pair b) at (size_at form (drop at b))) (size_at form (drop at b)) 0
+    cond (record_stands form (drop at b) && pair_is (drop pair b) at (size_at form (drop at b))) (Some (size_at form (drop at b))) None
 
 -- RULES 11.7
 abbrev pub is_marked : ShiftForm → List ℕ → Bool

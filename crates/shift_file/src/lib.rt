@@ -3,23 +3,27 @@
 // it reads pairs and headers and no plane.
 #![tactic(auto)]
 
+pub mod part; // a record's header
+
 ghost use Rattle.std.specs.Prelude.{◌≡◌, ◌+◌, ◌*◌, ◌≤◌, ◌<◌, length, take, drop};
 ghost use Rattle.yuv_support.specs.Sampling.{chroma_width, chroma_height};
-ghost use Rattle.shift_file.specs.File.{mark_size, settings_size, header_size, pairs_at, is_code, is_side, codes_allowed, sampling_of, settings_told, code_list};
+ghost use Rattle.shift_file.specs.File.{mark_size, settings_size, header_size, pairs_at, is_code, is_side, codes_allowed, sampling_of, settings_told, code_list, not_recorded};
 ghost use Rattle.shift_file.specs.Read.{settings_at, size_at, count_at};
-ghost use Rattle.shift_file.specs.Check.{shape_allowed, record_stands, pair_is, next_size, walk, is_marked, records_follow, is_file, form_in};
+ghost use Rattle.shift_file.specs.Check.{record_stands, size_standing, pair_is, next_size, walk, is_marked, records_follow, is_file, form_in};
 
+use part::Part;
 use yuv_support::YuvChromaSubsampling;
 
 // Which of its two forms a file has.
-#[derive(Clone, Copy)]
+#[derive(Clone, Copy, Debug, PartialEq, Eq)]
 pub enum ShiftForm {
     WithoutSettings,
     WithSettings,
 }
 
 // The settings of a record by their codes, 255 in range, matrix or transfer for not recorded.
-#[derive(Clone, Copy)]
+// Codes and no Options: a caller's own, which need not be allowed, come in this type too and are then refused.
+#[derive(Clone, Copy, Debug, PartialEq, Eq)]
 pub struct SettingCodes {
     pub sampling: u32,
     pub range: u32,
@@ -44,7 +48,7 @@ impl ShiftForm {
         }
     }
 
-    // The bytes of a record's settings.
+    // The bytes of a record's settings. That they are as many as the mark's is no rule.
     fn settings_size(self) -> usize
         ensures { (result ≡ settings_size self) × (result ≤ 4) }
     {
@@ -68,22 +72,53 @@ impl ShiftForm {
 fn is_code(codes: u32, code: u32) -> bool
     ensures { result ≡ is_code codes code }
 {
-    (code < codes) | (code == 255)
+    (code < codes) || (code == 255)
 }
 
 impl SettingCodes {
+    // 4:2:0, and nothing recorded.
+    pub fn not_recorded() -> SettingCodes
+        ensures { code_list result ≡ not_recorded }
+    {
+        SettingCodes {
+            sampling: 0,
+            range: 255,
+            matrix: 255,
+            transfer: 255,
+        }
+    }
+
     pub fn are_allowed(self) -> bool
         ensures { result ≡ codes_allowed ShiftForm.WithSettings (code_list self) }
     {
         (self.sampling < 2)
-            & (is_code(2, self.range) & (is_code(7, self.matrix) & is_code(4, self.transfer)))
+            && is_code(2, self.range)
+            && is_code(7, self.matrix)
+            && is_code(4, self.transfer)
+    }
+}
+
+// The four bytes of settings.
+impl From<[u8; 4]> for SettingCodes {
+    ghost use Rattle.std.specs.Prelude.{◌≡◌};
+    ghost use Rattle.shift_file.specs.File.{code_list};
+
+    ghost from_gives = { λ bytes codes. code_list codes ≡ bytes };
+
+    fn from(bytes: [u8; 4]) -> SettingCodes {
+        SettingCodes {
+            sampling: u32::from(bytes[0]),
+            range: u32::from(bytes[1]),
+            matrix: u32::from(bytes[2]),
+            transfer: u32::from(bytes[3]),
+        }
     }
 }
 
 fn is_side(side: u16) -> bool
     ensures { result ≡ is_side side }
 {
-    (1 <= side) & (side <= 16384)
+    (1..=16384).contains(&side)
 }
 
 // Sampling, range, matrix and transfer, after crossing, width and height.
@@ -91,22 +126,7 @@ pub fn codes_at(part: &[u8]) -> SettingCodes
     requires { 12 ≤ length part.now }
     ensures { code_list result ≡ settings_at ShiftForm.WithSettings part.now }
 {
-    SettingCodes {
-        sampling: part[8] as u32,
-        range: part[9] as u32,
-        matrix: part[10] as u32,
-        transfer: part[11] as u32,
-    }
-}
-
-fn are_settings(form: ShiftForm, part: &[u8]) -> bool
-    requires { header_size form ≤ length part.now }
-    ensures { result ≡ codes_allowed form (settings_at form part.now) }
-{
-    match form {
-        ShiftForm::WithoutSettings => true,
-        ShiftForm::WithSettings => codes_at(part).are_allowed(),
-    }
+    SettingCodes::from(little_endian::array_at::<4>(part, 8))
 }
 
 // The settings of a record; 4:2:0, and nothing recorded, where it has none.
@@ -114,15 +134,7 @@ pub fn settings_told(form: ShiftForm, part: &[u8]) -> SettingCodes
     requires { header_size form ≤ length part.now }
     ensures { code_list result ≡ settings_told form (settings_at form part.now) }
 {
-    match form {
-        ShiftForm::WithoutSettings => SettingCodes {
-            sampling: 0,
-            range: 255,
-            matrix: 255,
-            transfer: 255,
-        },
-        ShiftForm::WithSettings => codes_at(part),
-    }
+    Part { form, bytes: part }.settings()
 }
 
 // The sampling of a record's planes.
@@ -130,10 +142,7 @@ pub fn sampling_at(form: ShiftForm, part: &[u8]) -> YuvChromaSubsampling
     requires { header_size form ≤ length part.now }
     ensures { result ≡ sampling_of form (settings_at form part.now) }
 {
-    match form {
-        ShiftForm::WithoutSettings => YuvChromaSubsampling::Yuv420,
-        ShiftForm::WithSettings => setting_codes::sampling_of(part[8] as u32),
-    }
+    Part { form, bytes: part }.sampling()
 }
 
 // The bytes of a luma plane.
@@ -157,30 +166,24 @@ pub fn size_at(form: ShiftForm, part: &[u8]) -> usize
     requires { header_size form ≤ length part.now }
     ensures { result ≡ size_at form part.now }
 {
-    let width = little_endian::read_u16(part, 4) as usize;
-    let height = little_endian::read_u16(part, 6) as usize;
-    let chroma = chroma_size(sampling_at(form, part), width, height);
-    form.header_size() + (luma_size(width, height) + 2 * chroma)
+    Part { form, bytes: part }.size()
 }
 
-// Whether a header's sizes and settings are allowed.
-fn is_shape_allowed(form: ShiftForm, part: &[u8]) -> bool
-    requires { header_size form ≤ length part.now }
-    ensures { result ≡ shape_allowed form part.now }
+// The bytes of the record at the front, where an allowed one stands there, whole.
+#[tactic(auto, unfolding(crate::specs::Check::size_standing, crate::specs::Check::record_stands))]
+pub fn size_standing(form: ShiftForm, bytes: &[u8]) -> Option<usize>
+    ensures { result ≡ size_standing form bytes.now }
 {
-    let width = little_endian::read_u16(part, 4);
-    let height = little_endian::read_u16(part, 6);
-    is_side(width) & (is_side(height) & are_settings(form, part))
+    let part = Part::new(form, bytes)?;
+    (part.is_allowed() && part.size() <= bytes.len()).then_some(part.size())
 }
 
 // Whether an allowed record stands there, whole.
+#[tactic(auto, unfolding(crate::specs::Check::size_standing))]
 pub fn record_stands(form: ShiftForm, part: &[u8]) -> bool
     ensures { result ≡ record_stands form part.now }
 {
-    if part.len() < form.header_size() {
-        return false;
-    }
-    is_shape_allowed(form, part) & (size_at(form, part) <= part.len())
+    size_standing(form, part).is_some()
 }
 
 // ---- a file
@@ -202,31 +205,24 @@ pub fn part_of(bytes: &[u8], at: usize, size: usize) -> &[u8]
     &bytes[at..end]
 }
 
+#[tactic(auto, unfolding(crate::specs::Check::pair_is))]
 fn pair_is(pair: &[u8], at: usize, size: usize) -> bool
     requires { 12 ≤ length pair.now }
     ensures { result ≡ pair_is pair.now at size }
 {
     let offset = little_endian::read_u64(pair, 0);
     let extent = little_endian::read_u32(pair, 8);
-    (offset == at as u64) & (extent as usize == size)
+    (offset == at as u64) && (extent as usize == size)
 }
 
-// The bytes of the record at a place, where it is whole and the pair at another is its pair; else 0.
-fn next_size(form: ShiftForm, file: &[u8], pair: usize, at: usize) -> usize
+// The bytes of the record at a place, where it is whole and the pair at another is its pair.
+#[tactic(auto, unfolding(crate::specs::Check::next_size, crate::specs::Check::size_standing))]
+fn next_size(form: ShiftForm, file: &[u8], pair: usize, at: usize) -> Option<usize>
     requires { (pair + 12 ≤ length file.now) × (at ≤ length file.now) }
     ensures { result ≡ next_size form file.now pair at }
 {
-    let part = from_place(file, at);
-    if record_stands(form, part) {
-        let size = size_at(form, part);
-        if pair_is(from_place(file, pair), at, size) {
-            size
-        } else {
-            0
-        }
-    } else {
-        0
-    }
+    let size = size_standing(form, from_place(file, at))?;
+    pair_is(from_place(file, pair), at, size).then_some(size)
 }
 
 // Whether so many pairs and records belong together, and the file ends with them.
@@ -234,17 +230,12 @@ fn walk_records(form: ShiftForm, file: &[u8], first_pair: usize, first: usize, c
     requires { (first_pair + 12 * count ≤ length file.now) × (first ≤ length file.now) }
     ensures { result ≡ walk form file.now first_pair first count }
 {
-    let mut pair = first_pair;
     let mut at = first;
-    let mut left = count;
-    while 0 < left {
-        let size = next_size(form, file, pair, at);
-        if size == 0 {
-            return false;
+    for k in 0..count {
+        match next_size(form, file, first_pair + 12 * k, at) {
+            Some(size) => at += size,
+            None => return false,
         }
-        pair += 12;
-        at += size;
-        left -= 1;
     }
     at == file.len()
 }
@@ -260,6 +251,7 @@ fn is_marked(form: ShiftForm, file: &[u8]) -> bool
 }
 
 // The count, as it stands there.
+#[tactic(auto, unfolding(crate::specs::Read::count_at))]
 pub fn count_at(form: ShiftForm, file: &[u8]) -> u32
     requires { pairs_at form ≤ length file.now }
     ensures { result ≡ count_at form file.now }
@@ -268,44 +260,33 @@ pub fn count_at(form: ShiftForm, file: &[u8]) -> u32
 }
 
 // Whether the pairs have room, and they and the records belong together.
+#[tactic(auto, unfolding(crate::specs::Check::records_follow))]
 fn records_follow(form: ShiftForm, file: &[u8], count: usize) -> bool
     requires { count ≤ 4096 }
     ensures { result ≡ records_follow form file.now count }
 {
     let pairs = form.mark_size() + 4;
     let first = pairs + 12 * count;
-    if first <= file.len() {
-        walk_records(form, file, pairs, first, count)
-    } else {
-        false
-    }
+    first <= file.len() && walk_records(form, file, pairs, first, count)
 }
 
 // Whether these bytes are a shift file.
+#[tactic(auto, unfolding(crate::specs::Check::is_file))]
 pub fn is_file(form: ShiftForm, file: &[u8]) -> bool
     ensures { result ≡ is_file form file.now }
 {
-    if file.len() < form.mark_size() + 4 {
-        return false;
-    }
-    if !is_marked(form, file) {
-        return false;
-    }
-    let count = count_at(form, file);
-    if MOST_RECORDS < count {
-        return false;
-    }
-    records_follow(form, file, count as usize)
+    form.mark_size() + 4 <= file.len()
+        && is_marked(form, file)
+        && count_at(form, file) <= MOST_RECORDS
+        && records_follow(form, file, count_at(form, file) as usize)
 }
 
 // Which form a file has, by the mark that it begins with or not: no other form can be a file's.
+#[tactic(auto, unfolding(crate::specs::Check::form_in))]
 pub fn form_of(file: &[u8]) -> ShiftForm
     ensures { result ≡ form_in file.now }
 {
-    if file.len() < 4 {
-        return ShiftForm::WithoutSettings;
-    }
-    if little_endian::read_u32(file, 0) == MARK {
+    if 4 <= file.len() && little_endian::read_u32(file, 0) == MARK {
         ShiftForm::WithSettings
     } else {
         ShiftForm::WithoutSettings

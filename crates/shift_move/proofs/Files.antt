@@ -1,29 +1,59 @@
 -- A moved file: it is the file of the moved records, these may move back, and moved back it is the same file. Assumes nothing.
-use Prim.Native.Nat.{ℕ, suc, ◌+◌, ◌*◌, ◌^◌, ◌≤◌, ◌<◌}
+use Prim.Native.Nat.{ℕ, ◌+◌, ◌*◌, ◌^◌, ◌≤◌, ◌<◌}
 use mathlib.Core.Path.{◌≡◌, refl, ap, sym, ◌∙◌}
-use mathlib.Core.Bool.{Bool, true, cond, not}
-use mathlib.Core.List.{List, [], ◌∷◌, map}
+use mathlib.Core.Bool.{true, cond, not}
+use mathlib.Core.List.{List, [], ◌∷◌}
 use native.Mathlib.Nat.{mul-zero, mul-suc}
 use native.Mathlib.Omega.{arith}
 use lib.Dec.{ltb}
 use lib.ListN.{length, length-append, length-map}
 use lib.Seq.{sets}
-use Rattle.little_endian.specs.Number.{low_bytes}
+use Rattle.little_endian.specs.Number.{Bytes, low_bytes}
 use Rattle.yuv_error.specs.Numbers.{numbers}
 use Rattle.yuv_error.specs.Rules.{first_numbers}
 use Rattle.shift_file.specs.declared.ShiftForm.{ShiftForm}
 use Rattle.shift_file.specs.declared.ShiftForm.TheVariants.{WithoutSettings, WithSettings}
-use Rattle.shift_file.specs.File.{ShiftRecord, EachAllowed, HasFile, IsFileOf, mark, mark_size, settings_size, records_at, bytes_of, pairs_of, record_bytes, file_of}
-use Rattle.shift_file.specs.Read.{records_in}
+use Rattle.shift_file.specs.File.{ShiftRecord, Allowed, EachAllowed, HasFile, IsFileOf, mark, mark_size, settings_size, header_size, records_at, bytes_of, pairs_of, record_bytes, file_of}
+use Rattle.shift_file.specs.Read.{count_at, records_in}
 use Rattle.shift_file.specs.Check.{is_file}
-use Rattle.shift_file.proofs.Record.{both}
+use Rattle.shift_file.proofs.Record.{both, length_bytes, size_most}
+use Rattle.shift_reader.specs.Entry.{record_of}
+use Rattle.shift_reader.proofs.Places.{Known, known, allowed}
 use Rattle.shift_file.proofs.File.{its_records, length_file, file_most}
 use Rattle.shift_move.specs.Move.{other_form, is_plain, are_plain, may_move, moved_record, moved, moved_file}
 use Rattle.shift_writer.proofs.Pairs.{parts_put}
 use Rattle.shift_move.specs.Moving.{move_rules}
-use Rattle.shift_move.specs.Known.{HasRecords}
 use Rattle.shift_move.specs.Means.{MovedIsFile, MayReturn, ThereAndBack}
 use Rattle.shift_move.proofs.Moved.{Plain, length_moved, moved_Allowed, moved_again}
+
+-- ---- a file that was checked
+
+-- the file of its records, which are so many
+pub record HasRecords (form : ShiftForm) (file : List ℕ) (n : ℕ) : Type 0 where
+  pub is_file_lem : IsFileOf form file (records_in form file)
+  pub count : n ≡ length (records_in form file)
+
+pub has_records : (form : ShiftForm) (file : List ℕ) (n : ℕ) → is_file form file ≡ true → Bytes file → n ≡ count_at form file → HasRecords form file n
+has_records form file n e bytes counted =
+    let k : Known form file = known form file e bytes in record { is_file_lem = k.its; count = counted ∙ sym k.count }
+
+-- what is known of record k, and of it moved
+pub record Moves (form : ShiftForm) (r : ShiftRecord) : Type 0 where
+  pub settings : length r.settings ≡ settings_size form
+  pub header : header_size form ≤ length (bytes_of r)
+  pub most : length (bytes_of r) ≤ 2 ^ 30
+  pub size : length (bytes_of (moved_record (other_form form) r)) + header_size form ≡ length (bytes_of r) + header_size (other_form form)
+
+pub moves : (form : ShiftForm) (file : List ℕ) (k n : ℕ) → is_file form file ≡ true → Bytes file → n ≡ count_at form file → k < n → Moves form (record_of form file k)
+moves form file k n e bytes counted below =
+    let h : HasRecords form file n = has_records form file n e bytes counted in
+    let r = record_of form file k in
+    let a : Allowed form r = allowed form file (records_in form file) k h.is_file_lem (omega (arith, h.count)) in record {
+      settings = a.settings;
+      header = omega (arith, length_bytes form r a);
+      most = size_most form r a;
+      size = length_moved (other_form form) form r a.settings;
+    }
 
 -- ---- the records
 
@@ -152,5 +182,5 @@ pub asked_in_order : (from : ShiftForm) (file : List ℕ) (room : ℕ)
     → first_numbers (move_rules from file room)
     ≡ cond (not (is_file from file)) (numbers 15 0 0)
     (cond (not (may_move from (records_in from file))) (numbers 20 0 0) (cond (ltb room (length (moved_file from file))) (numbers 16 0 0) (numbers 0 0 0)))
-asked_in_order WithoutSettings file room = refl
-asked_in_order WithSettings file room = refl
+asked_in_order WithoutSettings file most = refl
+asked_in_order WithSettings file most = refl

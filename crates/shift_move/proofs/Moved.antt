@@ -1,7 +1,7 @@
 -- A moved record: its bytes, its size, that it is allowed, and that moved again it is the record. Assumes nothing.
-use Prim.Native.Nat.{ℕ, ◌+◌, ◌*◌, ◌≤◌}
+use Prim.Native.Nat.{ℕ, ◌+◌}
 use mathlib.Core.Path.{◌≡◌, refl, ap, sym, ◌∙◌}
-use mathlib.Core.Bool.{Bool, true, ◌&&◌}
+use mathlib.Core.Bool.{true}
 use mathlib.Core.List.{List, [], ◌∷◌, ◌++◌, append_assoc}
 use native.Mathlib.Nat.{add_assoc}
 use native.Mathlib.Omega.{arith}
@@ -10,8 +10,6 @@ use lib.ListN.{length, get_or, take, drop, length-append}
 use lib.Seq.{sets, take_at, drop_at}
 use borrow.Author.Tests.{eqb-true}
 use Rattle.yuv_support.specs.declared.YuvChromaSubsampling.TheVariants.{Yuv420}
-use Rattle.yuv_support.specs.Sampling.{chroma_width, chroma_height}
-use Rattle.setting_codes.specs.Codes.{sampling_codes}
 use Rattle.little_endian.specs.Number.{low_bytes}
 use Rattle.little_endian.proofs.Number.{length_low}
 use Rattle.little_endian.proofs.Stores.{sets-append}
@@ -20,7 +18,7 @@ use Rattle.shift_file.specs.declared.ShiftForm.TheVariants.{WithoutSettings, Wit
 use Rattle.shift_file.specs.File.{ShiftRecord, Allowed, settings_size, header_size, sampling_of, chroma_bytes, codes_allowed, bytes_of}
 use Rattle.shift_file.proofs.Record.{both}
 use Rattle.shift_file.proofs.Tests.{four}
-use Rattle.shift_move.specs.Move.{other_form, plain_settings, is_plain, moved_record}
+use Rattle.shift_move.specs.Move.{plain_settings, is_plain, moved_record}
 
 -- the settings are plain, in a form that has any
 abbrev pub Plain : ShiftForm → ShiftRecord → Type 0

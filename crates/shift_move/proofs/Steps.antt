@@ -1,20 +1,29 @@
 -- Records one after the other: what is left to look at, to tell and to put. Assumes nothing.
-use Prim.Native.Nat.{ℕ, suc, ◌+◌, ◌*◌, ◌-◌, ◌≤◌, ◌<◌}
-use mathlib.Core.Path.{◌≡◌, refl, ap, sym, ◌∙◌}
-use mathlib.Core.Bool.{Bool, true, false, ◌&&◌}
-use mathlib.Core.List.{List, [], ◌∷◌, ◌++◌, append_assoc, map}
-use native.Mathlib.Nat.{add_assoc}
+use Prim.Native.Nat.{ℕ, ◌+◌, ◌≤◌, ◌<◌}
+use mathlib.Core.Path.{◌≡◌, sym}
+use mathlib.Core.Bool.{true, ◌&&◌}
+use mathlib.Core.List.{List, [], ◌∷◌, ◌++◌, append_assoc}
 use native.Mathlib.Numerals.{add-one}
-use native.Mathlib.Omega.{arith}
-use lib.ListN.{length, get_or, drop, length-append, drop_of_length-le}
+use lib.ListN.{length, drop, length-append, drop_of_length-le}
 use lib.Seq.{sets, drop-cons}
 use Rattle.little_endian.specs.Number.{low_bytes}
 use Rattle.little_endian.proofs.Number.{length_low}
 use Rattle.little_endian.proofs.Stores.{sets-append}
 use Rattle.shift_file.specs.declared.ShiftForm.{ShiftForm}
-use Rattle.shift_file.specs.File.{ShiftRecord, bytes_of, pairs_of, record_bytes}
+use Rattle.shift_file.specs.declared.ShiftForm.TheVariants.{WithoutSettings, WithSettings}
+use Rattle.shift_file.specs.File.{ShiftRecord, settings_told, bytes_of, pairs_of, record_bytes}
 use Rattle.shift_reader.specs.Entry.{no_record, nth}
-use Rattle.shift_move.specs.Move.{is_plain, are_plain, moved_record, moved}
+use Rattle.shift_move.specs.Move.{is_plain, are_plain, may_move, moved_record, moved}
+
+-- by the form
+pub told_with : (form : ShiftForm) → form ≡ WithSettings → (settings : List ℕ) → settings_told form settings ≡ settings
+told_with form e settings = rw e
+
+pub may_with : (form : ShiftForm) → form ≡ WithSettings → (rs : List ShiftRecord) → may_move form rs ≡ are_plain rs
+may_with form e rs = rw e
+
+pub may_without : (form : ShiftForm) → form ≡ WithoutSettings → (rs : List ShiftRecord) → may_move form rs ≡ true
+may_without form e rs = rw e
 
 module _ (rs : List ShiftRecord) (k : ℕ) where
   next : k < length rs → drop k rs ≡ nth rs k ∷ drop (k + 1) rs

@@ -2,4 +2,3 @@
 pub mod Move
 pub mod Moving
 pub mod Means
-pub mod Known

@@ -4,17 +4,16 @@
 
 ghost use Rattle.std.specs.Prelude.{◌≡◌, ◌+◌, ◌*◌, ◌^◌, ◌≤◌, ◌<◌, length};
 ghost use Rattle.std.proofs.lemmas.List.Edits.{sets};
-ghost use Rattle.shift_file.specs.File.{bytes_of, pairs_of, record_bytes};
-ghost use Rattle.shift_file.specs.Read.{settings_at, records_in};
+ghost use Rattle.shift_file.specs.File.{code_list, bytes_of, pairs_of, record_bytes};
+ghost use Rattle.shift_file.specs.Read.{records_in};
 ghost use Rattle.shift_reader.specs.Entry.{record_of};
-ghost use Rattle.shift_reader.specs.Known.{HasRecord};
 ghost use Rattle.shift_move.specs.Move.{other_form, plain_settings, is_plain, are_plain, may_move, moved_record, moved, moved_file};
 ghost use Rattle.shift_move.specs.Moving.{MovePost};
-ghost use Rattle.shift_move.specs.Known.{HasRecords};
 
-use shift_file::ShiftForm;
+use shift_file::{SettingCodes, ShiftForm};
+use shift_reader::file::ShiftFile;
 use shift_writer::ShiftWritten;
-use yuv_error::{YuvAnswer, YuvError};
+use yuv_error::YuvError;
 
 fn other_form(form: ShiftForm) -> ShiftForm
     ensures { result ≡ other_form form }
@@ -27,49 +26,46 @@ fn other_form(form: ShiftForm) -> ShiftForm
 
 // ---- what may move back
 
-// Whether a record has 4:2:0 and nothing recorded.
-fn is_plain(record: &[u8]) -> bool
-    requires { 12 ≤ length «record».now }
-    ensures { result ≡ is_plain (settings_at ShiftForm.WithSettings «record».now) }
+// Whether these are 4:2:0 and nothing recorded.
+fn is_plain(codes: SettingCodes) -> bool
+    ensures { result ≡ is_plain (code_list codes) }
 {
-    let codes = shift_file::codes_at(record);
     (codes.sampling == 0)
-        & ((codes.range == 255) & ((codes.matrix == 255) & (codes.transfer == 255)))
+        && (codes.range == 255)
+        && (codes.matrix == 255)
+        && (codes.transfer == 255)
 }
 
-fn are_plain(file: &[u8], count: usize) -> bool
-    requires { HasRecords ShiftForm.WithSettings file.now count }
-    ensures { result ≡ are_plain (records_in ShiftForm.WithSettings file.now) }
+fn are_plain(file: &ShiftFile) -> bool
+    requires { file.now.form ≡ ShiftForm.WithSettings }
+    ensures { result ≡ are_plain (records_in file.now.form file.now.bytes.now) }
 {
-    let mut k = 0;
-    while k < count {
-        if !is_plain(shift_reader::record_part(ShiftForm::WithSettings, file, k)) {
+    for k in 0..file.count {
+        if !is_plain(file.settings(k)) {
             return false;
         }
-        k += 1;
     }
     true
 }
 
-fn may_move(from: ShiftForm, file: &[u8], count: usize) -> bool
-    requires { HasRecords from file.now count }
-    ensures { result ≡ may_move from (records_in from file.now) }
+fn may_move(file: &ShiftFile) -> bool
+    ensures { result ≡ may_move file.now.form (records_in file.now.form file.now.bytes.now) }
 {
-    match from {
+    match file.form {
         ShiftForm::WithoutSettings => true,
-        ShiftForm::WithSettings => are_plain(file, count),
+        ShiftForm::WithSettings => are_plain(file),
     }
 }
 
 // ---- a record in the other form
 
 // The bytes of record k, moved.
-fn moved_size(from: ShiftForm, file: &[u8], k: usize) -> usize
-    requires { HasRecord from file.now k }
-    ensures { result ≡ length (bytes_of (moved_record (other_form from) (record_of from file.now k))) }
+fn moved_size(file: &ShiftFile, k: usize) -> usize
+    requires { k < file.now.count }
+    ensures { result ≡ length (bytes_of (moved_record (other_form file.now.form) (record_of file.now.form file.now.bytes.now k))) }
 {
-    let entry = shift_reader::entry_of(from, file, k);
-    entry.length - from.header_size() + other_form(from).header_size()
+    let entry = file.entry(k);
+    entry.length - file.form.header_size() + other_form(file.form).header_size()
 }
 
 fn put_settings(form: ShiftForm, output: &mut [u8], at: usize)
@@ -86,122 +82,107 @@ fn put_settings(form: ShiftForm, output: &mut [u8], at: usize)
 }
 
 // Record k, moved: crossing, width and height, other settings, and its planes.
-fn put_record(from: ShiftForm, file: &[u8], k: usize, output: &mut [u8], at: usize)
-    requires has_record { HasRecord from file.now k }
-    requires k_in_bounds { at + length (bytes_of (moved_record (other_form from) (record_of from file.now k))) ≤ length output.old }
-    ensures { output.new ≡ sets output.old at (bytes_of (moved_record (other_form from) (record_of from file.now k))) }
+fn put_record(file: &ShiftFile, k: usize, output: &mut [u8], at: usize)
+    requires below { k < file.now.count }
+    requires room { at + length (bytes_of (moved_record (other_form file.now.form) (record_of file.now.form file.now.bytes.now k))) ≤ length output.old }
+    ensures { output.new ≡ sets output.old at (bytes_of (moved_record (other_form file.now.form) (record_of file.now.form file.now.bytes.now k))) }
 {
-    let to = other_form(from);
+    let to = other_form(file.form);
     let planes = at + to.header_size();
-    let record = shift_reader::record_part(from, file, k);
+    let record = file.record(k);
     shift_writer::copy_bytes(output, at, shift_file::part_of(record, 0, 8));
     put_settings(to, output, at + 8);
     shift_writer::copy_bytes(
         output,
         planes,
-        shift_file::from_place(record, from.header_size()),
+        shift_file::from_place(record, file.form.header_size()),
     );
 }
 
 // ---- a file in the other form
 
 // The pairs of the moved records, the first of which is to stand at `first`.
-fn write_pairs(
-    from: ShiftForm,
-    file: &[u8],
-    count: usize,
-    first_pair: usize,
-    first: usize,
-    output: &mut [u8],
-)
-    requires has_records { HasRecords from file.now count }
-    requires count_in_bounds { (first_pair + 12 * count ≤ length output.old)
-        × (first + length (record_bytes (moved (other_form from) (records_in from file.now))) < 2 ^ 64) }
+fn write_pairs(file: &ShiftFile, first_pair: usize, first: usize, output: &mut [u8])
+    requires room { first_pair + 12 * file.now.count ≤ length output.old }
+    requires most { first + length (record_bytes (moved (other_form file.now.form) (records_in file.now.form file.now.bytes.now))) < 2 ^ 64 }
     ensures { output.new
-        ≡ sets output.old first_pair (pairs_of first (moved (other_form from) (records_in from file.now))) }
+        ≡ sets output.old first_pair (pairs_of first (moved (other_form file.now.form) (records_in file.now.form file.now.bytes.now))) }
 {
-    let mut pair = first_pair;
     let mut at = first;
-    let mut k = 0;
-    while k < count {
-        let size = moved_size(from, file, k);
-        shift_writer::write_pair(output, pair, at, size);
-        pair += 12;
+    for k in 0..file.count {
+        let size = moved_size(file, k);
+        shift_writer::write_pair(output, first_pair + 12 * k, at, size);
         at += size;
-        k += 1;
     }
 }
 
 // The moved records, back to back.
-fn put_records(from: ShiftForm, file: &[u8], count: usize, first: usize, output: &mut [u8])
-    requires has_records { HasRecords from file.now count }
-    requires file_in_bounds { first + length (record_bytes (moved (other_form from) (records_in from file.now))) ≤ length output.old }
+fn put_records(file: &ShiftFile, first: usize, output: &mut [u8])
+    requires { first + length (record_bytes (moved (other_form file.now.form) (records_in file.now.form file.now.bytes.now))) ≤ length output.old }
     ensures { output.new
-        ≡ sets output.old first (record_bytes (moved (other_form from) (records_in from file.now))) }
+        ≡ sets output.old first (record_bytes (moved (other_form file.now.form) (records_in file.now.form file.now.bytes.now))) }
 {
     let mut at = first;
-    let mut k = 0;
-    while k < count {
-        put_record(from, file, k, output, at);
-        at += moved_size(from, file, k);
-        k += 1;
+    for k in 0..file.count {
+        put_record(file, k, output, at);
+        at += moved_size(file, k);
     }
 }
 
-fn put_file(from: ShiftForm, file: &[u8], count: usize, output: &mut [u8])
-    requires has_records { HasRecords from file.now count }
-    requires file_in_bounds { length (moved_file from file.now) ≤ length output.old }
-    ensures { output.new ≡ sets output.old 0 (moved_file from file.now) }
+fn put_file(file: &ShiftFile, output: &mut [u8])
+    requires { length (moved_file file.now.form file.now.bytes.now) ≤ length output.old }
+    ensures { output.new ≡ sets output.old 0 (moved_file file.now.form file.now.bytes.now) }
 {
-    let to = other_form(from);
+    let to = other_form(file.form);
     let counted = to.mark_size();
     let pairs = counted + 4;
-    let first = pairs + 12 * count;
+    let first = pairs + 12 * file.count;
     shift_writer::write_mark(to, output);
-    little_endian::write_number(output, counted, count as u64, 4);
-    write_pairs(from, file, count, pairs, first, output);
-    put_records(from, file, count, first, output);
+    little_endian::write_number(output, counted, file.count as u64, 4);
+    write_pairs(file, pairs, first, output);
+    put_records(file, first, output);
 }
 
 // The bytes of the moved file: with settings it has the mark, and four bytes a record.
-fn file_size(from: ShiftForm, file: &[u8], count: usize) -> usize
-    requires has_records { HasRecords from file.now count }
-    requires file_len_bound { length (moved_file from file.now) < 2 ^ 64 }
-    ensures { result ≡ length (moved_file from file.now) }
+fn file_size(file: &ShiftFile) -> usize
+    requires { length (moved_file file.now.form file.now.bytes.now) < 2 ^ 64 }
+    ensures { result ≡ length (moved_file file.now.form file.now.bytes.now) }
 {
-    let settings = 4 + 4 * count;
-    match from {
-        ShiftForm::WithoutSettings => file.len() + settings,
-        ShiftForm::WithSettings => file.len() - settings,
+    let settings = 4 + 4 * file.count;
+    match file.form {
+        ShiftForm::WithoutSettings => file.bytes.len() + settings,
+        ShiftForm::WithSettings => file.bytes.len() - settings,
     }
 }
 
 fn move_file(from: ShiftForm, file: &[u8], output: &mut [u8]) -> ShiftWritten
     ensures { MovePost from file.now output.old result output.new }
 {
-    if !shift_file::is_file(from, file) {
+    let file = match ShiftFile::open(from, file) {
+        Ok(file) => file,
+        Err(error) => {
+            return ShiftWritten {
+                answer: Err(error),
+                size: 0,
+            };
+        }
+    };
+    if !may_move(&file) {
         return ShiftWritten {
-            answer: YuvAnswer::Refused(YuvError::MalformedShiftFile),
+            answer: Err(YuvError::SettingsRecorded),
             size: 0,
         };
     }
-    let count = shift_file::count_at(from, file) as usize;
-    if !may_move(from, file, count) {
-        return ShiftWritten {
-            answer: YuvAnswer::Refused(YuvError::SettingsRecorded),
-            size: 0,
-        };
-    }
-    let size = file_size(from, file, count);
+    let size = file_size(&file);
     if output.len() < size {
         return ShiftWritten {
-            answer: YuvAnswer::Refused(YuvError::OutputTooShort),
+            answer: Err(YuvError::OutputTooShort),
             size,
         };
     }
-    put_file(from, file, count, output);
+    put_file(&file, output);
     ShiftWritten {
-        answer: YuvAnswer::Finished,
+        answer: Ok(()),
         size,
     }
 }

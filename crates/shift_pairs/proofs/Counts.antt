@@ -1,7 +1,7 @@
 -- Both counts of pairs make all pairs. A record's place stands once among those of its own crossing and never among another's, so it has one pair or
 -- none; then the pairs and the records without one make the file. Assumes nothing.
 use Prim.Native.Nat.{ℕ, zero, suc, ◌+◌, ◌^◌, ◌≤◌, ◌<◌}
-use mathlib.Core.Path.{◌≡◌, refl, sym, ◌∙◌, ap}
+use mathlib.Core.Path.{◌≡◌, refl, ap}
 use mathlib.Core.Bool.{Bool, true, false, cond, not}
 use mathlib.Core.List.{List, [], ◌∷◌, ◌++◌}
 use native.Mathlib.Nat.{le_trans}
@@ -14,7 +14,7 @@ use Rattle.merge_sort.proofs.Permuted.{count-append, all_map}
 use Rattle.shift_file.specs.File.{ShiftRecord}
 use Rattle.shift_pairs.specs.Pairs.{Files, Pair, places_from, places_of, zip, pairs_of, pairs_below, all_pairs}
 use Rattle.shift_pairs.specs.Report.{is_equal, equal_pairs, differing_pairs, with_ours, with_theirs, without, report_of}
-use Rattle.shift_pairs.specs.Means.{OnePair, OneOrNone, AddUp, CountsAddUp}
+use Rattle.shift_pairs.specs.Means.{OneOrNone, CountsAddUp}
 
 pub pairs_counted : (f : Files) (ps : List Pair) → equal_pairs f ps + differing_pairs f ps ≡ length ps
 unfolding count

@@ -1,23 +1,27 @@
 -- The pair that is told is the first that differs: by the pairs, one after the other. Assumes nothing.
-use Prim.Native.Nat.{ℕ, ◌+◌, ◌≤◌}
+use Prim.Native.Nat.{◌≤◌}
 use mathlib.Core.Path.{◌≡◌, refl, sym, ◌∙◌, ap}
-use mathlib.Core.Bool.{Bool, true, false, cond, not, true≢false}
+use mathlib.Core.Bool.{Bool, true, false, not, true≢false}
 use mathlib.Core.List.{List, [], ◌∷◌, ◌++◌}
 use native.Mathlib.Omega.{arith}
 use Rattle.merge_sort.specs.Order.{one, count, All}
-use Rattle.record_difference.specs.declared.RecordDifference.{RecordDifference}
-use Rattle.record_difference.specs.declared.RecordDifference.TheVariants.{Same, Sizes, At}
-use Rattle.record_difference.specs.Record.{is_same}
+use Rattle.std.proofs.Common.{Option, Some, None}
+use Rattle.std.specs.Option.{is_none}
+use Rattle.record_difference.specs.declared.Difference.{Difference}
 use Rattle.shift_pairs.specs.declared.DifferingPair.{DifferingPair}
 use Rattle.shift_pairs.specs.Pairs.{Files, Pair, all_pairs}
-use Rattle.shift_pairs.specs.Report.{difference_of, is_equal, told, no_pair, first_differing, differing_pairs, report_of}
-use Rattle.shift_pairs.specs.Means.{FirstPair, FirstTold, FirstOrNone}
+use Rattle.shift_pairs.specs.Report.{difference_of, is_equal, with_difference, told, first_differing, differing_pairs, report_of}
+use Rattle.shift_pairs.specs.Means.{FirstPair, FirstOrNone}
 
 -- no difference, by its test
-is_same_lem : (d : RecordDifference) → is_same d ≡ true → d ≡ Same
-is_same_lem Same e = refl
-is_same_lem (Sizes a b) e = let z : false ≡ true = e in cc
-is_same_lem (At p) e = let z : false ≡ true = e in cc
+is_none_lem : (d : Option Difference) → is_none d ≡ true → d ≡ None
+is_none_lem None e = refl
+is_none_lem (Some d) e = let z : false ≡ true = e in cc
+
+-- a pair that differs is told
+some_told : (f : Files) (p : Pair) (d : Option Difference) → (d ≡ None → ⊥) → (x : DifferingPair) × (with_difference f p d ≡ Some x)
+some_told f p None h = absurd (h refl)
+some_told f p (Some d) h = (_, refl)
 
 module _ (f : Files) where
   -- the first of these pairs that differs, and the pairs before it
@@ -26,8 +30,8 @@ module _ (f : Files) where
     pair : Pair
     after : List Pair
     in_order : before ++ pair ∷ after ≡ ps
-    equal : All (λ p. difference_of f p ≡ Same) before
-    differs : difference_of f pair ≡ Same → ⊥
+    equal : All (λ p. difference_of f p ≡ None) before
+    differs : difference_of f pair ≡ None → ⊥
     is_told : first_differing f ps ≡ told f pair
 
   -- an equal pair leaves it to the later ones
@@ -52,7 +56,7 @@ module _ (f : Files) where
             pair = rest.pair;
             after = rest.after;
             in_order = ap (λ (l : List Pair). p ∷ l) rest.in_order;
-            equal = (is_same_lem (difference_of f p) e, rest.equal);
+            equal = (is_none_lem (difference_of f p) e, rest.equal);
             differs = rest.differs;
             is_told = from_later p ps e ∙ rest.is_told;
           }
@@ -62,32 +66,37 @@ module _ (f : Files) where
         after = ps;
         in_order = refl;
         equal = tt;
-        differs = λ same. true≢false (sym (ap is_same same) ∙ e);
+        differs = λ same. true≢false (sym (ap is_none same) ∙ e);
         is_told = from_here p ps e;
       }
 
-  none_of : (ps : List Pair) → differing_pairs f ps ≡ 0 → All (λ p. difference_of f p ≡ Same) ps × (first_differing f ps ≡ no_pair)
+  none_of : (ps : List Pair) → differing_pairs f ps ≡ 0 → All (λ p. difference_of f p ≡ None) ps × (first_differing f ps ≡ None)
   unfolding count All first_differing
   none_of [] h = (tt, refl)
   none_of (p ∷ ps) h = at (λ l. none_of ps l) (is_equal f p) refl
     where
-      at : (differing_pairs f ps ≡ 0 → All (λ q. difference_of f q ≡ Same) ps × (first_differing f ps ≡ no_pair)) → (t : Bool) → is_equal f p ≡ t
-          → ((difference_of f p ≡ Same) × All (λ q. difference_of f q ≡ Same) ps) × (first_differing f (p ∷ ps) ≡ no_pair)
+      at : (differing_pairs f ps ≡ 0 → All (λ q. difference_of f q ≡ None) ps × (first_differing f ps ≡ None)) → (t : Bool) → is_equal f p ≡ t
+          → ((difference_of f p ≡ None) × All (λ q. difference_of f q ≡ None) ps) × (first_differing f (p ∷ ps) ≡ None)
       at later true e =
           let rest = later (omega (arith, ap (λ (b : Bool). one (not b)) e)) in
-          ((is_same_lem (difference_of f p) e, rest.0), from_later p ps e ∙ rest.1)
+          ((is_none_lem (difference_of f p) e, rest.0), from_later p ps e ∙ rest.1)
       at later false e = absurd (omega (arith, ap (λ (b : Bool). one (not b)) e))
 
-  pair_told : First (all_pairs f) → (d : DifferingPair) → d ≡ first_differing f (all_pairs f) → FirstPair f d
-  pair_told x d e = record {
-    before = x.before;
-    pair = x.pair;
-    after = x.after;
-    in_order = x.in_order;
-    equal = x.equal;
-    differs = x.differs;
-    is_told = e ∙ x.is_told;
-  }
+  pair_told : First (all_pairs f) → (d : Option DifferingPair) → d ≡ first_differing f (all_pairs f) → (x : DifferingPair) × (d ≡ Some x) × FirstPair f x
+  pair_told x d e =
+      let some = some_told f x.pair (difference_of f x.pair) x.differs in (
+        some.0,
+        e ∙ x.is_told ∙ some.1,
+        record {
+          before = x.before;
+          pair = x.pair;
+          after = x.after;
+          in_order = x.in_order;
+          equal = x.equal;
+          differs = x.differs;
+          is_told = sym some.1;
+        },
+      )
 
 pub first_or_none : FirstOrNone
 unfolding report_of

@@ -7,6 +7,7 @@ use mathlib.Core.List.{List, [], ◌∷◌, ◌++◌}
 use native.Mathlib.Omega.{arith}
 use borrow.Author.Tests.{eq-eqb, ne_eqb}
 use lib.Dec.{eqb}
+use Rattle.std.proofs.Common.{Option}
 use Rattle.merge_sort.specs.Order.{one, count}
 use Rattle.merge_sort.proofs.Permuted.{count-append}
 use Rattle.shift_pairs.specs.declared.DifferingPair.{DifferingPair}
@@ -37,7 +38,7 @@ module _ (f : Files) where
     first_equal : is_equal f p ≡ true → (done : List Pair) → first_differing f (done ++ p ∷ []) ≡ first_differing f done
     unfolding first_differing
     first_equal e [] = rw e
-    first_equal e (q ∷ done) = ap (λ (d : DifferingPair). cond (is_equal f q) d (told f q)) (first_equal e done)
+    first_equal e (q ∷ done) = ap (λ (d : Option DifferingPair). cond (is_equal f q) d (told f q)) (first_equal e done)
 
     first_kept : (done : List Pair) → (differing_pairs f done ≡ 0 → ⊥) → first_differing f (done ++ p ∷ []) ≡ first_differing f done
     first_kept done h = rw (first_append done (p ∷ []), ne_eqb (differing_pairs f done) 0 h)
@@ -48,7 +49,7 @@ module _ (f : Files) where
 
     module _ (t : Tally) where
       -- the three ways to go on
-      tally_path : (done : List Pair) (n m : ℕ) (d : DifferingPair) → n ≡ equal_pairs f (done ++ p ∷ []) → m ≡ differing_pairs f (done ++ p ∷ [])
+      tally_path : (done : List Pair) (n m : ℕ) (d : Option DifferingPair) → n ≡ equal_pairs f (done ++ p ∷ []) → m ≡ differing_pairs f (done ++ p ∷ [])
           → d ≡ first_differing f (done ++ p ∷ []) → ◌≡◌ {A = Tally} (record { equal = n; differing = m; first = d }) (tally_of f (done ++ p ∷ []))
       unfolding tally_of
       tally_path done n m d en em ed = λ i. record { equal = en i; differing = em i; first = ed i }
@@ -86,7 +87,7 @@ module _ (f : Files) where
             (first_is done e ∙ sym (first_kept done (λ z. h (differing_is done e ∙ z))));
       }
 
-      pub first_differing_lem : is_equal f p ≡ false → t.differing ≡ 0 → (d : DifferingPair) → d ≡ told f p
+      pub first_differing_lem : is_equal f p ≡ false → t.differing ≡ 0 → (d : Option DifferingPair) → d ≡ told f p
           → OneMore f p t (record { equal = t.equal; differing = t.differing + 1; first = d })
       first_differing_lem s h d is = record {
         tallied = λ done e.

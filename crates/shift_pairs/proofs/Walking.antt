@@ -1,25 +1,25 @@
 -- A walk under way: the tally is that of the pairs so far, and whatever walks the rest completes them. At the end they are all pairs, so that the
 -- report is the tally's. Assumes nothing.
 use Prim.Native.Nat.{ℕ, ◌+◌, ◌-◌, ◌/◌, ◌%◌, ◌^◌, ◌≤◌, ◌<◌}
-use mathlib.Core.Path.{◌≡◌, refl, sym, ◌∙◌, ap, ap₂, subst}
-use mathlib.Core.List.{List, [], ◌∷◌, ◌++◌, append_assoc, append-nil}
+use mathlib.Core.Path.{◌≡◌, sym, ◌∙◌, ap, ap₂}
+use mathlib.Core.List.{List, [], ◌∷◌, ◌++◌, map, append_assoc, append-nil}
 use native.Mathlib.Numerals.{add-one}
 use native.Mathlib.Omega.{arith}
 use lib.ListN.{length, get_or, drop, drop_of_length-le, length-append, length-map}
 use lib.Seq.{drop-cons}
 use Rattle.merge_sort.specs.Order.{count}
 use Rattle.merge_sort.specs.Ascending.{sorted, keys_from}
-use Rattle.merge_sort.proofs.Permuted.{All-at}
 use Rattle.shift_file.specs.declared.ShiftForm.{ShiftForm}
 use Rattle.shift_file.specs.File.{HasFile}
 use Rattle.shift_file.specs.Read.{records_in}
-use Rattle.crossing_keys.specs.Keys.{crossing_of, crossings_of}
-use Rattle.crossing_keys.proofs.Keyed.{sorted_long, keys_sorted, keys_place, keys_below}
-use Rattle.shift_pairs.specs.declared.DifferingPair.{DifferingPair}
+use Rattle.crossing_keys.specs.declared.key.Key.{Key}
+use Rattle.crossing_keys.specs.Keys.{crossing_of, crossings_of, number_of}
+use Rattle.crossing_keys.proofs.Keyed.{sorted_long, keys_sorted, keys_below, place_below, as_many, its_crossing, its_place}
+use Rattle.std.proofs.Common.{None}
 use Rattle.shift_pairs.specs.declared.PairReport.{PairReport}
 use Rattle.shift_pairs.specs.declared.Tally.{Tally}
 use Rattle.shift_pairs.specs.Pairs.{Files, Pair, all_pairs}
-use Rattle.shift_pairs.specs.Report.{no_pair, first_differing, equal_pairs, differing_pairs, with_ours, with_theirs, without, report_of}
+use Rattle.shift_pairs.specs.Report.{first_differing, equal_pairs, differing_pairs, with_ours, with_theirs, without, report_of}
 use Rattle.shift_pairs.specs.Known.{HasKeys, tally_of, OneMore}
 use Rattle.shift_pairs.proofs.Counts.{pairs_counted, file_whole}
 use Rattle.shift_pairs.proofs.Named.{sorted-named}
@@ -33,24 +33,23 @@ pub record Walking (f : Files) (a b : List ℕ) (i j : ℕ) (t : Tally) : Type 0
   pub rest : (zs : List Pair) → Walk (drop i a) (drop j b) zs → Walk a b (done ++ zs)
 
 -- a key's place is that of a record, and there are few
-module _ (form : ShiftForm) (file keys : List ℕ) (h : HasKeys form file keys) where
-  pub place_inside : (i : ℕ) → i < length keys → get_or keys i 0 % 4096 < length (records_in form file)
-  place_inside i l =
-      All-at (λ k. k % 4096 < length (records_in form file)) 0 keys i (rw h.keys_are (keys_place (records_in form file) h.is_file_lem.has.few)) l
+module _ (form : ShiftForm) (file : List ℕ) (keys : List Key) (h : HasKeys form file keys) where
+  pub place_inside : (i : ℕ) (k : Key) → i < length keys → k ≡ get_or keys i k → k.place < length (records_in form file)
+  place_inside i k l is = omega (arith, place_below (records_in form file) keys h.is_file_lem.has.few h.keys_are i k l, ap (λ (x : Key). x.place) is)
 
   pub keys_few : length keys ≤ 4096
-  keys_few = omega (arith, ap length h.keys_are, sorted_long (records_in form file), h.is_file_lem.has.few)
+  keys_few = omega (arith, as_many (records_in form file) keys h.is_file_lem.has.few h.keys_are, h.is_file_lem.has.few)
 
 -- the keys that are left, and the first of them
 left : (l : List ℕ) (i : ℕ) → i < length l → drop i l ≡ get_or l i 0 ∷ drop (i + 1) l
 left l i h = rw (add-one) (drop-cons l i 0 h)
 
 module _ (f : Files) (a b : List ℕ) where
-  pub Walking-none : (d : DifferingPair) → d ≡ no_pair → Walking f a b 0 0 (record { equal = 0; differing = 0; first = d })
+  pub Walking-none : Walking f a b 0 0 (record { equal = 0; differing = 0; first = None })
   unfolding tally_of count first_differing
-  Walking-none d e = record {
+  Walking-none = record {
     done = [];
-    tallied = λ i. record { equal = 0; differing = 0; first = e i };
+    tallied = λ i. record { equal = 0; differing = 0; first = None };
     few_ours = omega arith;
     few_theirs = omega arith;
     rest = λ zs w. w;
@@ -112,26 +111,54 @@ module _ (f : Files) (a b : List ℕ) where
         (λ c. rw ours (sorted-named c 0 f.ours (omega (arith, our_file.few, length-map f.ours crossing_of))))
         (λ c. rw theirs (sorted-named c 0 f.theirs (omega (arith, their_file.few, length-map f.theirs crossing_of))))
 
-    pub reported : (t : Tally) (ps : List Pair) → t ≡ tally_of f ps → Walk a b ps
+    pub reported : (n m : ℕ) → n ≡ length a → m ≡ length b → (t : Tally) (ps : List Pair) → t ≡ tally_of f ps → Walk a b ps
         → ◌≡◌ {A = PairReport}
         (record {
           equal = t.equal;
           differing = t.differing;
-          only_ours = length a - (t.equal + t.differing);
-          only_theirs = length b - (t.equal + t.differing);
+          only_ours = n - (t.equal + t.differing);
+          only_theirs = m - (t.equal + t.differing);
           first = t.first;
         })
         (report_of f)
     unfolding tally_of report_of
-    reported t ps e w =
+    reported n m en em t ps e w =
         let all : t ≡ tally_of f (all_pairs f) = e ∙ ap (tally_of f) (walked_all ps w) in
         let equal : t.equal ≡ equal_pairs f (all_pairs f) = ap (λ (x : Tally). x.equal) all in
         let differing : t.differing ≡ differing_pairs f (all_pairs f) = ap (λ (x : Tally). x.differing) all in
         let first : t.first ≡ first_differing f (all_pairs f) = ap (λ (x : Tally). x.first) all in
         let pairs : t.equal + t.differing ≡ length (all_pairs f) = ap₂ ◌+◌ equal differing ∙ pairs_counted f (all_pairs f) in
         let whole = file_whole f in
-        let only_ours : length a - (t.equal + t.differing) ≡ without (length f.ours) (λ k. with_ours k (all_pairs f)) =
-        omega (arith, ap length ours, sorted_long f.ours) in
-        let only_theirs : length b - (t.equal + t.differing) ≡ without (length f.theirs) (λ k. with_theirs k (all_pairs f)) =
-        omega (arith, ap length theirs, sorted_long f.theirs) in
+        let only_ours : n - (t.equal + t.differing) ≡ without (length f.ours) (λ k. with_ours k (all_pairs f)) =
+        omega (arith, en, ap length ours, sorted_long f.ours) in
+        let only_theirs : m - (t.equal + t.differing) ≡ without (length f.theirs) (λ k. with_theirs k (all_pairs f)) =
+        omega (arith, em, ap length theirs, sorted_long f.theirs) in
         λ i. record { equal = equal i; differing = differing i; only_ours = only_ours i; only_theirs = only_theirs i; first = first i }
+
+-- ---- a step, by the keys of the code
+
+module _ (f : Files) (a b : List Key) (i j : ℕ) (t : Tally) (x y : Key) (inv : Walking f (map number_of a) (map number_of b) i j t)
+    (hi : i < length a) (hj : j < length b) (is_x : x ≡ get_or a i x) (is_y : y ≡ get_or b j y) where
+  within_a : i < length (map number_of a)
+  within_a = omega (arith, length-map a number_of, hi)
+
+  within_b : j < length (map number_of b)
+  within_b = omega (arith, length-map b number_of, hj)
+
+  crossing_a : get_or (map number_of a) i 0 / 4096 ≡ x.crossing
+  crossing_a = its_crossing a i x hi ∙ sym (ap (λ (k : Key). k.crossing) is_x)
+
+  crossing_b : get_or (map number_of b) j 0 / 4096 ≡ y.crossing
+  crossing_b = its_crossing b j y hj ∙ sym (ap (λ (k : Key). k.crossing) is_y)
+
+  pub next_ours : x.crossing < y.crossing → Walking f (map number_of a) (map number_of b) (i + 1) j t
+  next_ours h = Walking-ours f _ _ i j t inv within_a within_b (omega (arith, crossing_a, crossing_b, h))
+
+  pub next_theirs : y.crossing < x.crossing → Walking f (map number_of a) (map number_of b) i (j + 1) t
+  next_theirs h = Walking-theirs f _ _ i j t inv within_a within_b (omega (arith, crossing_a, crossing_b, h))
+
+  pub next_both : x.crossing ≡ y.crossing → (t' : Tally) → OneMore f (record { ours = x.place; theirs = y.place }) t t'
+      → Walking f (map number_of a) (map number_of b) (i + 1) (j + 1) t'
+  next_both h t' more =
+      Walking-both f _ _ i j t inv within_a within_b (omega (arith, crossing_a, crossing_b, h)) x.place y.place
+      (ap (λ (k : Key). k.place) is_x ∙ sym (its_place a i x hi)) (ap (λ (k : Key). k.place) is_y ∙ sym (its_place b j y hj)) t' more

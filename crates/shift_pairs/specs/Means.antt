@@ -1,11 +1,10 @@
 -- What the pairs and the report mean: docs/RULES.md, 13.1 to 13.3.
 -- Assumes nothing.
-use Rattle.std.specs.Prelude.{ℕ, ◌+◌, ◌≤◌, ◌<◌, ◌≡◌, List, ◌∷◌, ◌++◌, length}
+use Rattle.std.specs.Prelude.{ℕ, ◌+◌, ◌≤◌, ◌<◌, ◌≡◌, List, ◌∷◌, ◌++◌, length, Some, None}
 use Rattle.merge_sort.specs.Order.{All}
-use Rattle.record_difference.specs.declared.RecordDifference.TheVariants.{Same}
 use Rattle.shift_pairs.specs.declared.DifferingPair.{DifferingPair}
 use Rattle.shift_pairs.specs.Pairs.{Files, Pair, all_pairs}
-use Rattle.shift_pairs.specs.Report.{difference_of, told, no_pair, with_ours, with_theirs, report_of}
+use Rattle.shift_pairs.specs.Report.{difference_of, told, with_ours, with_theirs, report_of}
 
 -- RULES 13.1: a record has one pair or none, and pairs are of the files' records
 pub record OnePair (f : Files) : Type 0 where
@@ -32,14 +31,14 @@ pub record FirstPair (f : Files) (d : DifferingPair) : Type 0 where
   pub pair : Pair
   pub after : List Pair
   pub in_order : before ++ pair ∷ after ≡ all_pairs f
-  pub equal : All (λ p. difference_of f p ≡ Same) before
-  pub differs : difference_of f pair ≡ Same → ⊥
-  pub is_told : d ≡ told f pair
+  pub equal : All (λ p. difference_of f p ≡ None) before
+  pub differs : difference_of f pair ≡ None → ⊥
+  pub is_told : Some d ≡ told f pair
 
 -- RULES 13.3: the first pair that differs, or none
 pub record FirstTold (f : Files) : Type 0 where
-  pub first : 1 ≤ (report_of f).differing → FirstPair f (report_of f).first
-  pub none : (report_of f).differing ≡ 0 → All (λ p. difference_of f p ≡ Same) (all_pairs f) × ((report_of f).first ≡ no_pair)
+  pub first : 1 ≤ (report_of f).differing → (d : DifferingPair) × ((report_of f).first ≡ Some d) × FirstPair f d
+  pub none : (report_of f).differing ≡ 0 → All (λ p. difference_of f p ≡ None) (all_pairs f) × ((report_of f).first ≡ None)
 
 -- RULES 13.3
 abbrev pub FirstOrNone : Type 0

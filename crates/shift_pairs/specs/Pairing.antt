@@ -1,6 +1,6 @@
 -- What pairing two files promises: docs/RULES.md, 13.4.
 -- Assumes nothing.
-use Rattle.std.specs.Prelude.{ℕ, ◌≡◌, Bool, cond, not, List, [], ◌∷◌}
+use Rattle.std.specs.Prelude.{ℕ, ◌≡◌, Bool, cond, not, List, [], ◌∷◌, None}
 use Rattle.yuv_error.specs.Numbers.{numbers_of}
 use Rattle.yuv_error.specs.Rules.{Rule, rule, first_numbers}
 use Rattle.shift_file.specs.declared.ShiftForm.{ShiftForm}
@@ -9,7 +9,7 @@ use Rattle.shift_file.specs.Check.{is_file}
 use Rattle.shift_pairs.specs.declared.PairReport.{PairReport}
 use Rattle.shift_pairs.specs.declared.Pairing.{Pairing}
 use Rattle.shift_pairs.specs.Pairs.{Files}
-use Rattle.shift_pairs.specs.Report.{no_pair, report_of}
+use Rattle.shift_pairs.specs.Report.{report_of}
 
 -- RULES 13.4: the records that two byte sequences have
 abbrev pub files_of : (our_form : ShiftForm) → (ours : List ℕ) → (their_form : ShiftForm) → (theirs : List ℕ) → Files
@@ -28,7 +28,7 @@ broken_file ours theirs = cond ours (cond theirs 0 2) 1
 
 -- RULES 13.4
 abbrev pub no_report : PairReport
-no_report = record { equal = 0; differing = 0; only_ours = 0; only_theirs = 0; first = no_pair }
+no_report = record { equal = 0; differing = 0; only_ours = 0; only_theirs = 0; first = None }
 
 -- RULES 13.4: everything of a call
 pub record PairingPost (our_form : ShiftForm) (ours : List ℕ) (their_form : ShiftForm) (theirs : List ℕ) (r : Pairing) : Type 0 where

@@ -1,34 +1,35 @@
 -- The report of two files: docs/RULES.md, 13.2 and 13.3.
 -- Assumes nothing.
-use Rattle.std.specs.Prelude.{ℕ, zero, suc, ◌+◌, Bool, cond, not, List, [], ◌∷◌, eqb, length}
+use Rattle.std.specs.Prelude.{ℕ, zero, suc, ◌+◌, Bool, cond, not, List, [], ◌∷◌, eqb, length, Option, Some, None}
+use Rattle.std.specs.Option.{is_none}
 use Rattle.merge_sort.specs.Order.{one, count}
 use Rattle.shift_reader.specs.Entry.{nth}
-use Rattle.record_difference.specs.declared.RecordDifference.{RecordDifference}
-use Rattle.record_difference.specs.declared.RecordDifference.TheVariants.{Same}
-use Rattle.record_difference.specs.Record.{is_same, record_difference}
+use Rattle.record_difference.specs.declared.Difference.{Difference}
+use Rattle.record_difference.specs.Record.{record_difference}
 use Rattle.shift_pairs.specs.declared.DifferingPair.{DifferingPair}
 use Rattle.shift_pairs.specs.declared.PairReport.{PairReport}
 use Rattle.shift_pairs.specs.Pairs.{Files, Pair, all_pairs}
 
 -- RULES 13.2: how the records of a pair differ
-abbrev pub difference_of : Files → Pair → RecordDifference
+abbrev pub difference_of : Files → Pair → Option Difference
 difference_of f p = record_difference f.our_form (nth f.ours p.ours) f.their_form (nth f.theirs p.theirs)
 
 -- RULES 13.2
 abbrev pub is_equal : Files → Pair → Bool
-is_equal f p = is_same (difference_of f p)
+is_equal f p = is_none (difference_of f p)
 
--- RULES 13.3: a pair, its crossing, and how it differs
-abbrev pub told : Files → Pair → DifferingPair
-told f p = record { crossing = (nth f.ours p.ours).crossing; ours = p.ours; theirs = p.theirs; difference = difference_of f p }
+-- RULES 13.3: a pair, its crossing, and how it differs, where it does
+abbrev pub with_difference : Files → Pair → Option Difference → Option DifferingPair
+with_difference f p None = None
+with_difference f p (Some d) = Some (record { crossing = (nth f.ours p.ours).crossing; ours = p.ours; theirs = p.theirs; difference = d })
 
--- RULES 13.3: none
-abbrev pub no_pair : DifferingPair
-no_pair = record { crossing = 0; ours = 0; theirs = 0; difference = Same }
+-- RULES 13.3
+abbrev pub told : Files → Pair → Option DifferingPair
+told f p = with_difference f p (difference_of f p)
 
--- RULES 13.3: the first of these pairs that differs
-unfoldable pub first_differing : Files → List Pair → DifferingPair
-first_differing f [] = no_pair
+-- RULES 13.3: the first of these pairs that differs, or none
+unfoldable pub first_differing : Files → List Pair → Option DifferingPair
+first_differing f [] = None
 first_differing f (p ∷ ps) = cond (is_equal f p) (first_differing f ps) (told f p)
 
 -- RULES 13.2

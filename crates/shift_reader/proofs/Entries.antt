@@ -47,27 +47,24 @@ module _ (kind : EntryKind) (form : ShiftForm) (rs : List ShiftRecord) where
         rw (length-append (after k) (entries_of kind form rs (k + 1) n), mul-suc)
         (omega (arith, length_after kind form (nth rs k) (allowed_at form k rs each (omega arith)), length_entries (k + 1) n (omega arith)))
 
-  -- what is left, by the entry that is told next
-  pub left_next : (first n i : ℕ) → i < n
-      → length (entries_of kind form rs (first + i) (n - i)) ≡ 11 + length (after (first + i)) + length (entries_of kind form rs (first + (i + 1)) (n - (i + 1)))
+  -- what is left up to a record, by the entry that is told next
+  pub left_next : (k end : ℕ) → k < end
+      → length (entries_of kind form rs k (end - k)) ≡ 11 + length (after k) + length (entries_of kind form rs (k + 1) (end - (k + 1)))
   unfolding entries_of
-  left_next first n i h =
-      let one : n - i ≡ suc (n - (i + 1)) = omega arith in
-      let next : first + (i + 1) ≡ first + i + 1 = omega arith in
-      rw (one, next, length-append (after (first + i)) (entries_of kind form rs (first + i + 1) (n - (i + 1)))) (omega arith)
+  left_next k end h =
+      let one : end - k ≡ suc (end - (k + 1)) = omega arith in
+      rw (one, length-append (after k) (entries_of kind form rs (k + 1) (end - (k + 1)))) (omega arith)
 
   -- one entry told, and the rest still to tell
-  pub entry_more : (d e s : List ℕ) (at next first n i : ℕ) → e ≡ places_of form (offset_of form rs (first + i)) (nth rs (first + i))
-      → s ≡ after (first + i) → next ≡ 11 + length (after (first + i)) → i < n
-      → sets (sets (sets d at e) (at + 11) s) (at + next) (entries_of kind form rs (first + (i + 1)) (n - (i + 1))) ≡ sets d at (entries_of kind form rs (first + i) (n - i))
+  pub entry_more : (d e s : List ℕ) (at next k end : ℕ) → e ≡ places_of form (offset_of form rs k) (nth rs k)
+      → s ≡ after k → next ≡ 11 + length (after k) → k < end
+      → sets (sets (sets d at e) (at + 11) s) (at + next) (entries_of kind form rs (k + 1) (end - (k + 1))) ≡ sets d at (entries_of kind form rs k (end - k))
   unfolding entries_of
-  entry_more d e s at next first n i is settings size h =
-      let k = first + i in
+  entry_more d e s at next k end is settings size h =
       let places = places_of form (offset_of form rs k) (nth rs k) in
-      let rest = entries_of kind form rs (k + 1) (n - (i + 1)) in
-      let one : n - i ≡ suc (n - (i + 1)) = omega arith in
-      let later : first + (i + 1) ≡ k + 1 = omega arith in
-      rw (one, later, is, settings, size, ← add_assoc at 11 (length (after k)))
+      let rest = entries_of kind form rs (k + 1) (end - (k + 1)) in
+      let one : end - k ≡ suc (end - (k + 1)) = omega arith in
+      rw (one, is, settings, size, ← add_assoc at 11 (length (after k)))
       (sym (sets-append (after k) rest (sets d at places) (at + 11)) ∙ sym (sets-append places (after k ++ rest) d at))
 
   pub entries_done : (d : List ℕ) (at k n : ℕ) → n ≡ 0 → sets d at (entries_of kind form rs k n) ≡ d

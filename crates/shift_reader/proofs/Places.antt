@@ -1,20 +1,20 @@
 -- Record k of a file, where it stands: its pair and its header tell it, and what follows is the record. Assumes nothing.
 use Prim.Native.Nat.{ℕ, zero, suc, ◌+◌, ◌*◌, ◌^◌, ◌≤◌, ◌<◌}
 use mathlib.Core.Path.{◌≡◌, refl, ap, sym, ◌∙◌}
+use mathlib.Core.Bool.{true}
 use mathlib.Core.List.{List, [], ◌∷◌, ◌++◌, append_assoc, append-nil}
 use native.Mathlib.Omega.{arith}
 use lib.ListN.{length, take, drop, length-append, length-drop}
 use lib.Seq.{drop-drop, drop-append-le, take_at}
-use Rattle.little_endian.specs.Number.{low_bytes, number_in}
-use Rattle.yuv_support.specs.declared.YuvChromaSubsampling.{YuvChromaSubsampling}
-use Rattle.yuv_support.specs.Sampling.{chroma_width, chroma_height}
+use Rattle.little_endian.specs.Number.{Bytes, low_bytes, number_in}
 use Rattle.shift_file.specs.declared.ShiftForm.{ShiftForm}
-use Rattle.shift_file.specs.File.{ShiftRecord, Allowed, EachAllowed, IsFileOf, file_of, header_size, sampling_of, chroma_bytes, pairs_at, records_at, bytes_of, pairs_of, record_bytes}
-use Rattle.shift_file.specs.Read.{width_at, height_at, settings_at}
-use Rattle.shift_file.proofs.Record.{size_most, length_bytes, crossing_is, width_is, height_is, settings_is, y_part, u_part, v_part}
+use Rattle.shift_file.specs.File.{ShiftRecord, Allowed, EachAllowed, IsFileOf, file_of, header_size, pairs_at, records_at, bytes_of, pairs_of, record_bytes}
+use Rattle.shift_file.specs.Read.{width_at, height_at, luma_at, chroma_at, settings_at, count_at, records_in}
+use Rattle.shift_file.specs.Check.{is_file}
+use Rattle.shift_file.proofs.Record.{size_most, length_bytes, crossing_is, width_is, height_is, luma_is, chroma_is, settings_is, y_part, u_part, v_part}
 use Rattle.shift_file.proofs.Walk.{offset_in, extent_in}
-use Rattle.shift_file.proofs.File.{length_pairs, after_count, after_pairs, length_file, file_most, bytes_at, pairs_at_lem}
-use Rattle.shift_reader.specs.Entry.{no_record, nth, offset_of}
+use Rattle.shift_file.proofs.File.{Checked, Checked-file, length_pairs, after_count, after_pairs, length_file, file_most, bytes_at, pairs_at_lem}
+use Rattle.shift_reader.specs.Entry.{no_record, nth, record_of, offset_of}
 
 pub allowed_at : (form : ShiftForm) (k : ℕ) (rs : List ShiftRecord) → EachAllowed form rs → k < length rs → Allowed form (nth rs k)
 allowed_at form k [] e h = absurd (omega arith)
@@ -98,30 +98,81 @@ module _ (form : ShiftForm) (b : List ℕ) (rs : List ShiftRecord) (k : ℕ) (f 
       ≡ offset_of form rs k + (header_size form + length (nth rs k).y + length (nth rs k).u) = omega arith in
       rw (sums, from_record (header_size form + length (nth rs k).y + length (nth rs k).u)) (v_part form (nth rs k) allowed _)
 
--- what a header tells of the planes
+-- where a header is
 module _ (form : ShiftForm) (r : ShiftRecord) (a : Allowed form r) (t part : List ℕ) (here : part ≡ bytes_of r ++ t) where
   pub header_there : header_size form ≤ length part
   header_there = rw (here, length-append) (omega (arith, length_bytes form r a))
 
-  pub luma_told : (w h n : ℕ) → w ≡ r.width → h ≡ r.height → n ≡ w * h → n ≡ length r.y
-  luma_told w h n ew eh e = e ∙ rw (ew, eh) (sym a.y_size)
-
-  pub chroma_told : (w h n : ℕ) (s : YuvChromaSubsampling) → w ≡ r.width → h ≡ r.height → s ≡ sampling_of form (settings_at form part)
-      → n ≡ chroma_width w * chroma_height s h → n ≡ chroma_bytes form r.settings r.width r.height
-  unfolding chroma_bytes
-  chroma_told w h n s ew eh es e =
-      let sampled : s ≡ sampling_of form r.settings = es ∙ ap (sampling_of form) (rw here (settings_is form r a t)) in
-      e ∙ rw (ew, eh, sampled)
-
-  pub crossing_told : (n : ℕ) → n ≡ number_in 4 part → n ≡ r.crossing
-  crossing_told n e = e ∙ rw here (crossing_is form r a t)
-
-  pub width_told : (n : ℕ) → n ≡ width_at part → n ≡ r.width
-  width_told n e = e ∙ rw here (width_is form r a t)
-
-  pub height_told : (n : ℕ) → n ≡ height_at part → n ≡ r.height
-  height_told n e = e ∙ rw here (height_is form r a t)
-
 -- the settings as they stand in the record's bytes
 pub settings_there : (form : ShiftForm) (r : ShiftRecord) → Allowed form r → settings_at form (bytes_of r) ≡ r.settings
 settings_there form r a = ap (settings_at form) (sym (append-nil (bytes_of r))) ∙ settings_is form r a []
+
+-- ---- all of this, of record k of a file
+
+pub record There (form : ShiftForm) (b : List ℕ) (k : ℕ) : Type 0 where
+  pub pair : pairs_at form + 12 * k + 12 ≤ length b
+  pub offset : number_in 8 (drop (pairs_at form + 12 * k) b) ≡ offset_of form (records_in form b) k
+  pub size : number_in 4 (drop (pairs_at form + 12 * k + 8) b) ≡ length (bytes_of (record_of form b k))
+  pub inside : offset_of form (records_in form b) k + length (bytes_of (record_of form b k)) ≤ length b
+  pub header : header_size form ≤ length (drop (offset_of form (records_in form b) k) b)
+  pub crossing : number_in 4 (drop (offset_of form (records_in form b) k) b) ≡ (record_of form b k).crossing
+  pub width : width_at (drop (offset_of form (records_in form b) k) b) ≡ (record_of form b k).width
+  pub height : height_at (drop (offset_of form (records_in form b) k) b) ≡ (record_of form b k).height
+  pub luma : luma_at (drop (offset_of form (records_in form b) k) b) ≡ length (record_of form b k).y
+  pub chroma : chroma_at form (drop (offset_of form (records_in form b) k) b) ≡ length (record_of form b k).u
+  pub chroma_again : length (record_of form b k).v ≡ length (record_of form b k).u
+  pub planes : offset_of form (records_in form b) k + header_size form + length (record_of form b k).y + length (record_of form b k).u + length (record_of form b k).v ≤ length b
+  pub bytes : take (length (bytes_of (record_of form b k))) (drop (offset_of form (records_in form b) k) b) ≡ bytes_of (record_of form b k)
+  pub y : take (length (record_of form b k).y) (drop (offset_of form (records_in form b) k + header_size form) b) ≡ (record_of form b k).y
+  pub u : take (length (record_of form b k).u) (drop (offset_of form (records_in form b) k + header_size form + length (record_of form b k).y) b) ≡ (record_of form b k).u
+  pub v : take (length (record_of form b k).v) (drop (offset_of form (records_in form b) k + header_size form + length (record_of form b k).y + length (record_of form b k).u) b)
+      ≡ (record_of form b k).v
+  pub settings : settings_at form (bytes_of (record_of form b k)) ≡ (record_of form b k).settings
+  pub short_header : header_size form ≤ length (bytes_of (record_of form b k))
+
+-- what the check says of a file
+pub record Known (form : ShiftForm) (b : List ℕ) : Type 0 where
+  pub its : IsFileOf form b (records_in form b)
+  pub count : length (records_in form b) ≡ count_at form b
+  pub few : count_at form b ≤ 4096
+  pub header : pairs_at form ≤ length b
+
+pub known : (form : ShiftForm) (b : List ℕ) → is_file form b ≡ true → Bytes b → Known form b
+known form b e bytes =
+    let c : Checked form b = Checked-file form b bytes e in record {
+      its = c.file;
+      count = c.count;
+      few = omega (arith, c.count, c.file.has.few);
+      header = pairs_inside form b (records_in form b) c.file;
+    }
+
+pub there : (form : ShiftForm) (b : List ℕ) (k n : ℕ) → is_file form b ≡ true → Bytes b → n ≡ count_at form b → k < n → There form b k
+there form b k n e bytes counted below =
+    let c : Known form b = known form b e bytes in
+    let f : IsFileOf form b (records_in form b) = c.its in
+    let h : k < length (records_in form b) = omega (arith, c.count) in
+    let rs = records_in form b in
+    let r = record_of form b k in
+    let a : Allowed form r = allowed form b rs k f h in
+    let t = record_bytes (drop (suc k) rs) in
+    let here : drop (offset_of form rs k) b ≡ bytes_of r ++ t = bytes_there form b rs k f h in
+    record {
+      pair = pair_inside form b rs k f h;
+      offset = offset_read form b rs k f h;
+      size = size_read form b rs k f h;
+      inside = bytes_inside form b rs k f h;
+      header = header_there form r a t _ here;
+      crossing = rw here (crossing_is form r a t);
+      width = rw here (width_is form r a t);
+      height = rw here (height_is form r a t);
+      luma = rw here (luma_is form r a t) ∙ sym a.y_size;
+      chroma = rw here (chroma_is form r a t) ∙ sym a.u_size;
+      chroma_again = a.v_size ∙ sym a.u_size;
+      planes = planes_inside form b rs k f h;
+      bytes = record_there form b rs k f h;
+      y = y_there form b rs k f h;
+      u = u_there form b rs k f h;
+      v = v_there form b rs k f h;
+      settings = settings_there form r a;
+      short_header = omega (arith, length_bytes form r a);
+    }

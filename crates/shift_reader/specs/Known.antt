@@ -1,24 +1,17 @@
 -- What is known of a file that the check let through, and of its entries. This serves the contracts between functions: no meaning stands here.
 -- Assumes nothing.
-use Rattle.std.specs.Prelude.{ℕ, ◌+◌, ◌*◌, ◌≤◌, ◌<◌, ◌≡◌, List, length}
+use Rattle.std.specs.Prelude.{ℕ, ◌+◌, ◌<◌, ◌≡◌, List, length}
 use Rattle.shift_file.specs.declared.ShiftForm.{ShiftForm}
 use Rattle.shift_file.specs.File.{IsFileOf, header_size, bytes_of}
 use Rattle.shift_file.specs.Read.{records_in}
-use Rattle.shift_reader.specs.declared.EntryKind.{EntryKind}
 use Rattle.shift_reader.specs.declared.Place.{Place}
 use Rattle.shift_reader.specs.declared.ShiftEntry.{ShiftEntry}
-use Rattle.shift_reader.specs.Entry.{entry_size, record_of, offset_of}
+use Rattle.shift_reader.specs.Entry.{record_of, offset_of}
 
 -- the file of its records, which are more than k
 pub record HasRecord (form : ShiftForm) (file : List ℕ) (k : ℕ) : Type 0 where
   pub is_file_lem : IsFileOf form file (records_in form file)
   pub below : k < length (records_in form file)
-
--- so many records from one on, with room for their entries
-pub record EntriesFit (kind : EntryKind) (form : ShiftForm) (file : List ℕ) (first count room : ℕ) : Type 0 where
-  pub is_file_lem : IsFileOf form file (records_in form file)
-  pub below : first + count ≤ length (records_in form file)
-  pub fit : entry_size kind * count ≤ room
 
 pub record PlaceIs (form : ShiftForm) (file : List ℕ) (k : ℕ) (p : Place) : Type 0 where
   pub offset : p.offset ≡ offset_of form (records_in form file) k

@@ -2,19 +2,22 @@
 // Nothing is copied: what the check did not look at, the planes, is not looked at here either.
 #![tactic(auto)]
 
-ghost use Rattle.std.specs.Prelude.{◌≡◌, ◌+◌, ◌*◌, ◌≤◌, min, length};
+pub mod file; // a file that was checked
+
+ghost use Rattle.std.specs.Prelude.{◌≡◌, ◌+◌, ◌*◌, ◌≤◌, ◌<◌, min, length};
 ghost use Rattle.std.proofs.lemmas.List.Edits.{sets};
 ghost use Rattle.shift_file.specs.File.{settings_told, code_list, bytes_of};
 ghost use Rattle.shift_file.specs.Read.{records_in};
 ghost use Rattle.shift_reader.specs.Entry.{record_of, entry_size, settings_after, entries_of, entry_numbers};
-ghost use Rattle.shift_reader.specs.Known.{HasRecord, EntriesFit, PlaceIs, EntryIs};
+ghost use Rattle.shift_reader.specs.Known.{HasRecord, EntryIs};
 ghost use Rattle.shift_reader.specs.Reading.{ReadPost};
 
+use file::ShiftFile;
 use shift_file::{SettingCodes, ShiftForm};
-use yuv_error::{YuvAnswer, YuvError};
+use yuv_error::YuvError;
 
 // What is told of a record: eleven numbers, or its settings after them too.
-#[derive(Clone, Copy)]
+#[derive(Clone, Copy, Debug, PartialEq, Eq)]
 pub enum EntryKind {
     Places,
     PlacesAndSettings,
@@ -33,14 +36,14 @@ impl EntryKind {
 }
 
 // Where a record stands.
-#[derive(Clone, Copy)]
+#[derive(Clone, Copy, Debug, PartialEq, Eq)]
 struct Place {
     offset: usize,
     length: usize,
 }
 
 // A record of a file: what its header says, and where it and its planes stand, from the file's start.
-#[derive(Clone, Copy)]
+#[derive(Clone, Copy, Debug, PartialEq, Eq)]
 pub struct ShiftEntry {
     pub crossing: u32,
     pub width: u16,
@@ -55,22 +58,26 @@ pub struct ShiftEntry {
 }
 
 // What reading answers: the file's records, and how many of them were told.
-#[derive(Clone, Copy)]
+// No Result with two numbers: a call answers both numbers, 0 and 0, beside a refusal too.
+#[derive(Clone, Copy, Debug, PartialEq, Eq)]
 pub struct ShiftReading {
-    pub answer: YuvAnswer,
+    pub answer: Result<(), YuvError>,
     pub count: usize,
     pub told: usize,
 }
 
-// Where record k stands, by its pair.
-fn place_of(form: ShiftForm, file: &[u8], k: usize) -> Place
+// ---- the same of bytes of which a record is known
+
+// The file that these bytes are.
+fn known_file(form: ShiftForm, file: &[u8], k: usize) -> ShiftFile
     requires { HasRecord form file.now k }
-    ensures { PlaceIs form file.now k result }
+    ensures same { (result.form ≡ form) × (result.bytes.now ≡ file.now) }
+    ensures below { k < result.count }
 {
-    let pair = form.mark_size() + 4 + 12 * k;
-    Place {
-        offset: little_endian::read_u64(file, pair) as usize,
-        length: little_endian::read_u32(file, pair + 8) as usize,
+    ShiftFile {
+        form,
+        bytes: file,
+        count: shift_file::count_at(form, file) as usize,
     }
 }
 
@@ -79,62 +86,44 @@ pub fn entry_of(form: ShiftForm, file: &[u8], k: usize) -> ShiftEntry
     requires { HasRecord form file.now k }
     ensures { EntryIs form file.now k result }
 {
-    let place = place_of(form, file, k);
-    let offset = place.offset;
-    let part = shift_file::from_place(file, offset);
-    let width = little_endian::read_u16(part, 4);
-    let height = little_endian::read_u16(part, 6);
-    let luma = shift_file::luma_size(width as usize, height as usize);
-    let sampling = shift_file::sampling_at(form, part);
-    let chroma = shift_file::chroma_size(sampling, width as usize, height as usize);
-    let y_offset = offset + form.header_size();
-    ShiftEntry {
-        crossing: little_endian::read_u32(part, 0),
-        width,
-        height,
-        offset,
-        length: place.length,
-        y_offset,
-        y_length: luma,
-        u_offset: y_offset + luma,
-        v_offset: y_offset + luma + chroma,
-        chroma_length: chroma,
-    }
+    known_file(form, file, k).entry(k)
 }
-
-// ---- parts
 
 // Record k: header and planes.
 pub fn record_part(form: ShiftForm, file: &[u8], k: usize) -> &[u8]
     requires { HasRecord form file.now k }
     ensures { result.now ≡ bytes_of (record_of form file.now k) }
 {
-    let entry = entry_of(form, file, k);
-    shift_file::part_of(file, entry.offset, entry.length)
+    known_file(form, file, k).record(k)
 }
 
 pub fn y_part(form: ShiftForm, file: &[u8], k: usize) -> &[u8]
     requires { HasRecord form file.now k }
     ensures { result.now ≡ (record_of form file.now k).y }
 {
-    let entry = entry_of(form, file, k);
-    shift_file::part_of(file, entry.y_offset, entry.y_length)
+    known_file(form, file, k).y(k)
 }
 
 pub fn u_part(form: ShiftForm, file: &[u8], k: usize) -> &[u8]
     requires { HasRecord form file.now k }
     ensures { result.now ≡ (record_of form file.now k).u }
 {
-    let entry = entry_of(form, file, k);
-    shift_file::part_of(file, entry.u_offset, entry.chroma_length)
+    known_file(form, file, k).u(k)
 }
 
 pub fn v_part(form: ShiftForm, file: &[u8], k: usize) -> &[u8]
     requires { HasRecord form file.now k }
     ensures { result.now ≡ (record_of form file.now k).v }
 {
-    let entry = entry_of(form, file, k);
-    shift_file::part_of(file, entry.v_offset, entry.chroma_length)
+    known_file(form, file, k).v(k)
+}
+
+// The settings of record k; 4:2:0, and nothing recorded, in the form without.
+pub fn settings_of(form: ShiftForm, file: &[u8], k: usize) -> SettingCodes
+    requires { HasRecord form file.now k }
+    ensures { code_list result ≡ settings_told form (record_of form file.now k).settings }
+{
+    known_file(form, file, k).settings(k)
 }
 
 // ---- entries
@@ -143,11 +132,7 @@ pub fn tell_numbers(entries: &mut [u64], at: usize, numbers: &[u64])
     requires { at + length numbers.now ≤ length entries.old }
     ensures { entries.new ≡ sets entries.old at numbers.now }
 {
-    let mut i = 0;
-    while i < numbers.len() {
-        entries[at + i] = numbers[i];
-        i += 1;
-    }
+    little_endian::put(entries, at, numbers);
 }
 
 // The eleven numbers of an entry.
@@ -156,9 +141,9 @@ fn tell_entry(entries: &mut [u64], at: usize, entry: ShiftEntry)
     ensures { entries.new ≡ sets entries.old at (entry_numbers entry) }
 {
     let numbers = [
-        entry.crossing as u64,
-        entry.width as u64,
-        entry.height as u64,
+        u64::from(entry.crossing),
+        u64::from(entry.width),
+        u64::from(entry.height),
         entry.offset as u64,
         entry.length as u64,
         entry.y_offset as u64,
@@ -171,35 +156,21 @@ fn tell_entry(entries: &mut [u64], at: usize, entry: ShiftEntry)
     tell_numbers(entries, at, &numbers)
 }
 
-// The settings of record k; 4:2:0, and nothing recorded, in the form without.
-pub fn settings_of(form: ShiftForm, file: &[u8], k: usize) -> SettingCodes
-    requires { HasRecord form file.now k }
-    ensures { code_list result ≡ settings_told form (record_of form file.now k).settings }
-{
-    shift_file::settings_told(form, record_part(form, file, k))
-}
-
-fn tell_settings(
-    entries: &mut [u64],
-    at: usize,
-    kind: EntryKind,
-    form: ShiftForm,
-    file: &[u8],
-    k: usize,
-)
-    requires has_record { HasRecord form file.now k }
-    requires k_in_bounds { at + length (settings_after kind form (record_of form file.now k)) ≤ length entries.old }
-    ensures { entries.new ≡ sets entries.old at (settings_after kind form (record_of form file.now k)) }
+// The settings of record k, where they are told.
+fn tell_settings(entries: &mut [u64], at: usize, kind: EntryKind, file: &ShiftFile, k: usize)
+    requires below { k < file.now.count }
+    requires room { at + length (settings_after kind file.now.form (record_of file.now.form file.now.bytes.now k)) ≤ length entries.old }
+    ensures { entries.new ≡ sets entries.old at (settings_after kind file.now.form (record_of file.now.form file.now.bytes.now k)) }
 {
     match kind {
         EntryKind::Places => {}
         EntryKind::PlacesAndSettings => {
-            let codes = settings_of(form, file, k);
+            let codes = file.settings(k);
             let numbers = [
-                codes.sampling as u64,
-                codes.range as u64,
-                codes.matrix as u64,
-                codes.transfer as u64,
+                u64::from(codes.sampling),
+                u64::from(codes.range),
+                u64::from(codes.matrix),
+                u64::from(codes.transfer),
             ];
             tell_numbers(entries, at, &numbers);
         }
@@ -207,32 +178,24 @@ fn tell_settings(
 }
 
 // So many entries from a record on.
-fn tell_entries(
-    kind: EntryKind,
-    form: ShiftForm,
-    file: &[u8],
-    first: usize,
-    count: usize,
-    entries: &mut [u64],
-)
-    requires { EntriesFit kind form file.now first count (length entries.old) }
-    ensures { entries.new ≡ sets entries.old 0 (entries_of kind form (records_in form file.now) first count) }
+fn tell_entries(kind: EntryKind, file: &ShiftFile, first: usize, count: usize, entries: &mut [u64])
+    requires below { first + count ≤ file.now.count }
+    requires room { entry_size kind * count ≤ length entries.old }
+    ensures { entries.new ≡ sets entries.old 0 (entries_of kind file.now.form (records_in file.now.form file.now.bytes.now) first count) }
 {
     let size = kind.size();
     let mut at = 0;
-    let mut i = 0;
-    while i < count {
-        tell_entry(entries, at, entry_of(form, file, first + i));
-        tell_settings(entries, at + 11, kind, form, file, first + i);
+    for k in first..first + count {
+        tell_entry(entries, at, file.entry(k));
+        tell_settings(entries, at + 11, kind, file, k);
         at += size;
-        i += 1;
     }
 }
 
 pub fn at_most(a: usize, b: usize) -> usize
     ensures { result ≡ min a b }
 {
-    if a <= b { a } else { b }
+    a.min(b)
 }
 
 // How many records a file has, and the entries of those from `first` on that have room; or 15 for bytes that are no shift file, and nothing written.
@@ -245,19 +208,22 @@ pub fn read_records(
 ) -> ShiftReading
     ensures { ReadPost kind form file.now first entries.old result entries.new }
 {
-    if !shift_file::is_file(form, file) {
-        return ShiftReading {
-            answer: YuvAnswer::Refused(YuvError::MalformedShiftFile),
-            count: 0,
-            told: 0,
-        };
-    }
-    let count = shift_file::count_at(form, file) as usize;
-    let from = at_most(first, count);
-    let told = at_most(count - from, entries.len() / kind.size());
-    tell_entries(kind, form, file, from, told, entries);
+    let file = match ShiftFile::open(form, file) {
+        Ok(file) => file,
+        Err(error) => {
+            return ShiftReading {
+                answer: Err(error),
+                count: 0,
+                told: 0,
+            };
+        }
+    };
+    let count = file.count;
+    let from = first.min(count);
+    let told = (count - from).min(entries.len() / kind.size());
+    tell_entries(kind, &file, from, told, entries);
     ShiftReading {
-        answer: YuvAnswer::Finished,
+        answer: Ok(()),
         count,
         told,
     }

@@ -11,13 +11,8 @@ use lib.Seq.{sets}
 use Rattle.yuv_support.specs.declared.YuvChromaSubsampling.{YuvChromaSubsampling}
 use Rattle.yuv_support.specs.declared.YuvChromaSubsampling.TheVariants.{Yuv420, Yuv422}
 use Rattle.yuv_support.specs.Sampling.{chroma_width, chroma_height}
-use Rattle.yuv_error.specs.declared.YuvError.{YuvError}
-use Rattle.yuv_error.specs.declared.YuvAnswer.{YuvAnswer}
-use Rattle.yuv_error.specs.declared.YuvAnswer.TheVariants.{Refused}
-use Rattle.yuv_error.specs.Numbers.{Numbers, numbers_of}
 use Rattle.yuv_error.specs.Rules.{first_numbers}
-use Rattle.yuv_error.proofs.Numbers.{refused_number}
-use Rattle.yuv_error.proofs.Accepted.{never_said, accepted_planes}
+use Rattle.yuv_error.proofs.Accepted.{accepted_planes}
 use Rattle.little_endian.specs.Number.{Bytes, low_bytes}
 use Rattle.little_endian.proofs.Number.{length_low}
 use Rattle.shift_file.specs.declared.ShiftForm.{ShiftForm}
@@ -25,7 +20,6 @@ use Rattle.shift_file.specs.declared.ShiftForm.TheVariants.{WithoutSettings, Wit
 use Rattle.shift_file.specs.declared.SettingCodes.{SettingCodes}
 use Rattle.shift_file.specs.File.{Allowed, settings_size, header_size, is_code, codes_allowed, is_side, chroma_bytes, bytes_of}
 use Rattle.shift_file.proofs.Record.{both, side_bounds}
-use Rattle.shift_writer.specs.Output.{size_told}
 use Rattle.shift_writer.proofs.Pairs.{sets_four}
 use Rattle.shift_record.specs.declared.RecordFrame.{RecordFrame}
 use Rattle.shift_record.specs.Record.{unpadded, codes_in, settings_of, chroma_rows, record_made, header, record_size, y_lent, u_lent, v_lent, lent_rules, frame_allowed}
@@ -137,15 +131,6 @@ module _ (f : RecordFrame) (y u v : List ℕ) where
         v_row = a.2.wide;
         v_size = a.2.exact;
       }
-
-  -- 8 to 12 tell no size
-  pub no_size : (a : YuvAnswer) (e : YuvError) (n : ℕ) → a ≡ Refused e → numbers_of a ≡ first_numbers (lent_rules f y u v) → 0 ≡ size_told a n
-  no_size a e n is p =
-      rw (
-        is,
-        refused_number e,
-        ap (λ (x : Numbers). eqb x.number 16) (ap numbers_of (sym is) ∙ p) ∙ never_said 16 (lent_rules f y u v) refl refl,
-      )
 
 pub header_put : (f : RecordFrame) (d : List ℕ)
     → sets (sets (sets (sets d 0 (low_bytes 4 f.crossing)) 4 (low_bytes 2 f.width)) 6 (low_bytes 2 f.height)) 8 (settings_of f) ≡ sets d 0 (header f)

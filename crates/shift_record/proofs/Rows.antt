@@ -1,8 +1,9 @@
 -- Rows without their padding: how many bytes they are, which byte is which, and one more of them copied. Assumes nothing.
 use Prim.Native.Nat.{ℕ, zero, suc, ◌+◌, ◌*◌, ◌-◌, ◌≤◌, ◌<◌}
-use mathlib.Core.Path.{◌≡◌, refl, sym, ap, ap₂, ◌∙◌}
+use mathlib.Core.Path.{◌≡◌, sym, ap, ap₂, ◌∙◌}
 use mathlib.Core.List.{List, [], ◌∷◌, ◌++◌}
-use native.Mathlib.Nat.{mul-suc, mul-zero, suc-mul, zero-mul, zero-add}
+use native.Mathlib.Nat.{mul-suc, mul-zero, suc-mul, zero-mul, zero-add, mul-add, mul-le-mul_left}
+use native.Mathlib.Numerals.{add-one}
 use native.Mathlib.Omega.{arith}
 use lib.ListN.{length, get_or, take, drop, length-append, length-drop, get_or-append}
 use lib.Seq.{sets, drop-drop, length-take-le, get_or-take, get_or-drop, get_or-append-add}
@@ -11,10 +12,12 @@ use Rattle.little_endian.proofs.Number.{bytes_drop, bytes_take}
 use Rattle.little_endian.proofs.Stores.{sets-append}
 use Rattle.shift_record.specs.Record.{unpadded}
 
--- so many rows, and one less
-pub one_less : (stride n : ℕ) → 0 < n → stride * n ≡ stride + stride * (n - 1)
-one_less stride zero h = absurd (omega arith)
-one_less stride (suc n) h = let one : suc n - 1 ≡ n = omega arith in rw (one, mul-suc) (omega arith)
+-- up to a row, and with it
+pub one_more : (n row : ℕ) → n * (row + 1) ≡ n * row + n
+one_more n row = rw add-one (mul-suc n row)
+
+pub with_row : (n row rows : ℕ) → row < rows → n * row + n ≤ n * rows
+with_row n row rows h = omega (arith, one_more n row, mul-le-mul_left {m = row + 1} {n = rows} n (omega arith))
 
 module _ (n stride : ℕ) (wide : n ≤ stride) where
   first_row : (rows : ℕ) (p : List ℕ) → stride * suc rows ≤ length p → length (take n p) ≡ n
@@ -46,20 +49,28 @@ module _ (n stride : ℕ) (wide : n ≤ stride) where
       ∙ rw there)
 
   -- one row copied, and the rest still to copy
-  pub rows_more : (d p : List ℕ) (from to left : ℕ) → 0 < left → from + stride * left ≤ length p
-      → sets (sets d to (take n (drop from p))) (to + n) (unpadded n stride (left - 1) (drop (from + stride) p)) ≡ sets d to (unpadded n stride left (drop from p))
+  row_more : (d p : List ℕ) (from to left : ℕ) → from + stride * suc left ≤ length p
+      → sets (sets d to (take n (drop from p))) (to + n) (unpadded n stride left (drop (from + stride) p)) ≡ sets d to (unpadded n stride (suc left) (drop from p))
   unfolding unpadded
-  rows_more d p from to zero h k = absurd (omega arith)
-  rows_more d p from to (suc left) h k =
-      let one : suc left - 1 ≡ left = omega arith in
+  row_more d p from to left k =
       let row = take n (drop from p) in
       let long : length row ≡ n = first_row left (drop from p) (rw length-drop (omega arith)) in
-      rw (one, sets-append row (unpadded n stride left (drop stride (drop from p))) d to, long, drop-drop)
+      rw (sets-append row (unpadded n stride left (drop stride (drop from p))) d to, long, drop-drop)
 
-  pub rows_done : (d p : List ℕ) (to left : ℕ) → left ≤ 0 → sets d to (unpadded n stride left p) ≡ d
+  pub rows_more : (d p : List ℕ) (at row rows : ℕ) → row < rows → stride * rows ≤ length p
+      → sets (sets d (at + n * row) (take n (drop (stride * row) p))) (at + n * (row + 1)) (unpadded n stride (rows - (row + 1)) (drop (stride * (row + 1)) p))
+      ≡ sets d (at + n * row) (unpadded n stride (rows - row) (drop (stride * row) p))
+  rows_more d p at row rows h k =
+      let to : at + n * (row + 1) ≡ at + n * row + n = omega (arith, one_more n row) in
+      let from : stride * (row + 1) ≡ stride * row + stride = one_more stride row in
+      let left : rows - row ≡ suc (rows - (row + 1)) = omega arith in
+      let all : stride * row + stride * suc (rows - (row + 1)) ≡ stride * rows =
+      sym (mul-add stride row (suc (rows - (row + 1)))) ∙ ap (λ (k : ℕ). stride * k) (omega arith) in
+      rw (to, from, left) (row_more d p (stride * row) (at + n * row) (rows - (row + 1)) (omega (arith, all)))
+
+  pub rows_done : (d p : List ℕ) (to left : ℕ) → left ≡ 0 → sets d to (unpadded n stride left p) ≡ d
   unfolding unpadded
-  rows_done d p to zero h = refl
-  rows_done d p to (suc left) h = absurd (omega arith)
+  rows_done d p to left e = rw e
 
 -- rows of a size and a count that the code worked out
 pub rows_fit : (n m rows k stride len at room : ℕ) → n ≡ m → rows ≡ k → m ≤ stride → len ≡ stride * k → at + m * k ≤ room

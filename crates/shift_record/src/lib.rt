@@ -13,11 +13,11 @@ ghost use Rattle.shift_record.specs.Known.{IsFrame, PlanesFit};
 
 use shift_file::{SettingCodes, ShiftForm};
 use shift_writer::ShiftWritten;
-use yuv_error::{LentBuffer, YuvAnswer, YuvError};
+use yuv_error::{LentBuffer, YuvError};
 use yuv_support::YuvChromaSubsampling;
 
 // What a record says of its frame, and the strides of the planes that it is made of. In the form without settings theirs are not looked at.
-#[derive(Clone, Copy)]
+#[derive(Clone, Copy, Debug, PartialEq, Eq)]
 pub struct RecordFrame {
     pub form: ShiftForm,
     pub crossing: u32,
@@ -33,8 +33,7 @@ pub struct RecordFrame {
 fn sampling_of(frame: RecordFrame) -> YuvChromaSubsampling
     ensures { result ≡ frame_sampling frame }
 {
-    let form = frame.form;
-    match form {
+    match frame.form {
         ShiftForm::WithoutSettings => YuvChromaSubsampling::Yuv420,
         ShiftForm::WithSettings => setting_codes::sampling_of(frame.settings.sampling),
     }
@@ -52,25 +51,21 @@ pub fn copy_rows(
     requires { (size ≤ stride) × (length plane.now ≡ stride * rows) × (at + size * rows ≤ length output.old) }
     ensures { output.new ≡ sets output.old at (unpadded size stride rows plane.now) }
 {
-    let mut from = 0;
-    let mut to = at;
-    let mut left = rows;
-    while 0 < left {
+    for row in 0..rows {
+        let from = stride * row;
+        let to = at + size * row;
         shift_writer::copy_bytes(output, to, shift_file::part_of(plane, from, size));
-        from += stride;
-        to += size;
-        left -= 1;
     }
 }
 
 // The settings, after crossing, width and height.
+#[tactic(auto, using(crate::proofs::Made::code_bytes))]
 fn put_settings(frame: RecordFrame, output: &mut [u8])
     requires frame_value { codes_allowed frame.form (settings_of frame) ≡ true }
     requires form_in_bounds { header_size frame.form ≤ length output.old }
     ensures { output.new ≡ sets output.old 8 (settings_of frame) }
 {
-    let form = frame.form;
-    match form {
+    match frame.form {
         ShiftForm::WithoutSettings => {}
         ShiftForm::WithSettings => {
             let codes = [
@@ -99,36 +94,29 @@ fn write_header(frame: RecordFrame, output: &mut [u8])
 fn are_settings(frame: RecordFrame) -> bool
     ensures { result ≡ codes_allowed frame.form (settings_of frame) }
 {
-    let form = frame.form;
-    let settings = frame.settings;
-    match form {
+    match frame.form {
         ShiftForm::WithoutSettings => true,
-        ShiftForm::WithSettings => settings.are_allowed(),
+        ShiftForm::WithSettings => frame.settings.are_allowed(),
     }
 }
 
 fn is_frame(frame: RecordFrame) -> bool
     ensures { result ≡ frame_allowed frame }
 {
-    let width = frame.width;
-    let height = frame.height;
-    ((1 <= width) & (width <= 16384)) & (((1 <= height) & (height <= 16384)) & are_settings(frame))
+    (1..=16384).contains(&frame.width) && (1..=16384).contains(&frame.height) && are_settings(frame)
 }
 
 // Refusals 8 to 12.
-fn check_planes(frame: RecordFrame, y: usize, u: usize, v: usize) -> YuvAnswer
+fn check_planes(frame: RecordFrame, y: usize, u: usize, v: usize) -> Result<(), YuvError>
     requires { IsFrame frame }
     ensures { numbers_of result ≡ first_numbers (planes_rules (y_lent frame y) (u_lent frame u) (v_lent frame v)) }
 {
-    let width = frame.width as usize;
-    let height = frame.height as usize;
-    let sampling = sampling_of(frame);
-    let chroma_width = yuv_support::chroma_width(width);
-    let chroma_height = sampling.chroma_height(height);
+    let chroma_width = yuv_support::chroma_width(frame.width as usize) as u32;
+    let chroma_height = sampling_of(frame).chroma_height(frame.height as usize) as u32;
     yuv_error::check_planes(
         LentBuffer {
-            row: width,
-            rows: height,
+            row: frame.width,
+            rows: frame.height,
             stride: frame.y_stride,
             len: y,
         },
@@ -155,8 +143,7 @@ fn record_size(frame: RecordFrame) -> usize
     let height = frame.height as usize;
     let luma = shift_file::luma_size(width, height);
     let chroma = shift_file::chroma_size(sampling_of(frame), width, height);
-    let form = frame.form;
-    form.header_size() + (luma + 2 * chroma)
+    frame.form.header_size() + (luma + 2 * chroma)
 }
 
 fn put_record(frame: RecordFrame, y: &[u8], u: &[u8], v: &[u8], output: &mut [u8])
@@ -170,8 +157,7 @@ fn put_record(frame: RecordFrame, y: &[u8], u: &[u8], v: &[u8], output: &mut [u8
     let sampling = sampling_of(frame);
     let chroma_width = yuv_support::chroma_width(width);
     let chroma_height = sampling.chroma_height(height);
-    let form = frame.form;
-    let y_at = form.header_size();
+    let y_at = frame.form.header_size();
     let u_at = y_at + shift_file::luma_size(width, height);
     let v_at = u_at + shift_file::chroma_size(sampling, width, height);
     write_header(frame, output);
@@ -207,24 +193,29 @@ pub fn write_record(
 {
     if !is_frame(frame) {
         return ShiftWritten {
-            answer: YuvAnswer::Refused(YuvError::MalformedShiftFile),
+            answer: Err(YuvError::MalformedShiftFile),
             size: 0,
         };
     }
-    let answer = check_planes(frame, y.len(), u.len(), v.len());
-    match answer {
-        YuvAnswer::Refused(_) => {
-            return ShiftWritten { answer, size: 0 };
+    match check_planes(frame, y.len(), u.len(), v.len()) {
+        Err(error) => {
+            return ShiftWritten {
+                answer: Err(error),
+                size: 0,
+            };
         }
-        YuvAnswer::Finished => {}
+        Ok(()) => {}
     }
     let size = record_size(frame);
     if output.len() < size {
         return ShiftWritten {
-            answer: YuvAnswer::Refused(YuvError::OutputTooShort),
+            answer: Err(YuvError::OutputTooShort),
             size,
         };
     }
     put_record(frame, y, u, v, output);
-    ShiftWritten { answer, size }
+    ShiftWritten {
+        answer: Ok(()),
+        size,
+    }
 }

@@ -1,6 +1,6 @@
 -- What is built is a summary: sorted keys name the entries by crossing, equal ones by their place, with which offsets rise. And there is no other, for
 -- no offset stands twice. Assumes nothing.
-use Prim.Native.Nat.{ℕ, ◌+◌, ◌*◌, ◌≤◌, ◌<◌}
+use Prim.Native.Nat.{ℕ, ◌*◌, ◌≤◌, ◌<◌}
 use mathlib.Core.Path.{◌≡◌, refl, sym, ap, ◌∙◌}
 use mathlib.Core.List.{List}
 use native.Mathlib.Nat.{le_of_lt}

@@ -1,9 +1,10 @@
 -- What is known of a file that was let through, and of keys. This serves `requires` clauses: no meaning stands here.
 -- Assumes nothing.
-use Rattle.std.specs.Prelude.{ℕ, ◌%◌, ◌<◌, ◌≡◌, List, length, get_or}
+use Rattle.std.specs.Prelude.{ℕ, ◌<◌, ◌≡◌, List, length, get_or}
 use Rattle.shift_file.specs.declared.ShiftForm.{ShiftForm}
 use Rattle.shift_file.specs.File.{IsFileOf}
 use Rattle.shift_file.specs.Read.{records_in}
+use Rattle.crossing_keys.specs.declared.key.Key.{Key}
 
 -- the file of its records, which are so many
 pub record HasRecords (form : ShiftForm) (file : List ℕ) (count : ℕ) : Type 0 where
@@ -11,5 +12,5 @@ pub record HasRecords (form : ShiftForm) (file : List ℕ) (count : ℕ) : Type 
   pub count_is : length (records_in form file) ≡ count
 
 -- each key has a place below n
-pub record Places (n : ℕ) (keys : List ℕ) : Type 0 where
-  pub place : (i : ℕ) → i < length keys → get_or keys i 0 % 4096 < n
+pub record Places (n : ℕ) (keys : List Key) : Type 0 where
+  pub place : (i : ℕ) (d : Key) → i < length keys → (get_or keys i d).place < n

@@ -1,5 +1,5 @@
 -- What the writer answers, by the count. Assumes nothing.
-use Prim.Native.Nat.{ℕ, ◌+◌, ◌≤◌, ◌<◌}
+use Prim.Native.Nat.{ℕ, ◌+◌, ◌≤◌}
 use mathlib.Core.Path.{◌≡◌, ap, ◌∙◌}
 use mathlib.Core.Bool.{true, false}
 use mathlib.Core.List.{List, ◌++◌}
@@ -7,28 +7,35 @@ use native.Mathlib.Nat.{zero-add}
 use native.Mathlib.Omega.{arith}
 use lib.ListN.{length, drop}
 use lib.Seq.{sets, sets-eq}
-use borrow.Author.Tests.{le-leb, lt-leb}
+use borrow.Author.Tests.{leb-true}
+use Rattle.std.specs.Prelude.{Some, None}
 use Rattle.little_endian.specs.Number.{Bytes}
 use Rattle.shift_file.specs.declared.ShiftForm.{ShiftForm}
 use Rattle.shift_file.specs.File.{records_at, file_of}
 use Rattle.shift_file.specs.Read.{records_from}
 use Rattle.shift_file.proofs.File.{length_file}
-use Rattle.shift_writer.specs.Records.{count_from, are_records, file_made}
+use Rattle.shift_writer.specs.Records.{count_from, are_records, count_back, file_made}
 use Rattle.shift_writer.specs.Known.{Counted}
-use Rattle.shift_writer.proofs.Count.{length_from, counted}
+use Rattle.shift_writer.proofs.Count.{standing, not_standing, length_from, counted}
 
-module _ (form : ShiftForm) (b : List ℕ) (n : ℕ) (e : n ≡ count_from form b 0 4096) where
-  pub no_records : 4096 < n → are_records form b ≡ false
-  no_records h = rw (← e) (lt-leb n 4096 h)
+pub no_records : (form : ShiftForm) (b : List ℕ) → count_back form b ≡ None → are_records form b ≡ false
+no_records form b e = not_standing (are_records form b) (count_from form b 0 4096) e
 
-  pub are_records_lem : n ≤ 4096 → are_records form b ≡ true
-  are_records_lem h = rw (← e) (le-leb n 4096 h)
+module _ (form : ShiftForm) (b : List ℕ) (n : ℕ) (e : count_back form b ≡ Some n) where
+  pub are_records_lem : are_records form b ≡ true
+  are_records_lem = (standing (are_records form b) (count_from form b 0 4096) n e).0
 
-  pub all_Counted : Bytes b → n ≤ 4096 → Counted form b 0 n
-  all_Counted bytes h = rw e (counted form b 4096 0 bytes (omega arith) (omega arith))
+  count_is : count_from form b 0 4096 ≡ n
+  count_is = (standing (are_records form b) (count_from form b 0 4096) n e).1
+
+  pub few : n ≤ 4096
+  few = rw (← count_is) (leb-true (count_from form b 0 4096) 4096 are_records_lem)
+
+  pub all_Counted : Bytes b → Counted form b 0 n
+  all_Counted bytes = rw (← count_is) (counted form b 4096 0 bytes (omega arith) (leb-true (count_from form b 0 4096) 4096 are_records_lem))
 
   pub made : file_made form b ≡ file_of form (records_from form b 0 n)
-  made = rw (← e)
+  made = rw count_is
 
   pub length_made : Counted form b 0 n → length (file_made form b) ≡ records_at form n + length b
   length_made c = ap length made ∙ length_file form (records_from form b 0 n) ∙ rw (length_from form b 0 n, ← c.bytes)

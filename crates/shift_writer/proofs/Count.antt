@@ -2,7 +2,8 @@
 -- Assumes nothing.
 use Prim.Native.Nat.{ℕ, zero, suc, ◌+◌, ◌-◌, ◌≤◌, ◌<◌}
 use mathlib.Core.Path.{◌≡◌, refl, ap, sym, ◌∙◌}
-use mathlib.Core.Bool.{Bool, true, false}
+use mathlib.Core.Bool.{Bool, true, false, cond}
+use Rattle.std.specs.Prelude.{Some, None}
 use mathlib.Core.List.{List, [], ◌∷◌, ◌++◌}
 use native.Mathlib.Omega.{arith}
 use lib.Dec.{eqb}
@@ -14,10 +15,10 @@ use Rattle.little_endian.proofs.Number.{bytes_drop}
 use Rattle.shift_file.specs.declared.ShiftForm.{ShiftForm}
 use Rattle.shift_file.specs.File.{ShiftRecord, Allowed, EachAllowed, bytes_of, record_bytes, header_size}
 use Rattle.shift_file.specs.Read.{size_at, record_at, records_from}
-use Rattle.shift_file.specs.Check.{record_stands}
-use Rattle.shift_file.proofs.Record.{Stands-true, record_Allowed, size_bytes, stands_bytes, length_bytes, size_positive}
+use Rattle.shift_file.specs.Check.{record_stands, size_standing}
+use Rattle.shift_file.proofs.Record.{Stands-true, record_Allowed, size_bytes, stands_bytes, length_bytes}
 use Rattle.shift_file.proofs.Walk.{First-of, records_are}
-use Rattle.shift_writer.specs.Records.{count_from, are_records, records_back, size_standing, BackToBack, SomeRecords, TheseRecords}
+use Rattle.shift_writer.specs.Records.{count_from, are_records, records_back, count_back, BackToBack, SomeRecords, TheseRecords}
 use Rattle.shift_writer.specs.Known.{Counted}
 
 pub length_from : (form : ShiftForm) (b : List ℕ) (at n : ℕ) → length (records_from form b at n) ≡ n
@@ -30,30 +31,23 @@ lt_of_ne x y h e = omega arith
 
 -- ---- one step
 
+pub standing : (t : Bool) (n s : ℕ) → cond t (Some n) None ≡ Some s → (t ≡ true) × (n ≡ s)
+standing true n s e = (refl, cc)
+standing false n s e = cc
+
+pub not_standing : (t : Bool) (n : ℕ) → cond t (Some n) None ≡ None → t ≡ false
+not_standing true n e = cc
+not_standing false n e = refl
+
+pub standing_some : (form : ShiftForm) (l : List ℕ) (s : ℕ) → size_standing form l ≡ Some s → (record_stands form l ≡ true) × (size_at form l ≡ s)
+unfolding size_standing
+standing_some form l s e = standing (record_stands form l) (size_at form l) s e
+
+pub standing_none : (form : ShiftForm) (l : List ℕ) → size_standing form l ≡ None → record_stands form l ≡ false
+unfolding size_standing
+standing_none form l e = not_standing (record_stands form l) (size_at form l) e
+
 module _ (form : ShiftForm) (b : List ℕ) (at : ℕ) where
-  pub standing_is : record_stands form (drop at b) ≡ true → size_standing form b at ≡ size_at form (drop at b)
-  unfolding size_standing
-  standing_is e = rw e
-
-  pub standing_none : record_stands form (drop at b) ≡ false → size_standing form b at ≡ 0
-  unfolding size_standing
-  standing_none e = rw e
-
-  -- a size above 0 says that a record stands there, and 0 that none does
-  pub standing_some : 0 < size_standing form b at → record_stands form (drop at b) ≡ true
-  standing_some = go (record_stands form (drop at b)) refl
-    where
-      go : (t : Bool) → record_stands form (drop at b) ≡ t → 0 < size_standing form b at → record_stands form (drop at b) ≡ true
-      go true e h = e
-      go false e h = absurd (omega (arith, standing_none e))
-
-  pub standing_zero : size_standing form b at ≡ 0 → record_stands form (drop at b) ≡ false
-  standing_zero = go (record_stands form (drop at b)) refl
-    where
-      go : (t : Bool) → record_stands form (drop at b) ≡ t → size_standing form b at ≡ 0 → record_stands form (drop at b) ≡ false
-      go true e h = absurd (omega (arith, standing_is e, size_positive form (drop at b)))
-      go false e h = e
-
   pub stands_inside : at ≤ length b → record_stands form (drop at b) ≡ true → at + size_at form (drop at b) ≤ length b
   stands_inside h e = omega (arith, (Stands-true form (drop at b) e).whole, length-drop at b)
 
@@ -76,6 +70,45 @@ module _ (form : ShiftForm) (b : List ℕ) (at : ℕ) where
       → count_from form b at n ≡ suc (count_from form b (at + size_at form (drop at b)) m)
   unfolding count_from
   count_more n m d h e = rw (d, ne_eqb at (length b) (λ e. omega arith), e)
+
+-- the count as the loop takes it: of a count of k records up to a place, or of one record too many
+pub record Reached (form : ShiftForm) (b : List ℕ) (at k : ℕ) : Type 0 where
+  pub inside : at ≤ length b
+  pub few : k ≤ 4096 → k + count_from form b at (4096 - k) ≡ count_from form b 0 4096
+  pub many : 4096 < k → count_from form b 0 4096 ≡ 4097
+
+pub Reached-zero : (form : ShiftForm) (b : List ℕ) → Reached form b 0 0
+Reached-zero form b = record { inside = omega arith; few = λ h. omega arith; many = λ h. absurd (omega arith) }
+
+module _ (form : ShiftForm) (b : List ℕ) (at k : ℕ) (c : Reached form b at k) (most : k ≤ 4096) where
+  pub count_at_end : at ≡ length b → Some k ≡ count_back form b
+  count_at_end e =
+      let all : count_from form b 0 4096 ≡ k = omega (arith, c.few most, count_end form b at (4096 - k) (omega arith) c.inside) in
+      rw (all, le-leb k 4096 most)
+
+  module _ (less : at ≡ length b → ⊥) where
+    before : at < length b
+    before = lt_of_ne at (length b) c.inside less
+
+    pub count_at_none : size_standing form (drop at b) ≡ None → None ≡ count_back form b
+    count_at_none e =
+        let all : count_from form b 0 4096 ≡ 4097 =
+        omega (arith, c.few most, count_none form b at (4096 - k) before (standing_none form (drop at b) e)) in
+        rw all
+
+    pub Reached-more : (s : ℕ) → size_standing form (drop at b) ≡ Some s → Reached form b (at + s) (k + 1)
+    Reached-more s e =
+        let stands = standing_some form (drop at b) s e in record {
+          inside = omega (arith, stands.1, stands_inside form b at c.inside stands.0);
+          few = λ h.
+              let more : count_from form b at (4096 - k) ≡ suc (count_from form b (at + s) (4096 - (k + 1))) =
+              rw (← stands.1) (count_more form b at (4096 - k) (4096 - (k + 1)) (omega arith) before stands.0) in
+              omega (arith, c.few most, more);
+          many = λ h. omega (arith, c.few most, count_full form b at (4096 - k) (omega arith) before);
+        }
+
+pub count_at_most : (form : ShiftForm) (b : List ℕ) (at k : ℕ) → Reached form b at k → 4096 < k → None ≡ count_back form b
+count_at_most form b at k c h = rw (c.many h)
 
 -- ---- from the records to the count
 

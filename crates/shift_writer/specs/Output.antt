@@ -1,18 +1,17 @@
 -- What a call that makes bytes leaves in the output that it was lent: docs/RULES.md, 11.5 and 11.6.
 -- Assumes nothing.
-use Rattle.std.specs.Prelude.{ℕ, cond, ◌||◌, List, [], ◌∷◌, ◌++◌, eqb, ltb, length, drop}
-use Rattle.yuv_error.specs.declared.YuvAnswer.{YuvAnswer}
-use Rattle.yuv_error.specs.declared.YuvAnswer.TheVariants.{Finished, Refused}
+use Rattle.std.specs.Prelude.{ℕ, cond, ◌||◌, List, [], ◌∷◌, ◌++◌, eqb, ltb, length, drop, Result, Ok, Err}
+use Rattle.yuv_error.specs.declared.YuvError.{YuvError}
 use Rattle.yuv_error.specs.Numbers.{numbers_of}
 use Rattle.yuv_error.specs.Rules.{Rule, rule}
 
 -- RULES 11.5: the bytes at the front, and past them what was there; all as it was where the call was refused
-abbrev pub overwritten : YuvAnswer → (bytes before : List ℕ) → List ℕ
-overwritten Finished bytes before = bytes ++ drop (length bytes) before
-overwritten (Refused e) bytes before = before
+abbrev pub overwritten : Result Unit YuvError → (bytes before : List ℕ) → List ℕ
+overwritten (Ok done) bytes before = bytes ++ drop (length bytes) before
+overwritten (Err e) bytes before = before
 
 -- RULES 11.5: the bytes that it takes, told after finished work and after 16
-abbrev pub size_told : YuvAnswer → (size : ℕ) → ℕ
+abbrev pub size_told : Result Unit YuvError → (size : ℕ) → ℕ
 size_told answer size = cond (eqb (numbers_of answer).number 0 || eqb (numbers_of answer).number 16) size 0
 
 -- RULES 11.5: 16, the output has less room than that

@@ -1,6 +1,6 @@
 -- Records back to back, and which are a list that has a file: docs/RULES.md, 11.5.
 -- Assumes nothing.
-use Rattle.std.specs.Prelude.{ℕ, zero, suc, ◌+◌, ◌≡◌, Bool, true, cond, List, ◌↔◌, eqb, leb, length, drop}
+use Rattle.std.specs.Prelude.{ℕ, zero, suc, ◌+◌, ◌≡◌, Bool, true, cond, List, Option, Some, None, ◌↔◌, eqb, leb, length, drop}
 use Rattle.little_endian.specs.Number.{Bytes}
 use Rattle.shift_file.specs.declared.ShiftForm.{ShiftForm}
 use Rattle.shift_file.specs.File.{ShiftRecord, HasFile, record_bytes, file_of}
@@ -25,9 +25,9 @@ records_back form b = records_from form b 0 (count_from form b 0 4096)
 abbrev pub file_made : ShiftForm → List ℕ → List ℕ
 file_made form b = file_of form (records_back form b)
 
--- the bytes of the record at a place; 0 where no whole record stands there: what one step of the count looks for
-unfoldable pub size_standing : ShiftForm → List ℕ → (at : ℕ) → ℕ
-size_standing form b at = cond (record_stands form (drop at b)) (size_at form (drop at b)) 0
+-- RULES 11.5: how many they are, where they are a list of records that has a file
+abbrev pub count_back : ShiftForm → List ℕ → Option ℕ
+count_back form b = cond (are_records form b) (Some (count_from form b 0 4096)) None
 
 -- ---- what this means
 

@@ -7,20 +7,21 @@ ghost use Rattle.std.proofs.lemmas.List.Edits.{sets};
 ghost use Rattle.little_endian.specs.Number.{low_bytes};
 ghost use Rattle.shift_file.specs.File.{mark, pairs_of, records_at, file_of};
 ghost use Rattle.shift_file.specs.Read.{records_from};
-ghost use Rattle.shift_writer.specs.Records.{size_standing, count_from};
+ghost use Rattle.shift_writer.specs.Records.{count_back};
 ghost use Rattle.shift_writer.specs.Known.{Counted};
 ghost use Rattle.shift_writer.specs.Writing.{WritePost};
 
 use shift_file::ShiftForm;
-use yuv_error::{YuvAnswer, YuvError};
+use yuv_error::YuvError;
 
 // The most records of a file.
 const MOST_RECORDS: usize = 4096;
 
 // What writing answers, and the bytes that it takes: told too where the output is too short for them, else 0 with a refusal.
-#[derive(Clone, Copy)]
+// No Result: of a refusal too the size is told.
+#[derive(Clone, Copy, Debug, PartialEq, Eq)]
 pub struct ShiftWritten {
-    pub answer: YuvAnswer,
+    pub answer: Result<(), YuvError>,
     pub size: usize,
 }
 
@@ -28,44 +29,21 @@ pub fn copy_bytes(output: &mut [u8], at: usize, bytes: &[u8])
     requires { at + length bytes.now ≤ length output.old }
     ensures { output.new ≡ sets output.old at bytes.now }
 {
-    let mut i = 0;
-    while i < bytes.len() {
-        output[at + i] = bytes[i];
-        i += 1;
-    }
+    little_endian::put(output, at, bytes);
 }
 
-// The bytes of the record at a place; 0 where no whole record stands there.
-fn size_standing(form: ShiftForm, records: &[u8], at: usize) -> usize
-    requires { at ≤ length records.now }
-    ensures { result ≡ size_standing form records.now at }
-{
-    let part = shift_file::from_place(records, at);
-    if shift_file::record_stands(form, part) {
-        shift_file::size_at(form, part)
-    } else {
-        0
-    }
-}
-
-// How many records stand back to back, to the end; 4,097 where that is not so, or they are more than a file has.
-fn count_records(form: ShiftForm, records: &[u8]) -> usize
-    ensures { result ≡ count_from form records.now 0 4096 }
+// How many records stand back to back, to the end, where that is so and they are no more than a file has.
+fn count_records(form: ShiftForm, records: &[u8]) -> Option<usize>
+    ensures { result ≡ count_back form records.now }
 {
     let mut at = 0;
-    let mut count = 0;
-    while at < records.len() {
-        if count == MOST_RECORDS {
-            return 4097;
+    for count in 0..MOST_RECORDS + 1 {
+        if at == records.len() {
+            return Some(count);
         }
-        let size = size_standing(form, records, at);
-        if size == 0 {
-            return 4097;
-        }
-        at += size;
-        count += 1;
+        at += shift_file::size_standing(form, shift_file::from_place(records, at))?;
     }
-    count
+    None
 }
 
 pub fn write_pair(output: &mut [u8], pair: usize, offset: usize, size: usize)
@@ -89,15 +67,11 @@ fn write_pairs(
     requires count_in_bounds { (first_pair + 12 * count ≤ length output.old) × (first + length records.now < 2 ^ 64) }
     ensures { output.new ≡ sets output.old first_pair (pairs_of first (records_from form records.now 0 count)) }
 {
-    let mut pair = first_pair;
     let mut at = 0;
-    let mut left = count;
-    while 0 < left {
+    for k in 0..count {
         let size = shift_file::size_at(form, shift_file::from_place(records, at));
-        write_pair(output, pair, first + at, size);
-        pair += 12;
+        write_pair(output, first_pair + 12 * k, first + at, size);
         at += size;
-        left -= 1;
     }
 }
 
@@ -131,23 +105,25 @@ fn put_file(form: ShiftForm, records: &[u8], count: usize, output: &mut [u8])
 pub fn write_file(form: ShiftForm, records: &[u8], output: &mut [u8]) -> ShiftWritten
     ensures { WritePost form records.now output.old result output.new }
 {
-    let count = count_records(form, records);
-    if count > MOST_RECORDS {
-        return ShiftWritten {
-            answer: YuvAnswer::Refused(YuvError::MalformedShiftFile),
-            size: 0,
-        };
-    }
+    let count = match count_records(form, records) {
+        Some(count) => count,
+        None => {
+            return ShiftWritten {
+                answer: Err(YuvError::MalformedShiftFile),
+                size: 0,
+            };
+        }
+    };
     let size = form.mark_size() + 4 + 12 * count + records.len();
     if output.len() < size {
         return ShiftWritten {
-            answer: YuvAnswer::Refused(YuvError::OutputTooShort),
+            answer: Err(YuvError::OutputTooShort),
             size,
         };
     }
     put_file(form, records, count, output);
     ShiftWritten {
-        answer: YuvAnswer::Finished,
+        answer: Ok(()),
         size,
     }
 }

@@ -3,76 +3,88 @@
 // operating system itself gives or takes no contract says.
 #![tactic(auto)]
 
-ghost use Rattle.std.specs.Prelude.{◌≡◌, ℕ, ◌≤◌, ◌<◌, length, take};
-ghost use Rattle.std.specs.Bool.{OnTrue};
+ghost use Rattle.std.specs.Prelude.{◌≡◌, ℕ, ◌≤◌, ◌<◌, length, take, IfOk, IfErr, OnOk};
 ghost use Rattle.std.specs.Io.KnownBytes.{Appends, Consumes, IsAtEnd};
 
+use std::io;
 use std::io::{ErrorKind, Read, Write};
 
 // How many calls that a signal interrupts are made again.
 const RETRIES: u32 = 1000;
 
-// What was read: so many bytes, and whether no read failed.
-#[derive(Clone, Copy)]
-pub struct Input {
+// A read or a write failed, when so many bytes were read or written.
+#[derive(Debug, Drop)]
+pub struct Stopped {
     pub size: usize,
-    pub whole: bool,
+    pub error: io::Error,
 }
 
-// Reads to the end, or until the buffer is full.
-pub fn read_input<R: Read>(reader: &mut R, buffer: &mut [u8]) -> Input
-    ensures within { result.size ≤ length buffer.new }
-    ensures bytes { Consumes (R.remaining reader.old) (R.remaining reader.new) (take result.size buffer.new) }
-    ensures whole { OnTrue result.whole (result.size < length buffer.new → IsAtEnd (R.remaining reader.new)) }
+impl From<Stopped> for io::Error {
+    fn from(stopped: Stopped) -> io::Error {
+        stopped.error
+    }
+}
+
+// Reads to the end, or until the buffer is full, and answers how many bytes it read.
+pub fn read_input<R: Read>(reader: &mut R, buffer: &mut [u8]) -> Result<usize, Stopped>
+    ensures within { IfOk result (λ size. size ≤ length buffer.new) }
+    ensures bytes { IfOk result (λ size.
+        Consumes (R.remaining reader.old) (R.remaining reader.new) (take size buffer.new)) }
+    ensures whole { IfOk result (λ size. size < length buffer.new → IsAtEnd (R.remaining reader.new)) }
+    ensures cut_within { IfErr result (λ stopped. stopped.size ≤ length buffer.new) }
+    ensures cut { IfErr result (λ stopped.
+        Consumes (R.remaining reader.old) (R.remaining reader.new) (take stopped.size buffer.new)) }
 {
     let mut size = 0;
     let mut retries = RETRIES;
+    // A while loop: a read gives as many bytes as it likes.
     while size < buffer.len() {
         match reader.read(&mut buffer[size..]) {
-            Ok(0) => {
-                return Input { size, whole: true };
-            }
+            Ok(0) => return Ok(size),
             Ok(n) => size += n,
-            Err(e) => {
-                if retries == 0 || e.kind() != ErrorKind::Interrupted {
-                    return Input { size, whole: false };
+            Err(error) => {
+                if retries == 0 || error.kind() != ErrorKind::Interrupted {
+                    return Err(Stopped { size, error });
                 }
                 retries -= 1;
             }
         }
     }
-    Input { size, whole: true }
+    Ok(size)
 }
 
-// Writes all of `bytes`, and answers whether that was done. Where it was not, what is written is the start of them.
-pub fn write_output<W: Write>(writer: &mut W, bytes: &[u8]) -> bool
-    ensures all { OnTrue result (Appends (W.contents writer.old) (W.contents writer.new) bytes.now) }
+// Writes all of `bytes`. Where a write fails, what is written is the start of them.
+pub fn write_output<W: Write>(writer: &mut W, bytes: &[u8]) -> Result<(), Stopped>
+    ensures all { OnOk result (Appends (W.contents writer.old) (W.contents writer.new) bytes.now) }
     ensures start { (n : ℕ) × (n ≤ length bytes.now)
         × Appends (W.contents writer.old) (W.contents writer.new) (take n bytes.now) }
+    ensures cut { IfErr result (λ stopped.
+        Appends (W.contents writer.old) (W.contents writer.new) (take stopped.size bytes.now)) }
 {
     let mut done = 0;
     let mut retries = RETRIES;
+    // A while loop: a write takes as many bytes as it likes.
     while done < bytes.len() {
         match writer.write(&bytes[done..]) {
             Ok(0) => {
-                return false;
+                let error = io::Error::from(ErrorKind::WriteZero);
+                return Err(Stopped { size: done, error });
             }
             Ok(n) => done += n,
-            Err(e) => {
-                if retries == 0 || e.kind() != ErrorKind::Interrupted {
-                    return false;
+            Err(error) => {
+                if retries == 0 || error.kind() != ErrorKind::Interrupted {
+                    return Err(Stopped { size: done, error });
                 }
                 retries -= 1;
             }
         }
     }
-    true
+    Ok(())
 }
 
 #[cfg(test)]
 mod tests {
     use super::*;
-    use std::io;
 
     // A byte a call; every other call is interrupted, and one fails.
     #[derive(Drop)]
@@ -106,8 +118,7 @@ mod tests {
             fails_at: 5,
         };
         let read = read_input(&mut reader, &mut buffer);
-        assert!(rt; !read.whole);
-        assert_eq!(rt; read.size, 2);
+        assert_eq!(rt; read.map_err(|stopped| stopped.size), Err(2));
     }
 
     #[test]
@@ -118,18 +129,18 @@ mod tests {
             fails_at: 100,
         };
         let read = read_input(&mut reader, &mut buffer);
-        assert!(rt; read.whole);
+        assert!(rt; read.is_ok());
         assert_eq!(rt; buffer, [7; 8]);
     }
 
     #[test]
-    fn all_of_a_slice_is_read_and_written(rt: HostRuntime) {
+    fn all_of_a_slice_is_read_and_written(rt: HostRuntime) -> Result<(), Stopped> {
         let mut buffer = [0; 8];
         let mut reader: &[u8] = b"hello";
-        let read = read_input(&mut reader, &mut buffer);
-        assert!(rt; read.whole);
+        let size = read_input(&mut reader, &mut buffer)?;
         let mut kept = Vec::new(rt.alloc());
-        assert!(rt; write_output(&mut kept, &buffer[..read.size]));
+        write_output(&mut kept, &buffer[..size])?;
         assert_eq!(rt; kept.as_slice(), b"hello".as_slice());
+        Ok(())
     }
 }

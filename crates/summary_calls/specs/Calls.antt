@@ -1,8 +1,7 @@
 -- What building, checking and looking up promise: docs/RULES.md, 12.4 to 12.6.
 -- Assumes nothing.
-use Rattle.std.specs.Prelude.{ℕ, ◌*◌, ◌≡◌, Bool, not, ◌&&◌, List, [], ◌∷◌, ◌++◌, ltb, length}
-use Rattle.yuv_error.specs.declared.YuvAnswer.{YuvAnswer}
-use Rattle.yuv_error.specs.declared.YuvAnswer.TheVariants.{Finished, Refused}
+use Rattle.std.specs.Prelude.{ℕ, ◌*◌, ◌≡◌, Bool, not, ◌&&◌, List, [], ◌∷◌, ◌++◌, ltb, length, Result, Ok, Err}
+use Rattle.yuv_error.specs.declared.YuvError.{YuvError}
 use Rattle.yuv_error.specs.Numbers.{numbers_of}
 use Rattle.yuv_error.specs.Rules.{Rule, rule, first_numbers}
 use Rattle.shift_file.specs.declared.ShiftForm.{ShiftForm}
@@ -23,7 +22,7 @@ abbrev pub build_rules : ShiftForm → (file : List ℕ) → (room : ℕ) → Li
 build_rules form file room = file_rules form file ++ rule 17 (ltb room (13 * length (records_in form file))) 0 0 ∷ []
 
 -- RULES 12.4: everything of a call: its answer, and each byte lent to it
-pub record BuildPost (form : ShiftForm) (file before : List ℕ) (answer : YuvAnswer) (after : List ℕ) : Type 0 where
+pub record BuildPost (form : ShiftForm) (file before : List ℕ) (answer : Result Unit YuvError) (after : List ℕ) : Type 0 where
   pub answered : numbers_of answer ≡ first_numbers (build_rules form file (length before))
   pub written : after ≡ overwritten answer (summary_of form (records_in form file)) before
 
@@ -37,9 +36,9 @@ abbrev pub find_rules : ShiftForm → (file summary : List ℕ) → List Rule
 find_rules form file summary = file_rules form file ++ rule 17 (not (is_summary form (records_in form file) summary)) 0 0 ∷ []
 
 -- RULES 12.6: a refusal finds nothing
-abbrev pub found_told : YuvAnswer → FoundRecord → FoundRecord
-found_told Finished found = found
-found_told (Refused e) found = Nowhere
+abbrev pub found_told : Result Unit YuvError → FoundRecord → FoundRecord
+found_told (Ok done) found = found
+found_told (Err e) found = Nowhere
 
 -- RULES 12.6
 pub record FindPost (form : ShiftForm) (file summary : List ℕ) (crossing : ℕ) (r : SummaryFinding) : Type 0 where

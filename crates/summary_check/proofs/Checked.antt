@@ -1,9 +1,8 @@
 -- The check says yes exactly where the bytes are a summary: it compares with the one that there is. Assumes nothing.
 use Prim.Native.Nat.{ℕ, ◌*◌, ◌≤◌}
-use mathlib.Core.Path.{◌≡◌, refl, ap, sym, ◌∙◌}
-use mathlib.Core.Bool.{true, ◌&&◌, and-eq-true_iff}
+use mathlib.Core.Path.{◌≡◌, ap, sym, ◌∙◌}
+use mathlib.Core.Bool.{true, and-eq-true_iff}
 use mathlib.Core.List.{List, ◌++◌}
-use native.Mathlib.Omega.{arith}
 use borrow.Author.Tests.{leb-true, le-leb}
 use lib.Dec.{leb}
 use lib.ListN.{length, take, drop, take-append-drop}
@@ -21,7 +20,7 @@ use Rattle.shift_summary.specs.Summary.{entries_of, IsSummary}
 use Rattle.shift_summary.specs.Built.{in_order}
 use Rattle.shift_summary.proofs.Entries.{length_entries as length_file, entries_fit}
 use Rattle.shift_summary.proofs.Built.{in_order_lem, one_order}
-use Rattle.summary_check.specs.Check.{are_entries, is_summary, Checked}
+use Rattle.summary_check.specs.Check.{is_summary, Checked}
 use Rattle.summary_check.proofs.Tests.{entries_same, entries_itself}
 
 pub checked_entries : (form : ShiftForm) (rs : List ShiftRecord) (s : List ℕ) → HasFile form rs → is_summary form rs s ≡ true

@@ -1,12 +1,12 @@
 -- The test: what it shows, and how a loop takes it: the test from here on is the test from the start. Assumes nothing.
-use Prim.Native.Nat.{ℕ, suc, ◌+◌, ◌*◌, ◌%◌, ◌≤◌, ◌<◌}
-use mathlib.Core.Path.{◌≡◌, refl, ap, ap₂, sym, ◌∙◌}
+use Prim.Native.Nat.{ℕ, ◌+◌, ◌*◌, ◌≤◌, ◌<◌}
+use mathlib.Core.Path.{◌≡◌, refl, ap, ap₂, ◌∙◌}
 use mathlib.Core.Bool.{Bool, true, false, ◌&&◌, and-eq-true_iff}
 use mathlib.Core.List.{List, [], ◌∷◌, map}
 use native.Mathlib.Numerals.{add-one}
 use native.Mathlib.Omega.{arith}
 use borrow.Author.Tests.{le-leb, lt-leb}
-use lib.ListN.{length, get_or, drop, drop_of_length-le}
+use lib.ListN.{length, get_or, drop, drop_of_length-le, length-map}
 use lib.Seq.{drop-cons}
 use Rattle.merge_sort.specs.Ascending.{sorted, keys_from, by_keys}
 use Rattle.summary_entry.specs.declared.SummaryEntry.{SummaryEntry}
@@ -14,6 +14,9 @@ use Rattle.summary_entry.specs.Entry.{entries_in, same_entry, no_entry}
 use Rattle.summary_entry.proofs.Entry.{same_true, same_itself}
 use Rattle.shift_file.specs.declared.ShiftForm.{ShiftForm}
 use Rattle.shift_file.specs.File.{ShiftRecord}
+use Rattle.crossing_keys.specs.declared.key.Key.{Key}
+use Rattle.crossing_keys.specs.Keys.{number_of}
+use Rattle.crossing_keys.proofs.Keyed.{its_place}
 use Rattle.shift_summary.specs.Summary.{entries_of}
 use Rattle.shift_summary.specs.Built.{crossing_of}
 use Rattle.summary_check.specs.Check.{same_entries, are_entries, is_summary}
@@ -34,27 +37,30 @@ unfolding same_entries
 entries_itself [] = refl
 entries_itself (a ∷ l) = (and-eq-true_iff (same_entry a a) _).1 (same_itself a, entries_itself l)
 
-module _ (keys : List ℕ) (es fs : List SummaryEntry) (i : ℕ) where
+module _ (keys : List Key) (es fs : List SummaryEntry) (i : ℕ) where
+  abbrev names : List ℕ
+  names = map number_of keys
+
   -- the test from place i on
   abbrev pub same_from : Bool
-  same_from = same_entries (drop i es) (by_keys no_entry (drop i keys) fs)
+  same_from = same_entries (drop i es) (by_keys no_entry (drop i names) fs)
 
-  pub same_step : i < length keys → i < length es
-      → same_from ≡ (same_entry (get_or es i no_entry) (get_or fs (get_or keys i 0 % 4096) no_entry) && same_entries (drop (i + 1) es) (by_keys no_entry (drop (i + 1) keys) fs))
+  pub same_step : (d : Key) → d ≡ get_or keys i d → i < length keys → i < length es
+      → same_from ≡ (same_entry (get_or es i no_entry) (get_or fs d.place no_entry) && same_entries (drop (i + 1) es) (by_keys no_entry (drop (i + 1) names) fs))
   unfolding same_entries
-  same_step h k = rw (drop-cons keys i 0 h, drop-cons es i no_entry k, add-one)
+  same_step d is h k = rw (drop-cons names i 0 (omega (arith, length-map keys number_of, h)), drop-cons es i no_entry k, add-one, its_place keys i d h, ← is)
 
   pub same_done : length keys ≤ i → length es ≤ i → same_from ≡ true
   unfolding same_entries
-  same_done h k = rw (drop_of_length-le keys h, drop_of_length-le es k)
+  same_done h k = rw (drop_of_length-le names {i = i} (omega (arith, length-map keys number_of)), drop_of_length-le es k)
 
 -- ---- the tests as they are told
 
 module _ (form : ShiftForm) (rs : List ShiftRecord) (s : List ℕ) where
-  pub those_told : (r : Bool) (keys : List ℕ) → length keys ≡ length rs → keys ≡ sorted (keys_from 0 (map crossing_of (entries_of form rs)))
-      → r ≡ same_entries (entries_in (length keys) s) (by_keys no_entry keys (entries_of form rs)) → r ≡ are_entries form rs (entries_in (length rs) s)
+  pub those_told : (r : Bool) (keys : List Key) → length keys ≡ length rs → map number_of keys ≡ sorted (keys_from 0 (map crossing_of (entries_of form rs)))
+      → r ≡ same_entries (entries_in (length keys) s) (by_keys no_entry (map number_of keys) (entries_of form rs)) → r ≡ are_entries form rs (entries_in (length rs) s)
   those_told r keys long sorts same =
-      same ∙ ap (λ (m : ℕ). same_entries (entries_in m s) (by_keys no_entry keys (entries_of form rs))) long
+      same ∙ ap (λ (m : ℕ). same_entries (entries_in m s) (by_keys no_entry (map number_of keys) (entries_of form rs))) long
       ∙ ap (λ (k : List ℕ). same_entries (entries_in (length rs) s) (by_keys no_entry k (entries_of form rs))) sorts
 
   pub summary_told : (r : Bool) → 13 * length rs ≤ length s → r ≡ are_entries form rs (entries_in (length rs) s) → r ≡ is_summary form rs s

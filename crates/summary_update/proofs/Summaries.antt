@@ -10,8 +10,8 @@ use lib.Dec.{leb}
 use lib.ListN.{length, take, drop}
 use lib.Seq.{take_at, drop_at}
 use Rattle.little_endian.specs.Number.{Bytes}
-use Rattle.yuv_error.specs.declared.YuvAnswer.{YuvAnswer}
-use Rattle.yuv_error.specs.declared.YuvAnswer.TheVariants.{Finished}
+use Rattle.std.specs.Prelude.{Result, Ok}
+use Rattle.yuv_error.specs.declared.YuvError.{YuvError}
 use Rattle.yuv_error.specs.Numbers.{Numbers, numbers, numbers_of}
 use Rattle.shift_file.specs.declared.ShiftForm.{ShiftForm}
 use Rattle.shift_file.specs.File.{ShiftRecord, HasFile, IsFileOf}
@@ -41,8 +41,8 @@ left form rs bytes before after n long is e = record {
   rest = rw (e, drop_at bytes (drop (length bytes) before) n long) (ap (λ (m : ℕ). drop m before) long);
 }
 
-built_Left : (form : ShiftForm) (file before : List ℕ) (a : YuvAnswer) (after : List ℕ) (rs : List ShiftRecord) → IsFileOf form file rs
-    → BuildPost form file before a after → a ≡ Finished → Left form rs (13 * length rs) before after
+built_Left : (form : ShiftForm) (file before : List ℕ) (a : Result Unit YuvError) (after : List ℕ) (rs : List ShiftRecord) → IsFileOf form file rs
+    → BuildPost form file before a after → a ≡ Ok tt → Left form rs (13 * length rs) before after
 built_Left form file before a after rs f p done =
     let its = its_records form file rs f in
     let wrote : after ≡ summary_of form rs ++ drop (length (summary_of form rs)) before = rw (done, its) at p.written in
@@ -57,7 +57,7 @@ checked_is form file summary r rs f b p =
     (λ yes. both.0 (sym verdict ∙ yes), λ is. verdict ∙ both.1 is)
 
 found_is : (form : ShiftForm) (file summary : List ℕ) (crossing : ℕ) (r : SummaryFinding) (rs : List ShiftRecord) → IsFileOf form file rs
-    → FindPost form file summary crossing r → r.answer ≡ Finished → r.found ≡ found_among crossing rs
+    → FindPost form file summary crossing r → r.answer ≡ Ok tt → r.found ≡ found_among crossing rs
 found_is form file summary crossing r rs f p done = rw (done, its_records form file rs f) at p.found
 
 -- an answer of 0 passed both rules
@@ -66,8 +66,8 @@ passed true true e = (refl, refl)
 passed true false e = absurd (omega (arith, ap (λ (x : Numbers). x.number) e))
 passed false u e = absurd (omega (arith, ap (λ (x : Numbers). x.number) e))
 
-updated_Left : (form : ShiftForm) (file added before : List ℕ) (a : YuvAnswer) (after : List ℕ) (rs : List ShiftRecord) → IsFileOf form file rs
-    → Bytes file → Bytes added → UpdatePost form file added before a after → a ≡ Finished
+updated_Left : (form : ShiftForm) (file added before : List ℕ) (a : Result Unit YuvError) (after : List ℕ) (rs : List ShiftRecord) → IsFileOf form file rs
+    → Bytes file → Bytes added → UpdatePost form file added before a after → a ≡ Ok tt
     → HasFile form (rs ++ record_at form added ∷ []) × Left form (rs ++ record_at form added ∷ []) (13 * (length rs + 1)) before after
 updated_Left form file added before a after rs f bf ba p done =
     let q = passed (may_grow form file added) (may_take form file before) (rw done at p.answered) in

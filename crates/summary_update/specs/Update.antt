@@ -1,8 +1,8 @@
 -- A summary after one record more at the file's end: docs/RULES.md, 12.7.
 -- Assumes nothing.
-use Rattle.std.specs.Prelude.{ℕ, ◌+◌, ◌*◌, ◌≡◌, Bool, true, not, ◌&&◌, List, [], ◌∷◌, ◌++◌, map, ltb, leb, eqb, length}
+use Rattle.std.specs.Prelude.{ℕ, ◌+◌, ◌*◌, ◌≡◌, Bool, true, not, ◌&&◌, List, [], ◌∷◌, ◌++◌, map, ltb, leb, eqb, length, Result}
 use Rattle.little_endian.specs.Number.{Bytes}
-use Rattle.yuv_error.specs.declared.YuvAnswer.{YuvAnswer}
+use Rattle.yuv_error.specs.declared.YuvError.{YuvError}
 use Rattle.yuv_error.specs.Numbers.{numbers_of}
 use Rattle.yuv_error.specs.Rules.{Rule, rule, first_numbers}
 use Rattle.shift_file.specs.declared.ShiftForm.{ShiftForm}
@@ -46,7 +46,7 @@ abbrev pub update_rules : ShiftForm → (file added summary : List ℕ) → List
 update_rules form file added summary = rule 15 (not (may_grow form file added)) 0 0 ∷ rule 17 (not (may_take form file summary)) 0 0 ∷ []
 
 -- RULES 12.7: everything of a call: its answer, and each byte lent to it
-pub record UpdatePost (form : ShiftForm) (file added before : List ℕ) (answer : YuvAnswer) (after : List ℕ) : Type 0 where
+pub record UpdatePost (form : ShiftForm) (file added before : List ℕ) (answer : Result Unit YuvError) (after : List ℕ) : Type 0 where
   pub answered : numbers_of answer ≡ first_numbers (update_rules form file added before)
   pub written : after ≡ overwritten answer (updated form file added before) before
 

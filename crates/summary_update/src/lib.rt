@@ -8,7 +8,7 @@ ghost use Rattle.summary_update.specs.Update.{is_record, may_grow, new_entry, Up
 
 use shift_file::ShiftForm;
 use summary_entry::SummaryEntry;
-use yuv_error::{YuvAnswer, YuvError};
+use yuv_error::YuvError;
 
 // The bytes of an entry, and of a pair.
 const ENTRY: usize = 13;
@@ -67,20 +67,25 @@ fn new_entry(form: ShiftForm, file: &[u8], added: &[u8]) -> SummaryEntry
 
 // Rewrites a file's summary as that of the file with one record more at its end; or refuses what is no file, no record or no longer a file with it
 // (15), then room for one entry too few and what is no summary of the file (17), and writes nothing.
-pub fn update_summary(form: ShiftForm, file: &[u8], added: &[u8], summary: &mut [u8]) -> YuvAnswer
+pub fn update_summary(
+    form: ShiftForm,
+    file: &[u8],
+    added: &[u8],
+    summary: &mut [u8],
+) -> Result<(), YuvError>
     ensures { UpdatePost form file.now added.now summary.old result summary.new }
 {
     if !may_grow(form, file, added) {
-        return YuvAnswer::Refused(YuvError::MalformedShiftFile);
+        return Err(YuvError::MalformedShiftFile);
     }
     let count = summary_calls::count_of(form, file);
     if summary.len() < ENTRY * (count + 1) {
-        return YuvAnswer::Refused(YuvError::SummaryMismatch);
+        return Err(YuvError::SummaryMismatch);
     }
     if !summary_check::is_summary(form, file, count, summary) {
-        return YuvAnswer::Refused(YuvError::SummaryMismatch);
+        return Err(YuvError::SummaryMismatch);
     }
     let entry = new_entry(form, file, added);
     summary_entry::place_entry(summary, count, entry);
-    YuvAnswer::Finished
+    Ok(())
 }

@@ -1,3 +1,2 @@
 -- Y4M files by numbers.
 pub mod Calls
-pub mod Known

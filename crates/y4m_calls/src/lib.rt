@@ -2,42 +2,34 @@
 // other numbers go to the array `told`.
 #![tactic(auto)]
 
-ghost use Rattle.std.specs.Prelude.{◌≡◌, ◌≤◌, length, set};
+ghost use Rattle.std.specs.Prelude.{◌≡◌, ◌∷◌, []};
 ghost use Rattle.yuv_error.specs.Numbers.{numbers_of};
-ghost use Rattle.y4m_calls.specs.Known.{five_told};
 ghost use Rattle.y4m_calls.specs.Calls.{exported_y4m_reading, Y4mReadingKept, exported_y4m_writing, Y4mWritingKept};
 ghost use Rattle.y4m_calls.specs.Calls.{exported_y4m_picture, Y4mPictureKept};
 
 use y4m_picture::PictureFrame;
 use y4m_reader::Y4mReading;
 use y4m_writer::Y4mWritten;
-use yuv_error::YuvAnswer;
+use yuv_error::YuvError;
 
-fn number_of(answer: YuvAnswer) -> u32
+fn number_of(answer: Result<(), YuvError>) -> u32
     ensures { result ≡ (numbers_of answer).number }
 {
-    let numbered = error_numbers::answer_numbers(answer);
-    numbered.number
+    error_numbers::answer_numbers(answer).number
 }
 
-fn wide(number: u32) -> usize
-    ensures { result ≡ number }
+fn tell_reading(reading: Y4mReading, told: &mut [usize; 5]) -> u32
+    ensures number { result ≡ (numbers_of reading.answer).number }
+    ensures told { told.new ≡ reading.width ∷ reading.height ∷ reading.sampling ∷ reading.count ∷ reading.told ∷ [] }
 {
-    number as usize
-}
-
-fn tell_reading(reading: Y4mReading, told: &mut [usize]) -> u32
-    requires { 5 ≤ length told.old }
-    ensures { (result ≡ (numbers_of reading.answer).number) × (told.new
-        ≡ five_told told.old reading.width reading.height reading.sampling reading.count reading.told) }
-{
-    let answer = reading.answer;
-    told[0] = reading.width;
-    told[1] = reading.height;
-    told[2] = wide(reading.sampling);
-    told[3] = reading.count;
-    told[4] = reading.told;
-    number_of(answer)
+    *told = [
+        reading.width,
+        reading.height,
+        reading.sampling as usize,
+        reading.count,
+        reading.told,
+    ];
+    number_of(reading.answer)
 }
 
 // What a file's header says and where its planes stand (0), or 19 where these bytes are no Y4M file, with nothing written. told: width, height, the
@@ -49,13 +41,12 @@ pub fn read_by_numbers(file: &[u8], first: usize, entries: &mut [u64], told: &mu
     tell_reading(reading, told)
 }
 
-fn tell_size(written: Y4mWritten, told: &mut [usize]) -> u32
-    requires { 1 ≤ length told.old }
-    ensures { (result ≡ (numbers_of written.answer).number) × (told.new ≡ set told.old 0 written.size) }
+fn tell_size(written: Y4mWritten, told: &mut [usize; 1]) -> u32
+    ensures number { result ≡ (numbers_of written.answer).number }
+    ensures told { told.new ≡ written.size ∷ [] }
 {
-    let answer = written.answer;
-    told[0] = written.size;
-    number_of(answer)
+    *told = [written.size];
+    number_of(written.answer)
 }
 
 // Writes the file of pictures whose planes stand back to back (0); or answers 19 where a number is not allowed or the bytes are not whole pictures, 16
@@ -69,8 +60,8 @@ pub fn write_by_numbers(
     ensures { Y4mWritingKept (exported_y4m_writing numbers.now pictures.now output.old result told.new
         output.new) }
 {
-    let width = wide(numbers[0]);
-    let height = wide(numbers[1]);
+    let width = numbers[0] as usize;
+    let height = numbers[1] as usize;
     let written = y4m_writer::write_pictures(numbers[2], width, height, pictures, output);
     tell_size(written, told)
 }

@@ -6,8 +6,7 @@ use mathlib.Core.List.{List, [], ◌∷◌}
 use native.Mathlib.Nat.{add-zero}
 use native.Mathlib.Omega.{arith}
 use lib.Dec.{leb, ltb}
-use lib.ListN.{length, drop, length-drop, drop_of_length-le}
-use lib.Seq.{drop-drop}
+use lib.ListN.{length, drop, length-drop}
 use borrow.Author.Tests.{lt-ltb, ne_eqb, leb-true, leb-false, ltb-true, eqb-true}
 use Rattle.y4m_file.specs.Check.{picture_stands, picture_size, pictures, count_in, count_of}
 use Rattle.shift_file.proofs.Record.{both}
@@ -15,36 +14,37 @@ use Rattle.y4m_line.specs.Words.{upto}
 use Rattle.y4m_line.specs.Header.{line_end}
 use Rattle.y4m_file.proofs.Sizes.{Stands-true}
 
-module _ (n : ℕ) (l : List ℕ) (at : ℕ) where
-  some_left : at < length l → pictures n 0 (drop at l) ≡ false
+-- what is left of l is r
+module _ (n : ℕ) (l r : List ℕ) where
+  some_left : 0 < length r → pictures n 0 r ≡ false
   unfolding pictures
-  some_left h = ne_eqb (length (drop at l)) 0 (λ e. omega (arith, length-drop at l))
+  some_left h = ne_eqb (length r) 0 (λ e. omega arith)
 
-  none_left : length l ≤ at → pictures n 0 (drop at l) ≡ true
+  none_left : length r ≡ 0 → pictures n 0 r ≡ true
   unfolding pictures
-  none_left h = rw (drop_of_length-le l {i = at} h)
+  none_left h = rw h
 
-  one_more : (j : ℕ) → 0 < picture_size n (drop at l) → pictures n (suc j) (drop at l) ≡ pictures n j (drop (at + picture_size n (drop at l)) l)
+  one_more : (j : ℕ) → 0 < picture_size n r → pictures n (suc j) r ≡ pictures n j (drop (picture_size n r) r)
   unfolding pictures
-  one_more j h = rw (lt-ltb 0 (picture_size n (drop at l)) h, drop-drop (picture_size n (drop at l)) at l)
+  one_more j h = rw (lt-ltb 0 (picture_size n r) h)
 
-  none_here : (j : ℕ) → at < length l → picture_size n (drop at l) ≡ 0 → pictures n j (drop at l) ≡ false
+  none_here : (j : ℕ) → 0 < length r → picture_size n r ≡ 0 → pictures n j r ≡ false
   unfolding pictures
   none_here zero h e = some_left h
   none_here (suc j) h e = rw e
 
-  -- k pictures stand before `at`
-  module _ (k : ℕ) (f : (j : ℕ) → pictures n (k + j) l ≡ pictures n j (drop at l)) where
-    here : pictures n k l ≡ pictures n 0 (drop at l)
+  -- k pictures stand before r
+  module _ (k : ℕ) (f : (j : ℕ) → pictures n (k + j) l ≡ pictures n j r) where
+    here : pictures n k l ≡ pictures n 0 r
     here = sym (ap (λ m. pictures n m l) (add-zero k)) ∙ f 0
 
-    pub count_done : length l ≤ at → pictures n k l ≡ true
+    pub count_done : length r ≡ 0 → pictures n k l ≡ true
     count_done h = here ∙ none_left h
 
-    pub count_more : (s : ℕ) → s ≡ picture_size n (drop at l) → 0 < s → (j : ℕ) → pictures n (k + 1 + j) l ≡ pictures n j (drop (at + s) l)
+    pub count_more : (s : ℕ) → s ≡ picture_size n r → 0 < s → (j : ℕ) → pictures n (k + 1 + j) l ≡ pictures n j (drop s r)
     count_more s e h j = let m : k + 1 + j ≡ k + suc j = omega arith in rw (m, e) (f (suc j) ∙ one_more j (rw (← e) h))
 
-    module _ (h : at < length l) (g : (j : ℕ) → j < k → pictures n j l ≡ false) where
+    module _ (h : 0 < length r) (g : (j : ℕ) → j < k → pictures n j l ≡ false) where
       pub fewer_more : (j : ℕ) → j < k + 1 → pictures n j l ≡ false
       fewer_more j z = cases (leb k j) refl
         where
@@ -52,7 +52,7 @@ module _ (n : ℕ) (l : List ℕ) (at : ℕ) where
           cases true e = let m : j ≡ k = omega (arith, leb-true k j e) in rw m (here ∙ some_left h)
           cases false e = g j (leb-false k j e)
 
-      pub count_none : picture_size n (drop at l) ≡ 0 → (j : ℕ) → pictures n j l ≡ false
+      pub count_none : picture_size n r ≡ 0 → (j : ℕ) → pictures n j l ≡ false
       count_none q j = cases (leb k j) refl
         where
           cases : (t : Bool) → leb k j ≡ t → pictures n j l ≡ false

@@ -13,12 +13,12 @@ use Rattle.yuv_support.specs.declared.YuvChromaSubsampling.TheVariants.{Yuv420, 
 use Rattle.shift_file.proofs.Record.{both, also}
 use Rattle.y4m_line.specs.Line.{magic, text_of, tagged, SaysSide, text420, text420jpeg, text420mpeg2, text422}
 use Rattle.y4m_line.specs.Words.{words, same}
-use Rattle.y4m_line.specs.Header.{tags_in, is_line, is_header, line_end, one_size, one_code, code, width_of, height_of, sampling_of}
+use Rattle.y4m_line.specs.Header.{tags_in, is_line, is_header, line_end, one_size, one_code, code, width_of, height_of, sampling_of, sampling_said}
 use Rattle.y4m_line.proofs.Text.{same_true, magic_tag, words_text, words_are, tags_text, text_line}
 use Rattle.y4m_line.proofs.Text.{end_short, text_is, rest_is, front_line, front_split}
 use Rattle.y4m_line.proofs.Says.{size_said, says_side}
 use Rattle.y4m_file.specs.File.{Y4mFile, SaysSampling, texts, Allowed, IsFileOf, file_bytes, pictures_bytes, luma_bytes, chroma_bytes}
-use Rattle.y4m_file.specs.Check.{sampling_said, header_of, rest_of, width_in, height_in, sampling_in}
+use Rattle.y4m_file.specs.Check.{header_of, rest_of, width_in, height_in, sampling_in}
 use Rattle.y4m_file.specs.Check.{plane_bytes, planes_in, pictures, pictures_in, is_y4m}
 use Rattle.y4m_file.specs.Read.{pictures_from, luma_in, chroma_in, file_in}
 use Rattle.y4m_file.specs.Means.{SomeFile, OneFile, ReadBack, Rewritten}

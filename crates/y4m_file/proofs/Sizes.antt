@@ -1,38 +1,35 @@
 -- The picture at the front, by the tests that look for it. Assumes nothing.
 use Prim.Native.Nat.{ℕ, ◌+◌, ◌≤◌, ◌<◌}
-use mathlib.Core.Path.{◌≡◌, refl, ap, sym, ◌∙◌}
+use mathlib.Core.Path.{◌≡◌, refl}
 use mathlib.Core.Bool.{Bool, true, false, cond}
 use mathlib.Core.List.{List}
 use native.Mathlib.Omega.{arith}
 use lib.Dec.{ltb}
 use lib.ListN.{length, take}
-use borrow.Author.Tests.{lt-ltb, le-ltb, le-leb, lt-leb, ltb-true, leb-true}
+use borrow.Author.Tests.{lt-ltb, le-leb, lt-leb, ltb-true, leb-true}
 use Rattle.y4m_line.specs.Header.{is_line, line_end}
 use Rattle.shift_file.proofs.Record.{both}
 use Rattle.y4m_line.specs.Line.{frame}
 use Rattle.y4m_file.specs.Check.{picture_stands, picture_size}
 
-module _ (n : ℕ) (l : List ℕ) (e : ℕ) (he : e ≡ line_end l) where
-  pub no_line : 256 ≤ e → 0 ≡ picture_size n l
+module _ (n : ℕ) (l : List ℕ) where
+  pub no_line : 256 ≡ line_end l → 0 ≡ picture_size n l
   unfolding picture_size picture_stands
-  no_line h = rw (← he, le-ltb e 256 h)
+  no_line h = rw (← h)
 
-  module _ (h : e < 256) (f : List ℕ) (hf : f ≡ take e l) where
-    line_same : is_line frame f ≡ is_line frame (take e l)
-    line_same = ap (is_line frame) hf
-
-    pub no_frame : is_line frame f ≡ false → 0 ≡ picture_size n l
+  module _ (e : ℕ) (he : e ≡ line_end l) (h : e < 256) where
+    pub no_frame : is_line frame (take e l) ≡ false → 0 ≡ picture_size n l
     unfolding picture_size picture_stands
-    no_frame z = rw (← he, lt-ltb e 256 h, sym line_same ∙ z)
+    no_frame z = rw (← he, lt-ltb e 256 h, z)
 
-    module _ (z : is_line frame f ≡ true) where
+    module _ (z : is_line frame (take e l) ≡ true) where
       pub too_short : length l < e + 1 + n → 0 ≡ picture_size n l
       unfolding picture_size picture_stands
-      too_short k = rw (← he, lt-ltb e 256 h, sym line_same ∙ z, lt-leb (e + 1 + n) (length l) k)
+      too_short k = rw (← he, lt-ltb e 256 h, z, lt-leb (e + 1 + n) (length l) k)
 
       pub stands : e + 1 + n ≤ length l → e + 1 + n ≡ picture_size n l
       unfolding picture_size picture_stands
-      stands k = rw (← he, lt-ltb e 256 h, sym line_same ∙ z, le-leb (e + 1 + n) (length l) k)
+      stands k = rw (← he, lt-ltb e 256 h, z, le-leb (e + 1 + n) (length l) k)
 
 -- ---- a picture that stands there
 

@@ -3,9 +3,8 @@
 -- Assumes nothing.
 use Rattle.std.specs.Prelude.{ℕ, zero, suc, ◌+◌, ◌*◌, Bool, cond, ◌&&◌, List, leb, ltb, eqb, length, take, drop}
 use Rattle.yuv_support.specs.declared.YuvChromaSubsampling.{YuvChromaSubsampling}
-use Rattle.yuv_support.specs.declared.YuvChromaSubsampling.TheVariants.{Yuv420, Yuv422}
 use Rattle.y4m_line.specs.Line.{frame}
-use Rattle.y4m_line.specs.Header.{width_of, height_of, sampling_of, is_line, is_header, line_end}
+use Rattle.y4m_line.specs.Header.{width_of, height_of, sampling_of, sampling_said, is_line, is_header, line_end}
 use Rattle.y4m_file.specs.File.{luma_bytes, chroma_bytes}
 
 -- ---- pictures, by the bytes of their planes
@@ -35,10 +34,6 @@ abbrev pub count_of : (planes : ℕ) → (bytes : List ℕ) → ℕ
 count_of planes bytes = count_in planes (length bytes) bytes
 
 -- ---- a file
-
--- RULES 14.2: the sampling of a code of the header's line
-abbrev pub sampling_said : (code : ℕ) → YuvChromaSubsampling
-sampling_said code = cond (eqb code 2) Yuv422 Yuv420
 
 -- RULES 14.4: the header's line, without its newline, and what follows it
 abbrev pub header_of : (file : List ℕ) → List ℕ

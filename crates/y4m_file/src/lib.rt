@@ -2,39 +2,17 @@
 // reads lines and no plane, and no number of a file is added before it is known to be a side.
 #![tactic(auto)]
 
-ghost use Rattle.std.specs.Prelude.{◌≡◌, ◌≤◌, ◌^◌, length};
+pub mod opened; // a file that the check let through
+
+ghost use Rattle.std.specs.Prelude.{◌≡◌, ◌≤◌, ◌<◌, ◌^◌, length, IfSome};
+ghost use Rattle.std.specs.Option.{unwrap_or};
 ghost use Rattle.y4m_line.specs.Header.{is_line};
 ghost use Rattle.y4m_line.specs.Line.{frame};
-ghost use Rattle.y4m_file.specs.Check.{sampling_said, plane_bytes, picture_size};
-ghost use Rattle.y4m_file.specs.Known.{CountPost, ReadPost};
+ghost use Rattle.y4m_file.specs.Check.{plane_bytes, picture_size};
+ghost use Rattle.y4m_file.specs.Known.{CountPost};
 
-use y4m_line::HeaderLine;
+pub use opened::Y4mRead;
 use yuv_support::YuvChromaSubsampling;
-
-// How many pictures stand back to back to the end, if nothing else stands there.
-#[derive(Clone, Copy)]
-enum Counted {
-    Pictures(usize),
-    Malformed,
-}
-
-// Width, height, the sampling by the header's code (1: 4:2:0, 2: 4:2:2) and the count of pictures, of bytes that are a file.
-#[derive(Clone, Copy)]
-pub enum Y4mRead {
-    Read(usize, usize, u8, usize),
-    Refused,
-}
-
-// The sampling of a header's code.
-pub fn sampling_said(code: u8) -> YuvChromaSubsampling
-    ensures { result ≡ sampling_said code }
-{
-    if code == 2 {
-        YuvChromaSubsampling::Yuv422
-    } else {
-        YuvChromaSubsampling::Yuv420
-    }
-}
 
 // The bytes of a picture's planes.
 pub fn plane_bytes(sampling: YuvChromaSubsampling, width: usize, height: usize) -> usize
@@ -45,66 +23,41 @@ pub fn plane_bytes(sampling: YuvChromaSubsampling, width: usize, height: usize) 
 }
 
 fn is_frame(line: &[u8]) -> bool
-    requires { length line.now ≤ 256 }
     ensures { result ≡ is_line frame line.now }
 {
     y4m_line::is_line(b"FRAME", line)
 }
 
-// The bytes of the picture at the front, its planes so many of them; 0 where none stands there whole.
-fn picture_size(bytes: &[u8], planes: usize) -> usize
+// The bytes of the picture at the front, its planes so many of them; none where none stands there whole.
+fn picture_size(bytes: &[u8], planes: usize) -> Option<usize>
     requires { planes ≤ 2 ^ 34 }
-    ensures value { result ≡ picture_size planes bytes.now }
-    ensures upper_bound { result ≤ length bytes.now }
+    ensures value { unwrap_or result 0 ≡ picture_size planes bytes.now }
+    ensures inside { IfSome result (λ size. (0 < size) × (size ≤ length bytes.now)) }
 {
-    let end = y4m_line::line_end(bytes);
-    if y4m_line::LINE <= end {
-        return 0;
+    let end = y4m_line::line_end(bytes)?;
+    if !is_frame(&bytes[..end]) {
+        return None;
     }
-    if !is_frame(shift_file::part_of(bytes, 0, end)) {
-        return 0;
+    let size = end + 1 + planes;
+    if size <= bytes.len() {
+        Some(size)
+    } else {
+        None
     }
-    if bytes.len() < end + 1 + planes {
-        return 0;
-    }
-    end + 1 + planes
 }
 
-fn count_pictures(bytes: &[u8], planes: usize) -> Counted
+// How many pictures stand back to back to the end, if nothing else stands there.
+pub(crate) fn count_pictures(bytes: &[u8], planes: usize) -> Option<usize>
     requires { planes ≤ 2 ^ 34 }
     ensures { CountPost planes bytes.now result }
 {
-    let mut at = 0;
+    let mut rest = bytes;
     let mut count = 0;
-    while at < bytes.len() {
-        let size = picture_size(shift_file::from_place(bytes, at), planes);
-        if size == 0 {
-            return Counted::Malformed;
-        }
-        at += size;
+    // A while loop: only the size of a picture tells where the next one starts.
+    while !rest.is_empty() {
+        let size = picture_size(rest, planes)?;
+        rest = &rest[size..];
         count += 1;
     }
-    Counted::Pictures(count)
-}
-
-// Whether these bytes are a file, and its sides, sampling and count.
-pub fn read_file(file: &[u8]) -> Y4mRead
-    ensures { ReadPost file.now result }
-{
-    let end = y4m_line::line_end(file);
-    if y4m_line::LINE <= end {
-        return Y4mRead::Refused;
-    }
-    let line = y4m_line::read_header(shift_file::part_of(file, 0, end));
-    match line {
-        HeaderLine::Refused => Y4mRead::Refused,
-        HeaderLine::Read(width, height, code) => {
-            let planes = plane_bytes(sampling_said(code), width, height);
-            let counted = count_pictures(shift_file::from_place(file, end + 1), planes);
-            match counted {
-                Counted::Malformed => Y4mRead::Refused,
-                Counted::Pictures(count) => Y4mRead::Read(width, height, code, count),
-            }
-        }
-    }
+    Some(count)
 }

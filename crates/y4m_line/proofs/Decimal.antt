@@ -1,15 +1,20 @@
 -- Laws of decimals and sizes. Assumes nothing.
-use Prim.Native.Nat.{ℕ, suc, ◌+◌, ◌*◌, ◌-◌, ◌≤◌, ◌<◌}
-use mathlib.Core.Path.{◌≡◌, refl}
+use Prim.Native.Nat.{ℕ, zero, suc, ◌+◌, ◌*◌, ◌-◌, ◌≤◌, ◌<◌}
+use mathlib.Core.Path.{◌≡◌, refl, sym}
 use mathlib.Core.Bool.{Bool, true, false, cond, ◌&&◌, not}
 use mathlib.Core.List.{List, [], ◌∷◌}
 use native.Mathlib.Omega.{arith}
 use lib.Dec.{leb, eqb}
 use lib.ListN.{length, get_or, drop, drop_of_length-le}
 use lib.Seq.{drop-cons}
-use borrow.Author.Tests.{le-leb, lt-leb, leb-true, eq-eqb, ne_eqb}
+use borrow.Author.Tests.{le-leb, lt-leb, leb-true, leb-false, eq-eqb, ne_eqb}
+use Rattle.std.specs.Prelude.{Some, None}
+use Rattle.std.proofs.lemmas.Option.{none-some, same_Some}
+use Rattle.yuv_support.specs.declared.YuvChromaSubsampling.{YuvChromaSubsampling}
+use Rattle.shift_file.proofs.Record.{both}
 use Rattle.y4m_line.specs.Line.{digit, digits, value}
-use Rattle.y4m_line.specs.Header.{is_size, size, one_size}
+use Rattle.y4m_line.specs.Header.{is_size, size, one_size, sampling_said}
+use Rattle.y4m_line.specs.Found.{side_told, sampling_told}
 
 pub digit_low : (d : ℕ) → d < 48 → digit d ≡ 10
 unfolding digit
@@ -76,6 +81,28 @@ pub size_large : (t : List ℕ) → 16384 < value 0 t → size t ≡ 0
 unfolding size is_size
 size_large t h = not_small (not (eqb (get_or t 0 48) 48)) (digits t) (leb (value 0 t) 16384) (value 0 t) (lt-leb (value 0 t) 16384 h)
 
+digit_some : (d : ℕ) → (d ≡ 48 → ⊥) → digit d ≤ 9 → 1 ≤ digit d
+digit_some d n h = cases (leb 48 d) refl
+  where
+    above : (t : Bool) → leb d 57 ≡ t → 48 ≤ d → 1 ≤ digit d
+    above true e l = let is = digit_is d l (leb-true d 57 e) in omega (arith, is, ne_more n)
+      where
+        ne_more : (d ≡ 48 → ⊥) → 49 ≤ d
+        ne_more n = omega (arith, n)
+    above false e l = absurd (omega (arith, digit_high d (leb-false d 57 e)))
+
+    cases : (t : Bool) → leb 48 d ≡ t → 1 ≤ digit d
+    cases true e = above (leb d 57) refl (leb-true 48 d e)
+    cases false e = absurd (omega (arith, digit_low d (leb-false 48 d e)))
+
+-- the side of digits, the first of them not 0
+pub value_some : (t : List ℕ) → 0 < length t → (get_or t 0 0 ≡ 48 → ⊥) → digits t ≡ true → 1 ≤ value 0 t
+unfolding digits value
+value_some [] h n e = absurd (omega arith)
+value_some (a ∷ t) h n e =
+    let one = digit_some a n (leb-true (digit a) 9 (both (leb (digit a) 9) (digits t) e).0) in
+    omega (arith, value_grows (0 * 10 + digit a) t)
+
 pub size_ok : (t : List ℕ) → 0 < length t → (get_or t 0 0 ≡ 48 → ⊥) → digits t ≡ true → value 0 t ≤ 16384 → size t ≡ value 0 t
 unfolding size is_size
 size_ok [] h n e k = absurd (omega arith)
@@ -98,3 +125,25 @@ pub one_bound : (ts : List (List ℕ)) → one_size ts ≤ 16384
 one_bound [] = omega arith
 one_bound (t ∷ []) = size_bound t
 one_bound (t ∷ u ∷ ts) = omega arith
+
+-- ---- what is told of a side or a code
+
+pub told_size : (n side : ℕ) → n ≡ side → 0 < side → Some side ≡ side_told n
+told_size n zero e h = absurd (omega arith)
+told_size n (suc side) e h = rw e
+
+pub side_none : (n : ℕ) → side_told n ≡ None → n ≡ 0
+side_none zero e = refl
+side_none (suc n) e = absurd (none-some (suc n) (sym e))
+
+pub side_some : (n side : ℕ) → side_told n ≡ Some side → (0 < n) × (side ≡ n)
+side_some zero side e = absurd (none-some side e)
+side_some (suc n) side e = (omega arith, sym (same_Some (suc n) side e))
+
+pub sampling_none : (n : ℕ) → sampling_told n ≡ None → n ≡ 0
+sampling_none zero e = refl
+sampling_none (suc n) e = absurd (none-some _ (sym e))
+
+pub sampling_some : (n : ℕ) (sampling : YuvChromaSubsampling) → sampling_told n ≡ Some sampling → (0 < n) × (sampling ≡ sampling_said n)
+sampling_some zero sampling e = absurd (none-some sampling e)
+sampling_some (suc n) sampling e = (omega arith, sym (same_Some _ sampling e))

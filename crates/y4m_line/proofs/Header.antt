@@ -1,16 +1,23 @@
 -- Laws of the header line. Assumes nothing.
-use Prim.Native.Nat.{ℕ, ◌≤◌, ◌<◌}
-use mathlib.Core.Path.{◌≡◌, refl, ap, sym, ◌∙◌}
-use mathlib.Core.Bool.{Bool, true, false}
+use Prim.Native.Nat.{ℕ, ◌<◌, min}
+use mathlib.Core.Path.{◌≡◌, refl, ap, ◌∙◌}
+use mathlib.Core.Bool.{Bool, true, false, cond, ◌||◌}
 use mathlib.Core.List.{List}
 use native.Mathlib.Omega.{arith}
-use lib.Dec.{leb}
+use lib.Dec.{leb, ltb, eqb}
 use lib.ListN.{length, take}
-use lib.Seq.{take_all, take-length, length-take-le}
-use borrow.Author.Tests.{le-leb, lt-ltb, le-ltb, leb-true, leb-false}
+use lib.Seq.{take_all, take-length}
+use borrow.Author.Tests.{le-leb, leb-true, leb-false}
+use Rattle.std.specs.Prelude.{Option, Some, None}
+use Rattle.std.specs.Option.{unwrap_or}
+use Rattle.std.specs.List.{position_or_len}
+use Rattle.std.specs.Cmp.Lexicographic.{pointwise}
+use Rattle.yuv_support.specs.declared.YuvChromaSubsampling.TheVariants.{Yuv420, Yuv422}
 use Rattle.y4m_line.specs.Words.{upto, words, same, filled}
-use Rattle.y4m_line.specs.Header.{width_of, height_of, sampling_of, is_line, is_header, line_bytes, line_end}
-use Rattle.y4m_line.specs.Line.{magic}
+use Rattle.y4m_line.specs.Header.{width_of, height_of, sampling_of, is_line, is_header, code, line_end}
+use Rattle.y4m_line.specs.Line.{magic, text420, text420jpeg, text420mpeg2, text422}
+use Rattle.y4m_line.specs.Found.{sampling_told}
+use Rattle.y4m_line.proofs.Words.{position_upto, same_bytes}
 
 module _ (l : List ℕ) where
   pub not_line : is_line magic l ≡ false → is_header l ≡ false
@@ -38,39 +45,55 @@ module _ (l : List ℕ) where
 
 -- ---- the line at the front
 
-front_same : (b : List ℕ) → take (length (take 256 b)) b ≡ take 256 b
+front_same : (b : List ℕ) → take (min (length b) 256) b ≡ take 256 b
 front_same b = cases (leb (length b) 256) refl
   where
-    cases : (t : Bool) → leb (length b) 256 ≡ t → take (length (take 256 b)) b ≡ take 256 b
-    cases true e = let k = take_all 256 b (leb-true (length b) 256 e) in rw (k, take-length b)
-    cases false e = let k : length (take 256 b) ≡ 256 = length-take-le 256 b (omega (arith, leb-false (length b) 256 e)) in rw k
+    cases : (t : Bool) → leb (length b) 256 ≡ t → take (min (length b) 256) b ≡ take 256 b
+    cases true e =
+        let m : min (length b) 256 ≡ length b = omega (arith, leb-true (length b) 256 e) in
+        rw (m, take_all 256 b (leb-true (length b) 256 e)) (take-length b)
+    cases false e = let m : min (length b) 256 ≡ 256 = omega (arith, leb-false (length b) 256 e) in rw m
 
-module _ (b front : List ℕ) (room end : ℕ) (hr : room ≡ length (take 256 b)) (hf : front ≡ take room b) (he : end ≡ upto 10 front) where
-  line_bytes_lem : end ≡ line_bytes b
-  line_bytes_lem = he ∙ ap (upto 10) (hf ∙ ap (λ k. take k b) hr ∙ front_same b)
+told_end : (t : Bool) (e : ℕ) → unwrap_or (cond t (Some e) None) 256 ≡ cond t e 256
+told_end true e = refl
+told_end false e = refl
 
-  pub line_found : end < room → end ≡ line_end b
-  unfolding line_end
-  line_found h = rw (← line_bytes_lem, ← hr, lt-ltb end room h)
-
-  pub line_none : room ≤ end → 256 ≡ line_end b
-  unfolding line_end
-  line_none h = rw (← line_bytes_lem, ← hr, le-ltb end room h)
-
-pub room_short : (b : List ℕ) → length b < 256 → length b ≡ length (take 256 b)
-room_short b h = rw (take_all 256 b (omega arith))
-
-pub room_long : (b : List ℕ) → 256 ≤ length b → 256 ≡ length (take 256 b)
-room_long b h = sym (length-take-le 256 b h)
+pub line_end_is : (b : List ℕ) (n : ℕ) → n ≡ min (length b) 256 → (front : List ℕ) → front ≡ take n b → (r : Option ℕ)
+    → r ≡ cond (ltb (position_or_len (λ x. eqb x 10) front) (length front)) (Some (position_or_len (λ x. eqb x 10) front)) None
+    → unwrap_or r 256 ≡ line_end b
+unfolding line_end
+line_end_is b n hn front hf r hr =
+    let f : front ≡ take 256 b = hf ∙ ap (λ m. take m b) hn ∙ front_same b in
+    let p : position_or_len (λ x. eqb x 10) front ≡ upto 10 (take 256 b) = position_upto 10 front ∙ ap (upto 10) f in
+    rw hr (told_end (ltb (position_or_len (λ x. eqb x 10) front) (length front)) (position_or_len (λ x. eqb x 10) front) ∙ (λ i. cond (ltb (p i) (length (f i))) (p i) 256))
 
 -- ---- a word and its line
 
-module _ (word line : List ℕ) (end : ℕ) (front : List ℕ) (t : Bool) (he : end ≡ upto 32 line) (hf : front ≡ take end line)
-    (ht : t ≡ same front word) where
+module _ (word line front : List ℕ) (t : Bool) (hf : front ≡ take (upto 32 line) line) (ht : t ≡ pointwise eqb front word) where
+  asked : t ≡ same (take (upto 32 line) line) word
+  asked = ht ∙ same_bytes front word ∙ ap (λ f. same f word) hf
+
   pub line_is : (u : Bool) → t ≡ true → u ≡ filled (words line) → u ≡ is_line word line
   unfolding is_line
-  line_is u h hu = rw (← he, ← hf, ← ht, h) hu
+  line_is u h hu = rw (← asked, h) hu
 
-  pub line_not : t ≡ false → false ≡ is_line word line
+  pub line_not : t ≡ false → t ≡ is_line word line
   unfolding is_line
-  line_not h = rw (← he, ← hf, ← ht, h)
+  line_not h = rw (← asked, h)
+
+-- ---- a sampling
+
+told_sampling : (p q r s : Bool)
+    → sampling_told (cond p 1 (cond q 1 (cond r 1 (cond s 2 0)))) ≡ cond ((p || q) || r) (Some Yuv420) (cond s (Some Yuv422) None)
+told_sampling true q r s = refl
+told_sampling false true r s = refl
+told_sampling false false true s = refl
+told_sampling false false false true = refl
+told_sampling false false false false = refl
+
+pub sampling_is : (t : List ℕ) → sampling_told (code t)
+    ≡ cond ((pointwise eqb t text420 || pointwise eqb t text420jpeg) || pointwise eqb t text420mpeg2) (Some Yuv420)
+    (cond (pointwise eqb t text422) (Some Yuv422) None)
+unfolding code
+sampling_is t = rw (same_bytes t text420, same_bytes t text420jpeg, same_bytes t text420mpeg2, same_bytes t text422)
+    (told_sampling (same t text420) (same t text420jpeg) (same t text420mpeg2) (same t text422))

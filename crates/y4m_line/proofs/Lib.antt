@@ -1,5 +1,6 @@
 -- Laws of lines.
 pub mod Words
+pub mod Chains
 pub mod Text
 pub mod Decimal
 pub mod Tags

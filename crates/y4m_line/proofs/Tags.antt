@@ -1,82 +1,56 @@
--- The tags of a letter, from two searches; and what the answer says. Assumes nothing.
-use Prim.Native.Nat.{ℕ, ◌+◌, ◌≤◌, ◌<◌}
+-- The tags of a letter are the words that begin with it, each without the letter. Assumes nothing.
+use Prim.Native.Nat.{ℕ, ◌-◌}
 use mathlib.Core.Path.{◌≡◌, refl, ap, sym, ◌∙◌}
-use mathlib.Core.List.{List, [], ◌∷◌}
+use mathlib.Core.Bool.{Bool, true, false}
+use mathlib.Core.List.{List, [], ◌∷◌, map}
+use lib.Dec.{eqb}
 use native.Mathlib.Omega.{arith}
-use lib.ListN.{length, drop, length-drop}
-use Rattle.y4m_line.specs.Words.{upto, words, words_from}
+use lib.ListN.{length, get_or, take, drop, length-drop}
+use lib.Seq.{take_all}
+use Rattle.std.specs.List.{filter, slice_split}
+use Rattle.y4m_line.specs.Words.{words}
 use Rattle.y4m_line.specs.Line.{tagged}
-use Rattle.y4m_line.specs.declared.Tag.{Tag}
-use Rattle.y4m_line.specs.declared.Tag.TheVariants.{Missing, Once, Repeated}
-use Rattle.y4m_line.specs.Header.{size, code, one_size, one_code}
-use Rattle.y4m_line.specs.Found.{span, NextTag, TwoTags, TagPost}
-use Rattle.y4m_line.proofs.Words.{words_all, words_none, tagged_hit, upto_bound}
+use Rattle.y4m_line.specs.Found.{TwoTags}
+use Rattle.y4m_line.proofs.Words.{split_words}
 
-end_inside : (line : List ℕ) (start : ℕ) → start ≤ length line → start + upto 32 (drop start line) ≤ length line
-end_inside line start h = omega (arith, upto_bound 32 (drop start line), length-drop start line)
+-- a word begins with the letter
+abbrev pub begins : (letter : ℕ) → List ℕ → Bool
+begins letter word = eqb (get_or word 0 0) letter
 
-tagged_past : (letter : ℕ) (line : List ℕ) (start : ℕ) → length line < start → tagged letter (words_from start line) ≡ []
+module _ (x : ℕ) (w : List ℕ) (ws : List (List ℕ)) (ih : tagged x ws ≡ map (drop 1) (filter (begins x) ws)) where
+  tagged_case : (t : Bool) → begins x w ≡ t → tagged x (w ∷ ws) ≡ map (drop 1) (filter (begins x) (w ∷ ws))
+  unfolding tagged
+  tagged_case true e = rw (e, ih)
+  tagged_case false e = rw (e, ih)
+
+pub tagged_filter : (x : ℕ) (ws : List (List ℕ)) → tagged x ws ≡ map (drop 1) (filter (begins x) ws)
 unfolding tagged
-tagged_past letter line start h = rw (words_none line start h)
+tagged_filter x [] = refl
+tagged_filter x (w ∷ ws) = tagged_case x w ws (tagged_filter x ws) (begins x w) refl
 
-module _ (letter : ℕ) (line : List ℕ) (first : ℕ) (n : NextTag letter line 0 first) where
-  whole : tagged letter (words line) ≡ tagged letter (words_from first line)
-  whole = sym (n.rest ∙ ap (tagged letter) (words_all line))
+module _ (x : ℕ) (l : List ℕ) where
+  begun : List (List ℕ)
+  begun = filter (begins x) (slice_split (λ b. eqb b 32) l)
 
-  pub tag_missing : length line < first → tagged letter (words line) ≡ []
-  tag_missing h = whole ∙ tagged_past letter line first h
+  tagged_split : tagged x (words l) ≡ map (drop 1) begun
+  unfolding begun
+  tagged_split = tagged_filter x (words l) ∙ ap (λ ws. map (drop 1) (filter (begins x) ws)) (sym (split_words l))
 
-  module _ (end : ℕ) (some : 0 < letter) (h : first ≤ length line) (k : end ≤ length line) (is : end ≡ first + upto 32 (drop first line)) where
-    hit : (first < end) × (tagged letter (words line) ≡ span (first + 1) end line ∷ tagged letter (words_from (end + 1) line))
-    hit = let t = tagged_hit line first end h k is letter some (rw is (n.begins h)) in (t.0, whole ∙ t.1)
+  pub no_tag : filter (begins x) (slice_split (λ b. eqb b 32) l) ≡ [] → tagged x (words l) ≡ []
+  unfolding begun
+  no_tag e = tagged_split ∙ ap (map (drop 1)) e
 
-    module _ (second : ℕ) (m : NextTag letter line (end + 1) second) where
-      pub tag_once : length line < second
-          → (tagged letter (words line) ≡ span (first + 1) end line ∷ []) × ((first + 1 ≤ end) × (end ≤ length line))
-      tag_once z =
-          let none = sym m.rest ∙ tagged_past letter line second z in
-          (hit.1 ∙ ap (λ ts. span (first + 1) end line ∷ ts) none, (omega (arith, hit.0), k))
+  pub one_tag : (w : List ℕ) → filter (begins x) (slice_split (λ b. eqb b 32) l) ≡ w ∷ [] → tagged x (words l) ≡ take (length w - 1) (drop 1 w) ∷ []
+  unfolding begun
+  one_tag w e =
+      let whole : take (length w - 1) (drop 1 w) ≡ drop 1 w = take_all (length w - 1) (drop 1 w) (omega (arith, length-drop 1 w)) in
+      rw whole (tagged_split ∙ ap (map (drop 1)) e)
 
-      pub tag_more : second ≤ length line → TwoTags letter line
-      tag_more z =
-          let last = second + upto 32 (drop second line) in
-          let t = tagged_hit line second last z (end_inside line second z) refl letter some (m.begins z) in
-          record {
-            first = span (first + 1) end line;
-            second = span (second + 1) last line;
-            others = tagged letter (words_from (last + 1) line);
-            are = hit.1 ∙ ap (λ ts. span (first + 1) end line ∷ ts) (sym m.rest ∙ t.1);
-          }
-
--- ---- what the answer of a search says
-
-module _ (letter : ℕ) (line : List ℕ) (found : Tag) (post : TagPost letter line found) where
-  module _ (is : found ≡ Missing) where
-    found_missing : tagged letter (words line) ≡ []
-    found_missing = rw is at post
-
-    pub size_missing : 0 ≡ one_size (tagged letter (words line))
-    size_missing = rw found_missing
-
-    pub code_missing : 1 ≡ one_code (tagged letter (words line))
-    code_missing = rw found_missing
-
-  module _ (start end : ℕ) (is : found ≡ Once start end) where
-    pub found_once : (tagged letter (words line) ≡ span start end line ∷ []) × ((start ≤ end) × (end ≤ length line))
-    found_once = rw is at post
-
-    pub size_once : size (span start end line) ≡ one_size (tagged letter (words line))
-    size_once = rw found_once.0
-
-    pub code_once : code (span start end line) ≡ one_code (tagged letter (words line))
-    code_once = rw found_once.0
-
-  module _ (is : found ≡ Repeated) where
-    found_more : TwoTags letter line
-    found_more = rw is at post
-
-    pub size_more : 0 ≡ one_size (tagged letter (words line))
-    size_more = rw found_more.are
-
-    pub code_more : 0 ≡ one_code (tagged letter (words line))
-    code_more = rw found_more.are
+  pub more_tags : (w v : List ℕ) (ws : List (List ℕ)) → filter (begins x) (slice_split (λ b. eqb b 32) l) ≡ w ∷ v ∷ ws → TwoTags x l
+  unfolding begun
+  more_tags w v ws e = record {
+    first = drop 1 w;
+    second = drop 1 v;
+    others = map (drop 1) ws;
+    are = tagged_split ∙ ap (map (drop 1)) e;
+  }

@@ -1,6 +1,8 @@
 -- A line of a Y4M file, as its check computes it: docs/RULES.md, 14.1 and 14.2. A line stands here without its newline.
 -- Assumes nothing.
 use Rattle.std.specs.Prelude.{ℕ, Bool, cond, ◌&&◌, not, List, [], ◌∷◌, leb, ltb, eqb, length, get_or, take, drop}
+use Rattle.yuv_support.specs.declared.YuvChromaSubsampling.{YuvChromaSubsampling}
+use Rattle.yuv_support.specs.declared.YuvChromaSubsampling.TheVariants.{Yuv420, Yuv422}
 use Rattle.y4m_line.specs.Words.{upto, words, filled, same}
 use Rattle.y4m_line.specs.Line.{magic, tagged, digits, value, text420, text420jpeg, text420mpeg2, text422}
 
@@ -27,6 +29,10 @@ abbrev pub one_code : (texts : List (List ℕ)) → ℕ
 one_code [] = 1
 one_code (text ∷ []) = code text
 one_code (text ∷ other ∷ texts) = 0
+
+-- RULES 14.2: the sampling of a code
+abbrev pub sampling_said : (code : ℕ) → YuvChromaSubsampling
+sampling_said code = cond (eqb code 2) Yuv422 Yuv420
 
 -- RULES 14.2: what W says
 unfoldable pub width_of : (line : List ℕ) → ℕ

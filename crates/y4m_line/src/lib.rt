@@ -2,288 +2,181 @@
 // read without its newline. A decimal of any length is read: it is given up where it passes 16,384, so nothing wraps.
 #![tactic(auto)]
 
-ghost use Rattle.std.specs.Prelude.{◌≡◌, ◌+◌, ◌≤◌, ◌<◌, eqb, length, drop, take, get_or};
-ghost use Rattle.y4m_line.specs.Words.{upto, words, filled, same};
+ghost use Rattle.std.specs.Prelude.{◌≡◌, ◌≤◌, ◌<◌, length, take, IfSome};
+ghost use Rattle.std.specs.Option.{unwrap_or};
+ghost use Rattle.y4m_line.specs.Words.{upto, words, filled};
 ghost use Rattle.y4m_line.specs.Line.{magic, tagged, digit};
 ghost use Rattle.y4m_line.specs.Header.{size, code, one_size, one_code, is_line, line_end};
-ghost use Rattle.y4m_line.specs.Found.{span, NextTag, TagPost, HeaderPost};
+ghost use Rattle.y4m_line.specs.Found.{side_told, sampling_told, TagPost, HeaderPost};
+
+use yuv_support::YuvChromaSubsampling;
 
 // The most bytes of a line, its newline counted.
 pub const LINE: usize = 256;
 
-// The tags that begin with a letter: none, one, whose text after the letter stands from the first place to the second, or more.
-#[derive(Clone, Copy)]
-enum Tag {
+// The most that a side may be.
+const MOST_SIDE: usize = 16384;
+
+// The tags that begin with a letter: none, one, by its text after the letter, or more.
+#[derive(Clone, Copy, Debug, PartialEq, Eq)]
+enum Tag<'a> {
     Missing,
-    Once(usize, usize),
+    Once(&'a [u8]),
     Repeated,
 }
 
-// Width, height and sampling (1: 4:2:0, 2: 4:2:2) of a line that is a header's.
-#[derive(Clone, Copy)]
-pub enum HeaderLine {
-    Read(usize, usize, u8),
-    Refused,
+// What a header's line says.
+#[derive(Clone, Copy, Debug, PartialEq, Eq)]
+pub struct HeaderLine {
+    pub width: usize,
+    pub height: usize,
+    pub sampling: YuvChromaSubsampling,
 }
 
 // ---- words
 
-// How many bytes stand before the first of this value; all of them where there is none.
-fn index_of(bytes: &[u8], byte: u8) -> usize
-    ensures value { result ≡ upto byte bytes.now }
-    ensures upper_bound { result ≤ length bytes.now }
+// What stands before the first space; all of the line where it has none.
+fn first_word(line: &[u8]) -> &[u8]
+    ensures { result.now ≡ take (upto 32 line.now) line.now }
 {
-    let mut i = 0;
-    while i < bytes.len() {
-        if bytes[i] == byte {
-            return i;
-        }
-        i += 1;
-    }
-    i
-}
-
-fn same_bytes(text: &[u8], other: &[u8]) -> bool
-    ensures { result ≡ same text.now other.now }
-{
-    let mut i = 0;
-    while i < text.len() {
-        if other.len() <= i {
-            return false;
-        }
-        if text[i] != other[i] {
-            return false;
-        }
-        i += 1;
-    }
-    other.len() <= i
-}
-
-// Where the word that starts at a place ends.
-fn word_end(line: &[u8], start: usize) -> usize
-    requires { start ≤ length line.now }
-    ensures value { result ≡ start + upto 32 (drop start line.now) }
-    ensures upper_bound { result ≤ length line.now }
-{
-    start + index_of(shift_file::from_place(line, start), b' ')
+    line.split(|&byte| byte == b' ').next().unwrap_or(line)
 }
 
 // Whether no word is empty.
 fn all_filled(line: &[u8]) -> bool
-    requires { length line.now ≤ 256 }
     ensures { result ≡ filled (words line.now) }
 {
-    let mut start = 0;
-    while start <= line.len() {
-        let end = word_end(line, start);
-        if end <= start {
-            return false;
-        }
-        start = end + 1;
-    }
-    true
+    line.split(|&byte| byte == b' ')
+        .all(|word| !word.is_empty())
 }
 
 // Whether this is the first word, and no tag is empty.
 pub fn is_line(word: &[u8], line: &[u8]) -> bool
-    requires { length line.now ≤ 256 }
     ensures { result ≡ is_line word.now line.now }
 {
-    let end = index_of(line, b' ');
-    if same_bytes(shift_file::part_of(line, 0, end), word) {
-        all_filled(line)
-    } else {
-        false
-    }
+    first_word(line) == word && all_filled(line)
 }
 
-// ---- the tags of a letter
-
-// Whether the word from a place to another begins with this letter.
-fn has_letter(line: &[u8], start: usize, end: usize, letter: u8) -> bool
-    requires { (start ≤ end) × (end ≤ length line.now) × (0 < letter) }
-    ensures { result ≡ eqb (get_or (span start end line.now) 0 0) letter }
-{
-    if start < end {
-        line[start] == letter
-    } else {
-        false
-    }
-}
-
-// The start of the first word from a word's start on that begins with this letter; past the end where there is none.
-fn next_tag(line: &[u8], from: usize, letter: u8) -> usize
-    requires { (length line.now ≤ 256) × (0 < letter) × (from ≤ length line.now + 1) }
-    ensures { NextTag letter line.now from result }
-{
-    let mut start = from;
-    while start <= line.len() {
-        let end = word_end(line, start);
-        if has_letter(line, start, end, letter) {
-            return start;
-        }
-        start = end + 1;
-    }
-    start
-}
-
-fn find_tag(line: &[u8], letter: u8) -> Tag
-    requires { (length line.now ≤ 256) × (0 < letter) }
+// The tags that begin with this letter.
+fn find_tag(line: &[u8], letter: u8) -> Tag<'_>
+    requires { 0 < letter }
     ensures { TagPost letter line.now result }
 {
-    let first = next_tag(line, 0, letter);
-    if line.len() < first {
+    let mut tags = line
+        .split(|&byte| byte == b' ')
+        .filter(|word| word.first() == Some(&letter));
+    let Some(tag) = tags.next() else {
         return Tag::Missing;
+    };
+    match tags.next() {
+        None => Tag::Once(&tag[1..]),
+        Some(_) => Tag::Repeated,
     }
-    let end = word_end(line, first);
-    let second = next_tag(line, end + 1, letter);
-    if second <= line.len() {
-        return Tag::Repeated;
-    }
-    Tag::Once(first + 1, end)
 }
 
 // ---- sides
 
-// What the byte at a place says as a digit; 10 where it is none.
-fn digit_at(text: &[u8], at: usize) -> usize
-    requires { at < length text.now }
-    ensures value { result ≡ digit (get_or text.now at 0) }
-    ensures upper_bound { result ≤ 10 }
+// What a byte says as a digit.
+fn digit(byte: u8) -> Option<usize>
+    ensures value { unwrap_or result 10 ≡ digit byte }
+    ensures upper_bound { IfSome result (λ value. value ≤ 9) }
 {
-    let byte = text[at];
-    if byte < b'0' {
-        return 10;
+    match byte {
+        b'0'..=b'9' => Some(usize::from(byte - b'0')),
+        _ => None,
     }
-    if b'9' < byte {
-        return 10;
-    }
-    (byte - b'0') as usize
 }
 
-// The side that a text says, 1 to 16,384; 0 where it says none.
-fn size_text(text: &[u8]) -> usize
-    ensures { result ≡ size text.now }
+// The side that a text says, 1 to 16,384.
+#[tactic(auto, using(crate::proofs::Decimal::size_empty, crate::proofs::Decimal::size_zero))]
+fn size_text(text: &[u8]) -> Option<usize>
+    ensures { result ≡ side_told (size text.now) }
 {
-    if text.len() == 0 {
-        return 0;
+    if text.is_empty() || text[0] == b'0' {
+        return None;
     }
-    if text[0] == b'0' {
-        return 0;
-    }
-    let mut side: usize = 0;
-    let mut i = 0;
-    while i < text.len() {
-        let digit = digit_at(text, i);
-        if 9 < digit {
-            return 0;
+    let mut side = 0;
+    for &byte in text {
+        side = side * 10 + digit(byte)?;
+        if MOST_SIDE < side {
+            return None;
         }
-        side = side * 10 + digit;
-        if 16384 < side {
-            return 0;
-        }
-        i += 1;
     }
-    side
+    Some(side)
 }
 
-// The side that the one tag of a letter says; 0 where there is none, or more than one.
-fn one_size(line: &[u8], letter: u8) -> usize
-    requires { (length line.now ≤ 256) × (0 < letter) }
-    ensures { result ≡ one_size (tagged letter (words line.now)) }
+// The side that the one tag of a letter says; none where there is none, or more than one.
+fn one_size(line: &[u8], letter: u8) -> Option<usize>
+    requires { 0 < letter }
+    ensures { result ≡ side_told (one_size (tagged letter (words line.now))) }
 {
-    let found = find_tag(line, letter);
-    match found {
-        Tag::Missing => 0,
-        Tag::Once(start, end) => size_text(shift_file::part_of(line, start, end - start)),
-        Tag::Repeated => 0,
+    match find_tag(line, letter) {
+        Tag::Once(text) => size_text(text),
+        Tag::Missing | Tag::Repeated => None,
     }
 }
 
 // ---- samplings
 
-// 1 for 4:2:0, 2 for 4:2:2, 0 for another text.
-fn code_text(text: &[u8]) -> u8
-    ensures { result ≡ code text.now }
+// The sampling that a text says.
+#[tactic(auto, using(crate::proofs::Header::sampling_is))]
+fn sampling_text(text: &[u8]) -> Option<YuvChromaSubsampling>
+    ensures { result ≡ sampling_told (code text.now) }
 {
-    if same_bytes(text, b"420") {
-        return 1;
+    if text == b"420".as_slice()
+        || text == b"420jpeg".as_slice()
+        || text == b"420mpeg2".as_slice()
+    {
+        Some(YuvChromaSubsampling::Yuv420)
+    } else if text == b"422".as_slice() {
+        Some(YuvChromaSubsampling::Yuv422)
+    } else {
+        None
     }
-    if same_bytes(text, b"420jpeg") {
-        return 1;
-    }
-    if same_bytes(text, b"420mpeg2") {
-        return 1;
-    }
-    if same_bytes(text, b"422") {
-        return 2;
-    }
-    0
 }
 
 // The same of the tag of C: none means 4:2:0, and of more than one none is read.
-fn one_code(line: &[u8]) -> u8
-    requires { length line.now ≤ 256 }
-    ensures { result ≡ one_code (tagged 67 (words line.now)) }
+fn one_sampling(line: &[u8]) -> Option<YuvChromaSubsampling>
+    ensures { result ≡ sampling_told (one_code (tagged 67 (words line.now))) }
 {
-    let found = find_tag(line, b'C');
-    match found {
-        Tag::Missing => 1,
-        Tag::Once(start, end) => code_text(shift_file::part_of(line, start, end - start)),
-        Tag::Repeated => 0,
+    match find_tag(line, b'C') {
+        Tag::Missing => Some(YuvChromaSubsampling::Yuv420),
+        Tag::Once(text) => sampling_text(text),
+        Tag::Repeated => None,
     }
 }
 
 // ---- a header, and the line at the front of bytes
 
 fn starts_stream(line: &[u8]) -> bool
-    requires { length line.now ≤ 256 }
     ensures { result ≡ is_line magic line.now }
 {
     is_line(b"YUV4MPEG2", line)
 }
 
 // What a line says as a header: W and H once each, C at most once.
-pub fn read_header(line: &[u8]) -> HeaderLine
-    requires { length line.now ≤ 256 }
+pub fn read_header(line: &[u8]) -> Option<HeaderLine>
     ensures { HeaderPost line.now result }
 {
     if !starts_stream(line) {
-        return HeaderLine::Refused;
+        return None;
     }
-    let width = one_size(line, b'W');
-    if width == 0 {
-        return HeaderLine::Refused;
-    }
-    let height = one_size(line, b'H');
-    if height == 0 {
-        return HeaderLine::Refused;
-    }
-    let sampling = one_code(line);
-    if sampling == 0 {
-        return HeaderLine::Refused;
-    }
-    HeaderLine::Read(width, height, sampling)
+    let width = one_size(line, b'W')?;
+    let height = one_size(line, b'H')?;
+    let sampling = one_sampling(line)?;
+    Some(HeaderLine {
+        width,
+        height,
+        sampling,
+    })
 }
 
-// In how many bytes the newline of the first line must stand.
-fn line_room(bytes: &[u8]) -> usize
-    ensures value { result ≡ length (take 256 bytes.now) }
-    ensures upper_bound { (result ≤ 256) × (result ≤ length bytes.now) }
+// Where the first line's newline stands; none where the first 256 bytes have none.
+pub fn line_end(bytes: &[u8]) -> Option<usize>
+    ensures value { unwrap_or result 256 ≡ line_end bytes.now }
+    ensures upper_bound { IfSome result (λ end. (end < 256) × (end < length bytes.now)) }
 {
-    if bytes.len() < LINE {
-        bytes.len()
-    } else {
-        LINE
-    }
-}
-
-// Where the first line's newline stands; 256 where it has none, or has more bytes than a line.
-pub fn line_end(bytes: &[u8]) -> usize
-    ensures value { result ≡ line_end bytes.now }
-    ensures upper_bound { (result ≤ 256) × (result < 256 → result < length bytes.now) }
-{
-    let room = line_room(bytes);
-    let end = index_of(shift_file::part_of(bytes, 0, room), b'\n');
-    if end < room { end } else { LINE }
+    bytes[..bytes.len().min(LINE)]
+        .iter()
+        .position(|&byte| byte == b'\n')
 }

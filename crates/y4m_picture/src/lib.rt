@@ -9,13 +9,13 @@ ghost use Rattle.y4m_picture.specs.Picture.{picture_made, is_plane, planes_allow
 ghost use Rattle.y4m_picture.specs.Known.{picture_size, IsFrame, PlanesFit};
 
 use y4m_writer::Y4mWritten;
-use yuv_error::{YuvAnswer, YuvError};
+use yuv_error::YuvError;
 
 // The bytes of the line FRAME, its newline counted.
 const FRAME_LINE: usize = 6;
 
 // Sides, the sampling by its code (0: 4:2:0, 1: 4:2:2), and the strides of the planes.
-#[derive(Clone, Copy)]
+#[derive(Clone, Copy, Debug, PartialEq, Eq)]
 pub struct PictureFrame {
     pub width: u32,
     pub height: u32,
@@ -30,9 +30,10 @@ fn is_plane(row: usize, rows: usize, stride: u32, len: usize) -> bool
     requires { rows ≤ 16384 }
     ensures { result ≡ is_plane row rows stride len }
 {
-    (row <= stride as usize) & (len == stride as usize * rows)
+    row <= stride as usize && len == stride as usize * rows
 }
 
+#[tactic(auto, unfolding(crate::specs::Picture::planes_allowed))]
 fn are_planes(frame: PictureFrame, y: usize, u: usize, v: usize) -> bool
     requires { IsFrame frame }
     ensures { result ≡ planes_allowed frame y u v }
@@ -43,18 +44,17 @@ fn are_planes(frame: PictureFrame, y: usize, u: usize, v: usize) -> bool
     let chroma_width = yuv_support::chroma_width(width);
     let chroma_height = sampling.chroma_height(height);
     is_plane(width, height, frame.y_stride, y)
-        & (is_plane(chroma_width, chroma_height, frame.u_stride, u)
-            & is_plane(chroma_width, chroma_height, frame.v_stride, v))
+        && is_plane(chroma_width, chroma_height, frame.u_stride, u)
+        && is_plane(chroma_width, chroma_height, frame.v_stride, v)
 }
 
 // Whether planes of these lengths are a picture.
+#[tactic(auto, unfolding(crate::specs::Picture::picture_allowed))]
 fn is_picture(frame: PictureFrame, y: usize, u: usize, v: usize) -> bool
     ensures { result ≡ picture_allowed frame y u v }
 {
-    if !y4m_writer::is_shape(frame.sampling, frame.width as usize, frame.height as usize) {
-        return false;
-    }
-    are_planes(frame, y, u, v)
+    y4m_writer::is_shape(frame.sampling, frame.width as usize, frame.height as usize)
+        && are_planes(frame, y, u, v)
 }
 
 fn picture_size(frame: PictureFrame) -> usize
@@ -81,7 +81,7 @@ fn put_picture(frame: PictureFrame, y: &[u8], u: &[u8], v: &[u8], output: &mut [
     let v_stride = frame.v_stride as usize;
     let u_at = FRAME_LINE + shift_file::luma_size(width, height);
     let v_at = u_at + shift_file::chroma_size(sampling, width, height);
-    shift_writer::copy_bytes(output, 0, b"FRAME\n");
+    little_endian::put(output, 0, b"FRAME\n");
     shift_record::copy_rows(y, width, y_stride, height, output, FRAME_LINE);
     shift_record::copy_rows(u, chroma_width, u_stride, chroma_height, output, u_at);
     shift_record::copy_rows(v, chroma_width, v_stride, chroma_height, output, v_at);
@@ -101,20 +101,20 @@ pub fn write_picture(
 {
     if !is_picture(frame, y.len(), u.len(), v.len()) {
         return Y4mWritten {
-            answer: YuvAnswer::Refused(YuvError::MalformedY4m),
+            answer: Err(YuvError::MalformedY4m),
             size: 0,
         };
     }
     let size = picture_size(frame);
     if output.len() < size {
         return Y4mWritten {
-            answer: YuvAnswer::Refused(YuvError::OutputTooShort),
+            answer: Err(YuvError::OutputTooShort),
             size,
         };
     }
     put_picture(frame, y, u, v, output);
     Y4mWritten {
-        answer: YuvAnswer::Finished,
+        answer: Ok(()),
         size,
     }
 }

@@ -13,7 +13,7 @@ use Rattle.y4m_file.specs.Check.{picture_size}
 use Rattle.y4m_file.specs.Read.{picture_at, file_in}
 use Rattle.y4m_file.proofs.Pictures.{line_there, picture_is, size_there, next_there, length_picture}
 use Rattle.y4m_reader.specs.Entry.{no_picture, picture_of, offset_of, plane_numbers, entry_of}
-use Rattle.y4m_reader.specs.Known.{HasPicture, SizesAre, HasPictures, Stood}
+use Rattle.y4m_reader.specs.Known.{SizesAre, Stood}
 use Rattle.y4m_reader.specs.declared.PlaneSizes.{PlaneSizes}
 
 allowed_at : (luma chroma k : ℕ) (ps : List Y4mPicture) → EachAllowed luma chroma ps → k < length ps
@@ -62,65 +62,53 @@ first_Stood file i =
           );
     }
 
-module _ (file : List ℕ) (luma chroma m : ℕ) (f : HasPictures file luma chroma m) (k at : ℕ) (h : k < m) (s : Stood file k at) where
-  within_list : k < length (file_in file).pictures
-  within_list = omega (arith, f.below)
-
-  pub allowed : PictureAllowed luma chroma (picture_of (file_in file) k)
-  allowed = rw (f.luma_is, f.chroma_is) (allowed_at _ _ k (file_in file).pictures f.is_file_lem.allowed.pictures within_list)
+module _ (file : List ℕ) (p : PlaneSizes) (f : IsFileOf file (file_in file)) (z : SizesAre file p) (k at : ℕ)
+    (within_list : k < length (file_in file).pictures) (s : Stood file k at) where
+  pub allowed : PictureAllowed p.luma p.chroma (picture_of (file_in file) k)
+  allowed = rw (z.luma_is, z.chroma_is) (allowed_at _ _ k (file_in file).pictures f.allowed.pictures within_list)
 
   here : drop at file ≡ picture_bytes (picture_of (file_in file) k) ++ pictures_bytes (drop (suc k) (file_in file).pictures)
   here = s.rest ∙ bytes_at k (file_in file).pictures within_list
 
   line : line_end (drop at file) + 1 ≡ length (line_of frame (picture_of (file_in file) k).tags)
-  line = line_there luma chroma (picture_of (file_in file) k) allowed _ (drop at file) here
+  line = line_there p.luma p.chroma (picture_of (file_in file) k) allowed _ (drop at file) here
 
   pub entry_is : (y : ℕ) → y ≡ at + (line_end (drop at file) + 1)
-      → plane_numbers y luma chroma ≡ entry_of (offset_of (file_in file) k) (picture_of (file_in file) k)
+      → plane_numbers y p.luma p.chroma ≡ entry_of (offset_of (file_in file) k) (picture_of (file_in file) k)
   entry_is y e = rw (e, line, s.place, allowed.y_size, allowed.u_size, allowed.v_size)
 
   -- the planes, from the place past the line
   module _ (y : ℕ) (e : y ≡ at + (line_end (drop at file) + 1)) where
-    read : picture_at luma chroma (drop at file) ≡ picture_of (file_in file) k
-    read = picture_is luma chroma (picture_of (file_in file) k) allowed _ (drop at file) here
+    read : picture_at p.luma p.chroma (drop at file) ≡ picture_of (file_in file) k
+    read = picture_is p.luma p.chroma (picture_of (file_in file) k) allowed _ (drop at file) here
 
     from_y : drop y file ≡ drop (line_end (drop at file) + 1) (drop at file)
     from_y = rw e (sym (drop-drop (line_end (drop at file) + 1) at file))
 
-    pub y_there : take luma (drop y file) ≡ (picture_of (file_in file) k).y
+    pub y_there : take p.luma (drop y file) ≡ (picture_of (file_in file) k).y
     unfolding picture_at
     y_there = rw from_y (ap (λ (q : Y4mPicture). q.y) read)
 
-    pub u_there : take chroma (drop (y + luma) file) ≡ (picture_of (file_in file) k).u
+    pub u_there : take p.chroma (drop (y + p.luma) file) ≡ (picture_of (file_in file) k).u
     unfolding picture_at
-    u_there = rw (← drop-drop luma y file, from_y) (ap (λ (q : Y4mPicture). q.u) read)
+    u_there = rw (← drop-drop p.luma y file, from_y) (ap (λ (q : Y4mPicture). q.u) read)
 
-    pub v_there : take chroma (drop (y + luma + chroma) file) ≡ (picture_of (file_in file) k).v
+    pub v_there : take p.chroma (drop (y + p.luma + p.chroma) file) ≡ (picture_of (file_in file) k).v
     unfolding picture_at
     v_there =
-        let sum : y + luma + chroma ≡ y + (luma + chroma) = omega arith in
-        rw (sum, ← drop-drop (luma + chroma) y file, from_y) (ap (λ (q : Y4mPicture). q.v) read)
+        let sum : y + p.luma + p.chroma ≡ y + (p.luma + p.chroma) = omega arith in
+        rw (sum, ← drop-drop (p.luma + p.chroma) y file, from_y) (ap (λ (q : Y4mPicture). q.v) read)
 
-  pub next_Stood : (y : ℕ) → y ≡ at + (line_end (drop at file) + 1) → Stood file (k + 1) (y + luma + 2 * chroma)
+  pub next_Stood : (y : ℕ) → y ≡ at + (line_end (drop at file) + 1) → Stood file (k + 1) (y + p.luma + 2 * p.chroma)
   next_Stood y e =
       let q = picture_of (file_in file) k in
       let t = pictures_bytes (drop (suc k) (file_in file).pictures) in
       let one : k + 1 ≡ suc k = omega arith in
-      let size = size_there luma chroma q allowed t (drop at file) here in
-      let past : y + luma + 2 * chroma ≡ at + picture_size (luma + 2 * chroma) (drop at file) = omega (arith, size) in
-      let whole = length_picture luma chroma q allowed in
+      let size = size_there p.luma p.chroma q allowed t (drop at file) here in
+      let past : y + p.luma + 2 * p.chroma ≡ at + picture_size (p.luma + 2 * p.chroma) (drop at file) = omega (arith, size) in
+      let whole = length_picture p.luma p.chroma q allowed in
       record {
         place = rw one (omega (arith, line, whole, s.place, length_more k (file_in file).pictures within_list));
-        rest = rw (past, one) (sym (drop-drop _ at file) ∙ next_there luma chroma q allowed t (drop at file) here);
+        rest = rw (past, one) (sym (drop-drop _ at file) ∙ next_there p.luma p.chroma q allowed t (drop at file) here);
         within = omega (arith, line, whole, s.within, length-drop at file, ap length here, length-append (picture_bytes q) t);
       }
-
-pub has_pictures : (file : List ℕ) (k : ℕ) (p : PlaneSizes) → HasPicture file k → SizesAre file p → HasPictures file p.luma p.chroma (k + 1)
-has_pictures file k p h s = record {
-  is_file_lem = h.is_file_lem;
-  luma_is = s.luma_is;
-  chroma_is = s.chroma_is;
-  luma_most_lem = s.luma_most_lem;
-  chroma_most = s.chroma_most;
-  below = omega (arith, h.below);
-}

@@ -1,15 +1,10 @@
 -- What is known of a file that the check let through, and of a place in it. This serves the contracts between functions: no meaning stands here.
 -- Assumes nothing.
-use Rattle.std.specs.Prelude.{ℕ, ◌+◌, ◌*◌, ◌≤◌, ◌<◌, ◌^◌, ◌≡◌, List, length, drop}
-use Rattle.y4m_file.specs.File.{IsFileOf, pictures_bytes, luma_bytes, chroma_bytes}
+use Rattle.std.specs.Prelude.{ℕ, ◌≤◌, ◌^◌, ◌≡◌, List, length, drop}
+use Rattle.y4m_file.specs.File.{pictures_bytes, luma_bytes, chroma_bytes}
 use Rattle.y4m_file.specs.Read.{file_in}
 use Rattle.y4m_reader.specs.declared.PlaneSizes.{PlaneSizes}
 use Rattle.y4m_reader.specs.Entry.{offset_of}
-
--- a file of more than k pictures
-pub record HasPicture (file : List ℕ) (k : ℕ) : Type 0 where
-  pub is_file_lem : IsFileOf file (file_in file)
-  pub below : k < length (file_in file).pictures
 
 -- the bytes of its planes
 pub record SizesAre (file : List ℕ) (p : PlaneSizes) : Type 0 where
@@ -17,20 +12,6 @@ pub record SizesAre (file : List ℕ) (p : PlaneSizes) : Type 0 where
   pub chroma_is : p.chroma ≡ chroma_bytes (file_in file).sampling (file_in file).width (file_in file).height
   pub luma_most_lem : p.luma ≤ 2 ^ 33
   pub chroma_most : p.chroma ≤ 2 ^ 33
-
--- the bytes of its planes, and at least k pictures
-pub record HasPictures (file : List ℕ) (luma chroma k : ℕ) : Type 0 where
-  pub is_file_lem : IsFileOf file (file_in file)
-  pub luma_is : luma ≡ luma_bytes (file_in file).width (file_in file).height
-  pub chroma_is : chroma ≡ chroma_bytes (file_in file).sampling (file_in file).width (file_in file).height
-  pub luma_most_lem : luma ≤ 2 ^ 33
-  pub chroma_most : chroma ≤ 2 ^ 33
-  pub below : k ≤ length (file_in file).pictures
-
--- so many pictures from one on, with room for their entries
-pub record EntriesFit (file : List ℕ) (luma chroma first count room : ℕ) : Type 0 where
-  pub has : HasPictures file luma chroma (first + count)
-  pub fit : 6 * count ≤ room
 
 -- picture k and those after it stand from `at` on
 pub record Stood (file : List ℕ) (k at : ℕ) : Type 0 where

@@ -1,7 +1,7 @@
 -- What reading a Y4M file promises: docs/RULES.md, 14.4 and 14.5.
 -- Assumes nothing.
 use Rattle.std.specs.Prelude.{ℕ, ◌*◌, ◌-◌, ◌/◌, min, ◌≡◌, not, List, [], ◌∷◌, ◌++◌, length, drop}
-use Rattle.setting_codes.specs.Codes.{sampling_code}
+use Rattle.yuv_support.specs.Codes.{sampling_code}
 use Rattle.yuv_error.specs.Numbers.{numbers_of}
 use Rattle.yuv_error.specs.Rules.{Rule, rule, first_numbers}
 use Rattle.yuv_error.specs.Lent.{taken}

@@ -2,25 +2,25 @@
 // (RULES 14.5). Nothing is copied, and no plane is looked at.
 #![tactic(auto)]
 
-ghost use Rattle.std.specs.Prelude.{◌≡◌, ◌+◌, ◌≤◌, ◌^◌, length, drop};
+ghost use Rattle.std.specs.Prelude.{◌≡◌, ◌+◌, ◌*◌, ◌≤◌, ◌<◌, ◌^◌, length, drop};
 ghost use Rattle.std.proofs.lemmas.List.Edits.{sets};
 ghost use Rattle.y4m_line.specs.Header.{line_end};
-ghost use Rattle.y4m_file.specs.File.{IsFileOf};
 ghost use Rattle.y4m_file.specs.Read.{file_in};
 ghost use Rattle.y4m_reader.specs.Entry.{picture_of, plane_numbers, entries_of};
-ghost use Rattle.y4m_reader.specs.Known.{HasPicture, HasPictures, SizesAre, EntriesFit, Stood};
+ghost use Rattle.y4m_reader.specs.Known.{SizesAre, Stood};
 ghost use Rattle.y4m_reader.specs.Reading.{ReadPost};
 
 use y4m_file::Y4mRead;
-use yuv_error::{YuvAnswer, YuvError};
+use yuv_error::YuvError;
 
 // The numbers of an entry.
 const ENTRY: usize = 6;
 
 // What reading answers: the file's sides, its sampling by its code, its pictures, and how many of them were told.
-#[derive(Clone, Copy)]
+// The numbers stand beside the answer and not in an `Ok`, since a call tells each of them in each case: 0 with a refusal.
+#[derive(Clone, Copy, Debug, PartialEq, Eq)]
 pub struct Y4mReading {
-    pub answer: YuvAnswer,
+    pub answer: Result<(), YuvError>,
     pub width: usize,
     pub height: usize,
     pub sampling: u32,
@@ -28,152 +28,130 @@ pub struct Y4mReading {
     pub told: usize,
 }
 
+// The planes of a picture, each a part of the file.
+#[derive(Clone, Copy, Debug, PartialEq, Eq)]
+pub struct PictureParts<'a> {
+    pub y: &'a [u8],
+    pub u: &'a [u8],
+    pub v: &'a [u8],
+}
+
 // The bytes of Y, and of U or V.
-#[derive(Clone, Copy)]
+#[derive(Clone, Copy, Debug, PartialEq, Eq)]
 struct PlaneSizes {
     luma: usize,
     chroma: usize,
 }
 
-// Where the line at a place ends, past its newline.
-fn past_line(file: &[u8], at: usize) -> usize
-    requires { at ≤ length file.now }
-    ensures { (result ≡ at + (line_end (drop at file.now) + 1)) × (result ≤ length file.now + 257) }
+// ---- places
+
+// The bytes of a file's planes.
+fn plane_sizes(file: &Y4mRead) -> PlaneSizes
+    ensures { SizesAre file.now.bytes.now result }
 {
-    at + (y4m_line::line_end(shift_file::from_place(file, at)) + 1)
+    let header = file.header;
+    PlaneSizes {
+        luma: shift_file::luma_size(header.width, header.height),
+        chroma: shift_file::chroma_size(header.sampling, header.width, header.height),
+    }
+}
+
+// Where the line at a place ends, past its newline.
+fn past_line(bytes: &[u8], at: usize) -> usize
+    requires { at ≤ length bytes.now }
+    ensures place { result ≡ at + (line_end (drop at bytes.now) + 1) }
+    ensures upper_bound { result ≤ length bytes.now + 257 }
+{
+    let end = y4m_line::line_end(shift_file::from_place(bytes, at));
+    at + (end.unwrap_or(y4m_line::LINE) + 1)
 }
 
 // Where picture k stands; past the last, the end.
-fn place_of(file: &[u8], luma: usize, chroma: usize, k: usize) -> usize
-    requires { HasPictures file.now luma chroma k }
-    ensures { Stood file.now k result }
+fn place_of(file: &Y4mRead, k: usize) -> usize
+    requires { k ≤ file.now.count }
+    ensures { Stood file.now.bytes.now k result }
 {
-    let mut at = past_line(file, 0);
-    let mut i = 0;
-    while i < k {
-        at = past_line(file, at) + luma + 2 * chroma;
-        i += 1;
+    let sizes = plane_sizes(file);
+    let mut at = past_line(file.bytes, 0);
+    for _ in 0..k {
+        at = past_line(file.bytes, at) + sizes.luma + 2 * sizes.chroma;
     }
     at
 }
 
-// The six numbers of planes that stand from a place on.
-fn tell_entry(entries: &mut [u64], at: usize, y: usize, luma: usize, chroma: usize)
-    requires { (at + 6 ≤ length entries.old) × ((y ≤ 2 ^ 63) × ((luma ≤ 2 ^ 33) × (chroma ≤ 2 ^ 33))) }
-    ensures { entries.new ≡ sets entries.old at (plane_numbers y luma chroma) }
+// The planes of a picture.
+pub fn picture_parts<'a>(file: &Y4mRead<'a>, k: usize) -> PictureParts<'a>
+    requires { k < file.now.count }
+    ensures y { result.y.now ≡ (picture_of (file_in file.now.bytes.now) k).y }
+    ensures u { result.u.now ≡ (picture_of (file_in file.now.bytes.now) k).u }
+    ensures v { result.v.now ≡ (picture_of (file_in file.now.bytes.now) k).v }
 {
-    let u = y + luma;
-    let v = u + chroma;
-    let numbers = [
-        y as u64,
-        luma as u64,
-        u as u64,
-        chroma as u64,
-        v as u64,
-        chroma as u64,
-    ];
-    shift_reader::tell_numbers(entries, at, &numbers)
-}
-
-// So many entries from a picture on.
-fn tell_entries(
-    file: &[u8],
-    luma: usize,
-    chroma: usize,
-    first: usize,
-    count: usize,
-    entries: &mut [u64],
-)
-    requires { EntriesFit file.now luma chroma first count (length entries.old) }
-    ensures { entries.new ≡ sets entries.old 0 (entries_of (file_in file.now) first count) }
-{
-    let mut at = place_of(file, luma, chroma, first);
-    let mut i = 0;
-    while i < count {
-        let y = past_line(file, at);
-        tell_entry(entries, ENTRY * i, y, luma, chroma);
-        at = y + luma + 2 * chroma;
-        i += 1;
+    let sizes = plane_sizes(file);
+    let y = past_line(file.bytes, place_of(file, k));
+    let u = y + sizes.luma;
+    let v = u + sizes.chroma;
+    PictureParts {
+        y: shift_file::part_of(file.bytes, y, sizes.luma),
+        u: shift_file::part_of(file.bytes, u, sizes.chroma),
+        v: shift_file::part_of(file.bytes, v, sizes.chroma),
     }
-}
-
-// ---- parts
-
-// The bytes of a file's planes.
-fn plane_sizes(file: &[u8]) -> PlaneSizes
-    requires { IsFileOf file.now (file_in file.now) }
-    ensures { SizesAre file.now result }
-{
-    let read = y4m_file::read_file(file);
-    match read {
-        Y4mRead::Refused => PlaneSizes { luma: 0, chroma: 0 },
-        Y4mRead::Read(width, height, code, _) => PlaneSizes {
-            luma: shift_file::luma_size(width, height),
-            chroma: shift_file::chroma_size(y4m_file::sampling_said(code), width, height),
-        },
-    }
-}
-
-// Y of a picture, as a part of the file.
-pub fn y_part(file: &[u8], k: usize) -> &[u8]
-    requires { HasPicture file.now k }
-    ensures { result.now ≡ (picture_of (file_in file.now) k).y }
-{
-    let sizes = plane_sizes(file);
-    let y = past_line(file, place_of(file, sizes.luma, sizes.chroma, k));
-    shift_file::part_of(file, y, sizes.luma)
-}
-
-// The same of U.
-pub fn u_part(file: &[u8], k: usize) -> &[u8]
-    requires { HasPicture file.now k }
-    ensures { result.now ≡ (picture_of (file_in file.now) k).u }
-{
-    let sizes = plane_sizes(file);
-    let y = past_line(file, place_of(file, sizes.luma, sizes.chroma, k));
-    shift_file::part_of(file, y + sizes.luma, sizes.chroma)
-}
-
-// The same of V.
-pub fn v_part(file: &[u8], k: usize) -> &[u8]
-    requires { HasPicture file.now k }
-    ensures { result.now ≡ (picture_of (file_in file.now) k).v }
-{
-    let sizes = plane_sizes(file);
-    let y = past_line(file, place_of(file, sizes.luma, sizes.chroma, k));
-    shift_file::part_of(file, y + sizes.luma + sizes.chroma, sizes.chroma)
 }
 
 // ---- numbers
+
+// The six numbers of planes that stand from a place on.
+fn tell_entry(entries: &mut [u64], at: usize, y: usize, sizes: PlaneSizes)
+    requires room { at + 6 ≤ length entries.old }
+    requires small { (y ≤ 2 ^ 63) × (sizes.luma ≤ 2 ^ 33) × (sizes.chroma ≤ 2 ^ 33) }
+    ensures { entries.new ≡ sets entries.old at (plane_numbers y sizes.luma sizes.chroma) }
+{
+    let luma = sizes.luma as u64;
+    let chroma = sizes.chroma as u64;
+    let y = y as u64;
+    let u = y + luma;
+    let v = u + chroma;
+    little_endian::put(entries, at, &[y, luma, u, chroma, v, chroma])
+}
+
+// So many entries from a picture on.
+fn tell_entries(file: &Y4mRead, first: usize, count: usize, entries: &mut [u64])
+    requires pictures { first + count ≤ file.now.count }
+    requires room { 6 * count ≤ length entries.old }
+    ensures { entries.new ≡ sets entries.old 0 (entries_of (file_in file.now.bytes.now) first count) }
+{
+    let sizes = plane_sizes(file);
+    let mut at = place_of(file, first);
+    for i in 0..count {
+        let y = past_line(file.bytes, at);
+        tell_entry(entries, ENTRY * i, y, sizes);
+        at = y + sizes.luma + 2 * sizes.chroma;
+    }
+}
 
 // What a file's header says, how many pictures it has, and the entries of those from `first` on that have room; or 19 for bytes that are no Y4M file,
 // and nothing written.
 pub fn read_pictures(file: &[u8], first: usize, entries: &mut [u64]) -> Y4mReading
     ensures { ReadPost file.now first entries.old result entries.new }
 {
-    let read = y4m_file::read_file(file);
-    match read {
-        Y4mRead::Refused => Y4mReading {
-            answer: YuvAnswer::Refused(YuvError::MalformedY4m),
+    match Y4mRead::open(file) {
+        None => Y4mReading {
+            answer: Err(YuvError::MalformedY4m),
             width: 0,
             height: 0,
             sampling: 0,
             count: 0,
             told: 0,
         },
-        Y4mRead::Read(width, height, code, count) => {
-            let sampling = y4m_file::sampling_said(code);
-            let luma = shift_file::luma_size(width, height);
-            let chroma = shift_file::chroma_size(sampling, width, height);
-            let from = shift_reader::at_most(first, count);
-            let told = shift_reader::at_most(count - from, entries.len() / ENTRY);
-            tell_entries(file, luma, chroma, from, told, entries);
+        Some(read) => {
+            let from = first.min(read.count);
+            let told = (read.count - from).min(entries.len() / ENTRY);
+            tell_entries(&read, from, told, entries);
             Y4mReading {
-                answer: YuvAnswer::Finished,
-                width,
-                height,
-                sampling: setting_codes::sampling_code(sampling),
-                count,
+                answer: Ok(()),
+                width: read.header.width,
+                height: read.header.height,
+                sampling: read.header.sampling.into(),
+                count: read.count,
                 told,
             }
         }

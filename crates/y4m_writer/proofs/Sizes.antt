@@ -1,11 +1,9 @@
 -- The size of a file, and where it fits. Assumes nothing.
 use Prim.Native.Nat.{ℕ, ◌*◌, ◌/◌, ◌^◌, ◌≤◌, ◌<◌}
-use mathlib.Core.Path.{◌≡◌, refl}
-use mathlib.Core.Bool.{Bool, true, false}
+use mathlib.Core.Path.{◌≡◌}
 use native.Mathlib.Nat.{mul-le-mul, mul-div-le}
 use native.Mathlib.Omega.{arith}
-use lib.Dec.{ltb}
-use borrow.Author.Tests.{lt-ltb, le-ltb, ltb-false}
+use borrow.Author.Tests.{lt-ltb, le-ltb}
 use Rattle.yuv_support.specs.declared.YuvChromaSubsampling.{YuvChromaSubsampling}
 use Rattle.yuv_support.specs.declared.YuvChromaSubsampling.TheVariants.{Yuv420, Yuv422}
 use Rattle.yuv_support.specs.Sampling.{chroma_width, chroma_height}
@@ -37,20 +35,3 @@ fits size h = rw (lt-ltb size (2 ^ 64) h)
 
 pub fits_not : (size : ℕ) → 2 ^ 64 ≤ size → in_word size ≡ 0
 fits_not size h = rw (le-ltb size (2 ^ 64) h)
-
-module _ (size : ℕ) where
-  some_case : (t : Bool) → ltb size (2 ^ 64) ≡ t → 0 < in_word size → in_word size ≡ size
-  some_case true e h = rw e
-  some_case false e h = let k : 0 < 0 = rw e at h in absurd (omega arith)
-
-  -- a size that is told
-  pub told : 0 < in_word size → in_word size ≡ size
-  told h = some_case (ltb size (2 ^ 64)) refl h
-
-  none_case : (t : Bool) → ltb size (2 ^ 64) ≡ t → in_word size ≡ 0 → 0 < size → 2 ^ 64 ≤ size
-  none_case true e z h = let k : size ≡ 0 = rw e at z in absurd (omega arith)
-  none_case false e z h = ltb-false size (2 ^ 64) e
-
-  -- one that is not
-  pub not_told : in_word size ≡ 0 → 0 < size → 2 ^ 64 ≤ size
-  not_told z h = none_case (ltb size (2 ^ 64)) refl z h

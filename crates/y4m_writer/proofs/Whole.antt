@@ -1,14 +1,12 @@
 -- The file put: its line, then its pictures. Assumes nothing.
-use Prim.Native.Nat.{ℕ, ◌+◌, ◌*◌, ◌/◌, ◌≤◌, ◌<◌}
+use Prim.Native.Nat.{ℕ, ◌+◌, ◌*◌, ◌/◌, ◌≤◌}
 use mathlib.Core.Path.{◌≡◌, refl, ap, sym, ◌∙◌}
 use mathlib.Core.List.{List, ◌++◌}
 use native.Mathlib.Nat.{zero-add}
-use native.Mathlib.Omega.{arith}
 use lib.ListN.{length, take, drop, length-append}
 use lib.Seq.{sets, sets-eq, take_at}
 use Rattle.yuv_support.specs.declared.YuvChromaSubsampling.{YuvChromaSubsampling}
 use Rattle.y4m_line.specs.Line.{line_of, magic}
-use Rattle.y4m_line.proofs.Text.{length_line}
 use Rattle.y4m_file.specs.Check.{plane_bytes}
 use Rattle.y4m_writer.specs.Text.{written_tags}
 use Rattle.y4m_writer.specs.Pictures.{sampling_of, file_made}
@@ -21,12 +19,6 @@ pub front_is : (d l t r : List ℕ) (e : ℕ) → l ≡ sets d 0 t → e ≡ len
 front_is d l t r e is size h front =
     front ∙ rw (is, size)
     (ap (take (length t)) (sets-eq t d 0 (rw (zero-add (length t)) h)) ∙ take_at t _ (length t) refl)
-
-pub file_some : (code w h : ℕ) (b : List ℕ) → 0 < length (file_made code w h b)
-file_some code w h b =
-    let tags = written_tags (sampling_of code) w h in
-    let n = plane_bytes (sampling_of code) w h in
-    omega (arith, ap length (made code w h b), length-append (line_of magic tags) (frames_of n (length b / n) b), length_line magic tags)
 
 module _ (code w h : ℕ) (b before : List ℕ) (how : YuvChromaSubsampling) (eh : how ≡ sampling_of code) (n : ℕ) (en : n ≡ plane_bytes how w h)
     (first : ℕ) (ef : first ≡ length (line_of magic (written_tags how w h))) where

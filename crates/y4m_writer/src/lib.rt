@@ -1,23 +1,23 @@
 // Writing a Y4M file from planes back to back (RULES 14.6). What is to be written is checked, and the output is measured, before a byte is written.
 #![tactic(auto)]
 
-ghost use Rattle.std.specs.Prelude.{◌≡◌, ◌++◌, ◌+◌, ◌*◌, ◌≤◌, ◌<◌, ◌^◌, length};
+ghost use Rattle.std.specs.Prelude.{◌≡◌, ◌++◌, ◌+◌, ◌*◌, ◌≤◌, ◌<◌, ◌^◌, length, IfSome, IfNone};
 ghost use Rattle.std.proofs.lemmas.List.Edits.{sets};
 ghost use Rattle.y4m_line.specs.Line.{line_of, magic};
 ghost use Rattle.shift_file.specs.File.{is_side};
 ghost use Rattle.y4m_writer.specs.Text.{decimal, written_tags};
 ghost use Rattle.y4m_writer.specs.Pictures.{is_shape, can_write};
 ghost use Rattle.y4m_writer.specs.Known.{code_line, frames_of, FramesFit};
-ghost use Rattle.y4m_writer.specs.Writing.{in_word, WritePost};
+ghost use Rattle.y4m_writer.specs.Writing.{WritePost};
 
-use yuv_error::{YuvAnswer, YuvError};
+use yuv_error::YuvError;
 use yuv_support::YuvChromaSubsampling;
 
 // What writing answers, and the bytes that it takes: told too where the output is too short for them and they are a number of 64
-// bits, else 0 with a refusal.
-#[derive(Clone, Copy)]
+// bits, else 0 with a refusal. The size stands beside the answer and not in an `Ok`, since it is told with a refusal too.
+#[derive(Clone, Copy, Debug, PartialEq, Eq)]
 pub struct Y4mWritten {
-    pub answer: YuvAnswer,
+    pub answer: Result<(), YuvError>,
     pub size: usize,
 }
 
@@ -47,7 +47,7 @@ fn put_side(output: &mut [u8], at: usize, text: &[u8], side: usize) -> usize
     ensures output_after { output.new ≡ sets output.old at (text.now ++ decimal 5 side) }
     ensures value { result ≡ at + length (text.now ++ decimal 5 side) }
 {
-    shift_writer::copy_bytes(output, at, text);
+    little_endian::put(output, at, text);
     put_decimal(output, at + text.len(), 5, side)
 }
 
@@ -59,11 +59,11 @@ fn put_code(output: &mut [u8], at: usize, sampling: YuvChromaSubsampling) -> usi
 {
     match sampling {
         YuvChromaSubsampling::Yuv420 => {
-            shift_writer::copy_bytes(output, at, b" F25:1 Ip C420jpeg\n");
+            little_endian::put(output, at, b" F25:1 Ip C420jpeg\n");
             at + 19
         }
         YuvChromaSubsampling::Yuv422 => {
-            shift_writer::copy_bytes(output, at, b" F25:1 Ip C422\n");
+            little_endian::put(output, at, b" F25:1 Ip C422\n");
             at + 15
         }
     }
@@ -100,7 +100,7 @@ fn write_header(output: &mut [u8], sampling: YuvChromaSubsampling, width: usize,
 {
     let mut line = [0u8; 64];
     let size = put_header(&mut line, sampling, width, height);
-    shift_writer::copy_bytes(output, 0, shift_file::part_of(&line, 0, size));
+    little_endian::put(output, 0, shift_file::part_of(&line, 0, size));
 }
 
 // ---- pictures
@@ -112,27 +112,26 @@ fn put_pictures(pictures: &[u8], planes: usize, count: usize, at: usize, output:
 {
     let mut from = 0;
     let mut to = at;
-    let mut left = count;
-    while 0 < left {
-        shift_writer::copy_bytes(output, to, b"FRAME\n");
-        shift_writer::copy_bytes(output, to + 6, shift_file::part_of(pictures, from, planes));
+    for _ in 0..count {
+        little_endian::put(output, to, b"FRAME\n");
+        little_endian::put(output, to + 6, shift_file::part_of(pictures, from, planes));
         from += planes;
         to += 6 + planes;
-        left -= 1;
     }
 }
 
 fn is_side(side: usize) -> bool
     ensures { result ≡ is_side side }
 {
-    (1 <= side) & (side <= 16384)
+    1 <= side && side <= 16384
 }
 
 // Whether a code is that of a sampling, and sides are those of a picture.
+#[tactic(auto, unfolding(crate::specs::Pictures::is_shape))]
 pub fn is_shape(code: u32, width: usize, height: usize) -> bool
     ensures { result ≡ is_shape code width height }
 {
-    (code < 2) & (is_side(width) & is_side(height))
+    code < 2 && is_side(width) && is_side(height)
 }
 
 // Whether so many bytes are whole pictures of an allowed shape.
@@ -146,17 +145,13 @@ fn can_write(code: u32, width: usize, height: usize, size: usize) -> bool
     size % planes == 0
 }
 
-// The size of a file of so many pictures; 0 where it is no number of 64 bits.
-fn size_or_zero(header: usize, count: usize, size: usize) -> usize
-    requires { (header ≤ 64) × ((6 * count < 2 ^ 64) × (size < 2 ^ 63)) }
-    ensures { result ≡ in_word (header + 6 * count + size) }
+// The size of a file of so many pictures, where it is a number of 64 bits.
+fn file_size(header: usize, count: usize, size: usize) -> Option<usize>
+    requires { (header ≤ 64) × (6 * count < 2 ^ 64) × (size < 2 ^ 63) }
+    ensures fits { IfSome result (λ whole. whole ≡ header + 6 * count + size) }
+    ensures large { IfNone result (2 ^ 64 ≤ header + 6 * count + size) }
 {
-    let frames = 6 * count;
-    let rest = header + size;
-    if 18446744073709551615 - rest < frames {
-        return 0;
-    }
-    rest + frames
+    (header + size).checked_add(6 * count)
 }
 
 // Writes the file of these pictures, Y, U and V of each back to back, at the front of the output; or answers 19 where the code of the sampling or a
@@ -172,7 +167,7 @@ pub fn write_pictures(
 {
     if !can_write(code, width, height, pictures.len()) {
         return Y4mWritten {
-            answer: YuvAnswer::Refused(YuvError::MalformedY4m),
+            answer: Err(YuvError::MalformedY4m),
             size: 0,
         };
     }
@@ -180,23 +175,22 @@ pub fn write_pictures(
     let planes = y4m_file::plane_bytes(sampling, width, height);
     let count = pictures.len() / planes;
     let header = header_size(sampling, width, height);
-    let size = size_or_zero(header, count, pictures.len());
-    if size == 0 {
+    let Some(size) = file_size(header, count, pictures.len()) else {
         return Y4mWritten {
-            answer: YuvAnswer::Refused(YuvError::OutputTooShort),
-            size,
+            answer: Err(YuvError::OutputTooShort),
+            size: 0,
         };
-    }
+    };
     if output.len() < size {
         return Y4mWritten {
-            answer: YuvAnswer::Refused(YuvError::OutputTooShort),
+            answer: Err(YuvError::OutputTooShort),
             size,
         };
     }
     write_header(output, sampling, width, height);
     put_pictures(pictures, planes, count, header, output);
     Y4mWritten {
-        answer: YuvAnswer::Finished,
+        answer: Ok(()),
         size,
     }
 }

@@ -13,7 +13,7 @@ use Rattle.definitions.specs.Image.{source_row_size}
 use Rattle.yuv_error.specs.Rules.{Rule, first_numbers, planes_rules, buffer_rules, too_narrow, not_whole}
 use Rattle.yuv_error.specs.Lowest.{in_order, NoneHolds}
 use Rattle.yuv_error.specs.Lent.{source_of, y_of, u_of, v_of, opening_rules, lent_rules}
-use Rattle.yuv_error.specs.Known.{Sized, PlanesLent}
+use Rattle.yuv_error.specs.Known.{Sized, WholeRows, PlanesLent}
 use Rattle.yuv_error.specs.declared.LentBuffer.{LentBuffer}
 use Rattle.yuv_error.specs.declared.Lengths.{Lengths}
 use Rattle.yuv_error.proofs.Lowest.{first_is_lowest}
@@ -70,11 +70,6 @@ opened d e =
     }
 
 -- ---- 6 to 12
-
--- the stride is wide enough, and all rows are whole
-pub record WholeRows (b : LentBuffer) : Type 0 where
-  pub wide : b.row ≤ b.stride
-  pub exact : b.len ≡ b.stride * b.rows
 
 whole_rows : (b : LentBuffer) → too_narrow b ≡ false → not_whole b ≡ false → WholeRows b
 whole_rows b n e = record { wide = ltb-false _ _ n; exact = eqb-true _ _ (not-false _ e) }

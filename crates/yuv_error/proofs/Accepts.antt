@@ -1,5 +1,6 @@
 -- The other way round: where each bound holds, no refusal is answered. Assumes nothing.
 use Prim.Native.Nat.{ℕ, ◌+◌, ◌≤◌}
+use Rattle.std.specs.Prelude.{Ok}
 use mathlib.Core.Bool.{Bool, true, false}
 use mathlib.Core.List.{List, ◌++◌}
 use mathlib.Core.Path.{◌≡◌, refl, sym, ◌∙◌}
@@ -13,16 +14,15 @@ use Rattle.definitions.proofs.Numbers.{chroma_rows}
 use Rattle.yuv_error.specs.Numbers.{numbers}
 use Rattle.yuv_error.specs.Rules.{Rule, first_numbers, planes_rules, buffer_rules, least_of, whole_of, too_narrow, too_short, not_whole}
 use Rattle.yuv_error.specs.Lent.{opening_rules, lent_rules}
-use Rattle.yuv_error.specs.Known.{Sized}
+use Rattle.yuv_error.specs.Known.{Sized, WholeRows}
 use Rattle.yuv_error.specs.declared.LentBuffer.{LentBuffer}
 use Rattle.yuv_error.specs.declared.Lengths.{Lengths}
-use Rattle.yuv_error.specs.declared.YuvAnswer.TheVariants.{Finished}
 use Rattle.yuv_error.proofs.First.{numbered, after_finished}
-use Rattle.yuv_error.proofs.Accepted.{WholeRows, AcceptedBuffers, Buffers}
+use Rattle.yuv_error.proofs.Accepted.{AcceptedBuffers, Buffers}
 
 -- no rule of two lists holds, one after the other
 pub both_pass : (xs ys : List Rule) → numbered xs ≡ true → first_numbers xs ≡ numbers 0 0 0 → first_numbers ys ≡ numbers 0 0 0 → first_numbers (xs ++ ys) ≡ numbers 0 0 0
-both_pass xs ys n p q = after_finished {a = Finished} xs ys n refl (sym p) ∙ q
+both_pass xs ys n p q = after_finished {a = Ok tt} xs ys n refl (sym p) ∙ q
 
 is_true : (b : Bool) → T b → b ≡ true
 is_true true h = refl

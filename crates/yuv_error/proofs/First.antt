@@ -1,4 +1,6 @@
 -- What one check after another answers: the first rule that holds in the rules of both, in a row. Assumes nothing.
+use Rattle.std.specs.Prelude.{Result, Ok, Err}
+use Rattle.std.specs.Result.{result_and}
 use mathlib.Core.Bool.{Bool, true, false, cond, not, ◌&&◌, and-eq-true_iff}
 use mathlib.Core.List.{List, [], ◌∷◌, ◌++◌}
 use mathlib.Core.Path.{◌≡◌, refl, sym, ap, ◌∙◌}
@@ -6,10 +8,7 @@ use lib.Dec.{eqb}
 use borrow.Author.Tests.{not-true, eqb-true, eqb-false}
 use Rattle.yuv_error.specs.Numbers.{Numbers, numbers_of}
 use Rattle.yuv_error.specs.Rules.{Rule, first_numbers}
-use Rattle.yuv_error.specs.Checks.{and_then}
 use Rattle.yuv_error.specs.declared.YuvError.{YuvError}
-use Rattle.yuv_error.specs.declared.YuvAnswer.{YuvAnswer}
-use Rattle.yuv_error.specs.declared.YuvAnswer.TheVariants.{Finished, Refused}
 use Rattle.yuv_error.proofs.Numbers.{refused_number}
 
 -- no rule has number 0, which is finished work's
@@ -46,31 +45,31 @@ append_finished xs ys n e = go (eqb (first_numbers xs).number 0) refl
         (first_append xs ys n ∙ ap (λ (b : Bool). cond b (first_numbers ys) (first_numbers xs)) t)) ∙ e))
 
 -- after a check that refused, for a caller that returns its answer
-pub after_refused : {a : YuvAnswer} {e : YuvError} (xs ys : List Rule) → numbered xs ≡ true → a ≡ Refused e → numbers_of a ≡ first_numbers xs
+pub after_refused : {a : Result Unit YuvError} {e : YuvError} (xs ys : List Rule) → numbered xs ≡ true → a ≡ Err e → numbers_of a ≡ first_numbers xs
     → numbers_of a ≡ first_numbers (xs ++ ys)
 after_refused {a} {e} xs ys n t p = rw t (sym (rw (← p, t, refused_number e) at (first_append xs ys n)))
 
 -- after a check that did not, for a caller that goes on
-pub after_finished : {a : YuvAnswer} (xs ys : List Rule) → numbered xs ≡ true → a ≡ Finished → numbers_of a ≡ first_numbers xs → first_numbers (xs ++ ys) ≡ first_numbers ys
+pub after_finished : {a : Result Unit YuvError} (xs ys : List Rule) → numbered xs ≡ true → a ≡ Ok tt → numbers_of a ≡ first_numbers xs → first_numbers (xs ++ ys) ≡ first_numbers ys
 after_finished xs ys n t p = rw (← p, t) at (first_append xs ys n)
 
-pub finished_number : {a : YuvAnswer} (xs : List Rule) → a ≡ Finished → numbers_of a ≡ first_numbers xs → (first_numbers xs).number ≡ 0
+pub finished_number : {a : Result Unit YuvError} (xs : List Rule) → a ≡ Ok tt → numbers_of a ≡ first_numbers xs → (first_numbers xs).number ≡ 0
 finished_number xs t p = rw (← p, t)
 
 -- an answer, and the rules that it answers
-pub record Answers (a : YuvAnswer) (xs : List Rule) : Type 0 where
+pub record Answers (a : Result Unit YuvError) (xs : List Rule) : Type 0 where
   pub no_zero : numbered xs ≡ true
   pub equation : numbers_of a ≡ first_numbers xs
 
-pub answers : (a : YuvAnswer) (xs : List Rule) → numbered xs ≡ true → numbers_of a ≡ first_numbers xs → Answers a xs
+pub answers : (a : Result Unit YuvError) (xs : List Rule) → numbered xs ≡ true → numbers_of a ≡ first_numbers xs → Answers a xs
 answers a xs n e = record { no_zero = n; equation = e }
 
-and_Answers : (a b : YuvAnswer) (xs ys : List Rule) → Answers a xs → numbers_of b ≡ first_numbers ys → numbers_of (and_then a b) ≡ first_numbers (xs ++ ys)
-and_Answers Finished b xs ys p q = q ∙ sym (after_finished xs ys p.no_zero refl p.equation)
-and_Answers (Refused e) b xs ys p q = after_refused {e = e} xs ys p.no_zero refl p.equation
+and_Answers : (a b : Result Unit YuvError) (xs ys : List Rule) → Answers a xs → numbers_of b ≡ first_numbers ys → numbers_of (result_and a b) ≡ first_numbers (xs ++ ys)
+and_Answers (Ok done) b xs ys p q = q ∙ sym (after_finished xs ys p.no_zero refl p.equation)
+and_Answers (Err e) b xs ys p q = after_refused {e = e} xs ys p.no_zero refl p.equation
 
 -- the answer r of a check and then another
-pub both : {a b r : YuvAnswer} {xs ys : List Rule} → Answers a xs → Answers b ys → r ≡ and_then a b → Answers r (xs ++ ys)
+pub both : {a b r : Result Unit YuvError} {xs ys : List Rule} → Answers a xs → Answers b ys → r ≡ result_and a b → Answers r (xs ++ ys)
 both {a} {b} {xs = xs} {ys = ys} p q e = record {
   no_zero = numbered-append xs ys p.no_zero q.no_zero;
   equation = ap numbers_of e ∙ and_Answers a b xs ys p q.equation;

@@ -1,5 +1,6 @@
 -- An answer is known by its numbers: `answer_of` finds it again. Assumes nothing.
 use Prim.Native.Nat.{ℕ}
+use Rattle.std.specs.Prelude.{Result, Ok, Err}
 use mathlib.Core.Bool.{false}
 use mathlib.Core.Path.{◌≡◌, refl, sym, ap, ◌∙◌}
 use native.Mathlib.Omega.{arith}
@@ -13,42 +14,40 @@ use Rattle.yuv_error.specs.declared.YuvError.TheVariants.{LumaPlaneSizeMismatch,
 use Rattle.yuv_error.specs.declared.YuvError.TheVariants.{WholeRowsMismatch, CarriedRowSizeMismatch, WindowOutsideSource}
 use Rattle.yuv_error.specs.declared.YuvError.TheVariants.{MalformedShiftFile, OutputTooShort, SummaryMismatch, PartsMismatch, MalformedY4m}
 use Rattle.yuv_error.specs.declared.YuvError.TheVariants.{SettingsRecorded, CameraMismatch, BandStillWaiting, CameraInUse}
-use Rattle.yuv_error.specs.declared.YuvAnswer.{YuvAnswer}
-use Rattle.yuv_error.specs.declared.YuvAnswer.TheVariants.{Finished, Refused}
 
-pub found : (a : YuvAnswer) → answer_of (numbers_of a) ≡ a
-found Finished = refl
-found (Refused MalformedRequest) = refl
-found (Refused ZeroBaseSize) = refl
-found (Refused SizeTooLarge) = refl
-found (Refused MatrixNotAccepted) = refl
-found (Refused BandRowsMismatch) = refl
-found (Refused (DestinationSizeMismatch m)) = refl
-found (Refused (MinimumStrideSizeMismatch m)) = refl
-found (Refused (LumaPlaneMinimumSizeMismatch m)) = refl
-found (Refused (LumaPlaneSizeMismatch m)) = refl
-found (Refused (UPlaneMinimumSizeMismatch m)) = refl
-found (Refused (VPlaneMinimumSizeMismatch m)) = refl
-found (Refused (WholeRowsMismatch m)) = refl
-found (Refused (CarriedRowSizeMismatch m)) = refl
-found (Refused WindowOutsideSource) = refl
-found (Refused MalformedShiftFile) = refl
-found (Refused OutputTooShort) = refl
-found (Refused SummaryMismatch) = refl
-found (Refused PartsMismatch) = refl
-found (Refused MalformedY4m) = refl
-found (Refused SettingsRecorded) = refl
-found (Refused CameraMismatch) = refl
-found (Refused BandStillWaiting) = refl
-found (Refused CameraInUse) = refl
+pub found : (a : Result Unit YuvError) → answer_of (numbers_of a) ≡ a
+found (Ok done) = refl
+found (Err MalformedRequest) = refl
+found (Err ZeroBaseSize) = refl
+found (Err SizeTooLarge) = refl
+found (Err MatrixNotAccepted) = refl
+found (Err BandRowsMismatch) = refl
+found (Err (DestinationSizeMismatch m)) = refl
+found (Err (MinimumStrideSizeMismatch m)) = refl
+found (Err (LumaPlaneMinimumSizeMismatch m)) = refl
+found (Err (LumaPlaneSizeMismatch m)) = refl
+found (Err (UPlaneMinimumSizeMismatch m)) = refl
+found (Err (VPlaneMinimumSizeMismatch m)) = refl
+found (Err (WholeRowsMismatch m)) = refl
+found (Err (CarriedRowSizeMismatch m)) = refl
+found (Err WindowOutsideSource) = refl
+found (Err MalformedShiftFile) = refl
+found (Err OutputTooShort) = refl
+found (Err SummaryMismatch) = refl
+found (Err PartsMismatch) = refl
+found (Err MalformedY4m) = refl
+found (Err SettingsRecorded) = refl
+found (Err CameraMismatch) = refl
+found (Err BandStillWaiting) = refl
+found (Err CameraInUse) = refl
 
 -- two answers of equal numbers are equal
-pub same_answer : (a b : YuvAnswer) → numbers_of a ≡ numbers_of b → a ≡ b
+pub same_answer : (a b : Result Unit YuvError) → numbers_of a ≡ numbers_of b → a ≡ b
 same_answer a b e = sym (found a) ∙ ap answer_of e ∙ found b
 
 -- number 0 is finished work, and no refusal
-pub is_finished : (a : YuvAnswer) → (numbers_of a).number ≡ 0 → a ≡ Finished
+pub is_finished : (a : Result Unit YuvError) → (numbers_of a).number ≡ 0 → a ≡ Ok tt
 is_finished a e = sym (found a) ∙ rw e
 
 pub refused_number : (e : YuvError) → eqb (error_numbers e).number 0 ≡ false
-refused_number e = ne_eqb (error_numbers e).number 0 λ z. let w : ◌≡◌ {A = ℕ} 0 1 = cc (is_finished (Refused e) z) in omega arith
+refused_number e = ne_eqb (error_numbers e).number 0 λ z. let w : ◌≡◌ {A = ℕ} 0 1 = cc (is_finished (Err e) z) in omega arith

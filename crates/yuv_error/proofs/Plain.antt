@@ -4,7 +4,8 @@ use Prim.Native.Nat.{ℕ}
 use mathlib.Core.Path.{◌≡◌, refl, sym, ap, ◌∙◌}
 use mathlib.Core.Bool.{Bool, true, false, cond}
 use mathlib.Core.List.{List, [], ◌∷◌}
-use Rattle.yuv_error.specs.declared.YuvAnswer.{YuvAnswer}
+use Rattle.std.specs.Prelude.{Result}
+use Rattle.yuv_error.specs.declared.YuvError.{YuvError}
 use Rattle.yuv_error.specs.Numbers.{Numbers, numbers, numbers_of}
 use Rattle.yuv_error.specs.Rules.{Rule, first_numbers}
 
@@ -20,5 +21,5 @@ Plain-first : (rs : List Rule) → Plain rs → first_numbers rs ≡ numbers (fi
 Plain-first [] p = refl
 Plain-first (r ∷ rs) p = plain_step r.holds r.says (first_numbers rs) p.0 (Plain-first rs p.1)
 
-pub alone : (rs : List Rule) {n : ℕ} (a : YuvAnswer) → Plain rs → n ≡ (numbers_of a).number → numbers_of a ≡ first_numbers rs → numbers n 0 0 ≡ first_numbers rs
+pub alone : (rs : List Rule) {n : ℕ} (a : Result Unit YuvError) → Plain rs → n ≡ (numbers_of a).number → numbers_of a ≡ first_numbers rs → numbers n 0 0 ≡ first_numbers rs
 alone rs a plain is e = ap (λ (n : ℕ). numbers n 0 0) (is ∙ ap (λ (x : Numbers). x.number) e) ∙ sym (Plain-first rs plain)

@@ -1,13 +1,16 @@
--- A number of 32 bits times the rows of a buffer fits 64 bits, and a row more does too. Assumes nothing.
-use Prim.Native.Nat.{ℕ, ◌+◌, ◌*◌, ◌^◌, ◌<◌, ◌≤◌}
-use native.Mathlib.Nat.{le_of_lt, mul-le-mul}
+-- A product of two numbers of 32 bits fits 64 bits, and with a row more it does too: the sizes of a lent buffer. Assumes nothing.
+use Prim.Native.Nat.{ℕ, ◌+◌, ◌-◌, ◌*◌, ◌^◌, ◌<◌, ◌≤◌}
+use native.Mathlib.Nat.{mul-le-mul}
 use native.Mathlib.Omega.{arith}
 
-below : {size rows : ℕ} → size < 2 ^ 32 → rows ≤ 16384 → size * rows ≤ 2 ^ 46
-below s r = mul-le-mul (le_of_lt s) r
+most : {n : ℕ} → n < 2 ^ 32 → n ≤ 2 ^ 32 - 1
+most h = omega (arith, h)
 
-pub product_fits : {size rows : ℕ} → size < 2 ^ 32 → rows ≤ 16384 → size * rows < 2 ^ 64
+below : {size rows : ℕ} → size < 2 ^ 32 → rows < 2 ^ 32 → size * rows ≤ (2 ^ 32 - 1) * (2 ^ 32 - 1)
+below s r = mul-le-mul (most s) (most r)
+
+pub product_fits : {size rows : ℕ} → size < 2 ^ 32 → rows < 2 ^ 32 → size * rows < 2 ^ 64
 product_fits s r = omega (arith, below s r)
 
-pub sum_fits : {size rows row : ℕ} → size < 2 ^ 32 → rows ≤ 16384 → row ≤ 65536 → size * rows + row < 2 ^ 64
+pub sum_fits : {size rows row : ℕ} → size < 2 ^ 32 → rows < 2 ^ 32 → row < 2 ^ 32 → size * rows + row < 2 ^ 64
 sum_fits s r b = omega (arith, below s r)

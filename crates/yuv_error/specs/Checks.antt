@@ -1,24 +1,14 @@
--- What the parts of a check promise. This serves the contracts of the smaller checks; the meaning stands in Rules.
+-- What a refusal of a lent buffer carries. This serves the contracts of the smaller checks; the meaning stands in Rules.
 -- Assumes nothing.
-use Rattle.std.specs.Prelude.{ℕ, List, [], ◌∷◌}
-use Rattle.yuv_error.specs.declared.YuvAnswer.{YuvAnswer}
-use Rattle.yuv_error.specs.declared.YuvAnswer.TheVariants.{Finished, Refused}
-use Rattle.yuv_error.specs.declared.ChromaPlane.{ChromaPlane}
-use Rattle.yuv_error.specs.declared.ChromaPlane.TheVariants.{U, «V»}
+use Rattle.std.specs.Prelude.{◌*◌}
+use Rattle.yuv_error.specs.declared.MismatchedSize.{MismatchedSize}
 use Rattle.yuv_error.specs.declared.LentBuffer.{LentBuffer}
-use Rattle.yuv_error.specs.Numbers.{Numbers}
-use Rattle.yuv_error.specs.Rules.{Rule, too_narrow, too_short}
+use Rattle.yuv_error.specs.Rules.{least_of, whole_of}
 
--- the first answer if it refuses, else the second
-abbrev pub and_then : YuvAnswer → YuvAnswer → YuvAnswer
-and_then Finished b = b
-and_then (Refused e) b = Refused e
+-- RULES 7.5, 7.6: of a buffer too short for its rows
+abbrev pub least_mismatch : LentBuffer → MismatchedSize
+least_mismatch b = record { expected = least_of b; received = b.len }
 
--- the rules of a plane, whatever its refusals say
-abbrev pub plane_rules_saying : (narrow short : Numbers) → LentBuffer → List Rule
-plane_rules_saying narrow short b = record { holds = too_narrow b; says = narrow } ∷ record { holds = too_short b; says = short } ∷ []
-
--- 10 is of U, 11 of V
-abbrev pub chroma_number : ChromaPlane → ℕ
-chroma_number U = 10
-chroma_number «V» = 11
+-- RULES 7.6: of a plane whose stride is below its row
+abbrev pub stride_mismatch : LentBuffer → MismatchedSize
+stride_mismatch b = record { expected = b.row * b.rows; received = whole_of b }

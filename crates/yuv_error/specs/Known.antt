@@ -4,6 +4,7 @@ use Rattle.std.specs.Prelude.{ℕ, ◌+◌, ◌*◌, ◌≤◌, ◌≡◌, T}
 use Rattle.yuv_support.specs.Matrix.{accepted}
 use Rattle.definitions.specs.declared.FrameDescription.{FrameDescription}
 use Rattle.definitions.specs.declared.Band.{Band}
+use Rattle.yuv_error.specs.declared.LentBuffer.{LentBuffer}
 use Rattle.definitions.specs.Image.{source_row_size, chroma_size, chroma_rows}
 
 -- a frame's size, matrix and place in its source
@@ -17,6 +18,11 @@ pub record Sized (d : FrameDescription) : Type 0 where
   pub matrix : T (accepted d.settings.matrix)
   pub right : d.window.left + d.width ≤ d.window.source_width
   pub bottom : d.window.top + d.height ≤ d.window.source_height
+
+-- a buffer's stride holds its row, and all its rows are whole
+pub record WholeRows (b : LentBuffer) : Type 0 where
+  pub wide : b.row ≤ b.stride
+  pub exact : b.len ≡ b.stride * b.rows
 
 -- a band's rows, and its source
 pub record Given (b : Band) (source : ℕ) : Type 0 where

@@ -1,10 +1,9 @@
 -- What a frame or band call is lent, by its frame's description, and the rules that both kinds of call ask: docs/RULES.md, 2.1, 7.3 to 7.7 and 7.9.
 -- Assumes nothing.
-use Rattle.std.specs.Prelude.{ℕ, ◌+◌, ◌||◌, List, [], ◌∷◌, ◌++◌, ltb, length}
+use Rattle.std.specs.Prelude.{ℕ, ◌+◌, ◌||◌, List, [], ◌∷◌, ◌++◌, ltb, length, Result, Ok, Err}
 use Rattle.definitions.specs.declared.FrameDescription.{FrameDescription}
 use Rattle.definitions.specs.Image.{source_row_size, chroma_size, chroma_rows}
-use Rattle.yuv_error.specs.declared.YuvAnswer.{YuvAnswer}
-use Rattle.yuv_error.specs.declared.YuvAnswer.TheVariants.{Finished, Refused}
+use Rattle.yuv_error.specs.declared.YuvError.{YuvError}
 use Rattle.yuv_error.specs.declared.LentBuffer.{LentBuffer}
 use Rattle.yuv_error.specs.declared.Lengths.{Lengths}
 use Rattle.yuv_error.specs.Rules.{Rule, rule, size_rules, large_rules, matrix_rules, buffer_rules}
@@ -46,6 +45,6 @@ abbrev pub lent_rules : FrameDescription → (rows stride : ℕ) → Lengths →
 lent_rules d rows stride n = buffer_rules (source_of d rows stride n.source) (y_of d n.y) (u_of d n.u) (v_of d n.v)
 
 -- RULES 7.2: how many of n rows a call takes: all where it finished its work, none where it was refused
-abbrev pub taken : YuvAnswer → ℕ → ℕ
-taken Finished n = n
-taken (Refused e) n = 0
+abbrev pub taken : Result Unit YuvError → ℕ → ℕ
+taken (Ok done) n = n
+taken (Err e) n = 0

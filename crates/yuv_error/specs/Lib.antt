@@ -5,5 +5,4 @@ pub mod Order
 pub mod Lowest
 pub mod Lent
 pub mod Known
-pub mod Bounded
 pub mod Checks

@@ -1,6 +1,6 @@
 -- Number, expected and received of each answer: docs/RULES.md, 7.1.
 -- Assumes nothing.
-use Rattle.std.specs.Prelude.{ℕ, List, [], ◌∷◌, get_or}
+use Rattle.std.specs.Prelude.{ℕ, List, [], ◌∷◌, get_or, Result, Ok, Err}
 use Rattle.yuv_error.specs.declared.MismatchedSize.{MismatchedSize}
 use Rattle.yuv_error.specs.declared.YuvError.{YuvError}
 use Rattle.yuv_error.specs.declared.YuvError.TheVariants.{MalformedRequest, ZeroBaseSize, SizeTooLarge, MatrixNotAccepted, BandRowsMismatch}
@@ -9,8 +9,6 @@ use Rattle.yuv_error.specs.declared.YuvError.TheVariants.{LumaPlaneSizeMismatch,
 use Rattle.yuv_error.specs.declared.YuvError.TheVariants.{WholeRowsMismatch, CarriedRowSizeMismatch, WindowOutsideSource}
 use Rattle.yuv_error.specs.declared.YuvError.TheVariants.{MalformedShiftFile, OutputTooShort, SummaryMismatch, PartsMismatch, MalformedY4m}
 use Rattle.yuv_error.specs.declared.YuvError.TheVariants.{SettingsRecorded, CameraMismatch, BandStillWaiting, CameraInUse}
-use Rattle.yuv_error.specs.declared.YuvAnswer.{YuvAnswer}
-use Rattle.yuv_error.specs.declared.YuvAnswer.TheVariants.{Finished, Refused}
 
 -- RULES 7.1
 pub record Numbers : Type 0 where
@@ -53,38 +51,38 @@ error_numbers BandStillWaiting = numbers 22 0 0
 error_numbers CameraInUse = numbers 23 0 0
 
 -- RULES 7.1: finished work is number 0
-abbrev pub numbers_of : YuvAnswer → Numbers
-numbers_of Finished = numbers 0 0 0
-numbers_of (Refused e) = error_numbers e
+abbrev pub numbers_of : Result Unit YuvError → Numbers
+numbers_of (Ok done) = numbers 0 0 0
+numbers_of (Err e) = error_numbers e
 
 -- RULES 7.1: the answers by number, each with the size m where it carries one
-abbrev pub answers : MismatchedSize → List YuvAnswer
+abbrev pub answers : MismatchedSize → List (Result Unit YuvError)
 answers m =
-    Finished ∷
-    Refused MalformedRequest ∷
-    Refused ZeroBaseSize ∷
-    Refused SizeTooLarge ∷
-    Refused MatrixNotAccepted ∷
-    Refused BandRowsMismatch ∷
-    Refused (DestinationSizeMismatch m) ∷
-    Refused (MinimumStrideSizeMismatch m) ∷
-    Refused (LumaPlaneMinimumSizeMismatch m) ∷
-    Refused (LumaPlaneSizeMismatch m) ∷
-    Refused (UPlaneMinimumSizeMismatch m) ∷
-    Refused (VPlaneMinimumSizeMismatch m) ∷
-    Refused (WholeRowsMismatch m) ∷
-    Refused (CarriedRowSizeMismatch m) ∷
-    Refused WindowOutsideSource ∷
-    Refused MalformedShiftFile ∷
-    Refused OutputTooShort ∷
-    Refused SummaryMismatch ∷
-    Refused PartsMismatch ∷
-    Refused MalformedY4m ∷
-    Refused SettingsRecorded ∷
-    Refused CameraMismatch ∷
-    Refused BandStillWaiting ∷
-    Refused CameraInUse ∷ []
+    Ok tt ∷
+    Err MalformedRequest ∷
+    Err ZeroBaseSize ∷
+    Err SizeTooLarge ∷
+    Err MatrixNotAccepted ∷
+    Err BandRowsMismatch ∷
+    Err (DestinationSizeMismatch m) ∷
+    Err (MinimumStrideSizeMismatch m) ∷
+    Err (LumaPlaneMinimumSizeMismatch m) ∷
+    Err (LumaPlaneSizeMismatch m) ∷
+    Err (UPlaneMinimumSizeMismatch m) ∷
+    Err (VPlaneMinimumSizeMismatch m) ∷
+    Err (WholeRowsMismatch m) ∷
+    Err (CarriedRowSizeMismatch m) ∷
+    Err WindowOutsideSource ∷
+    Err MalformedShiftFile ∷
+    Err OutputTooShort ∷
+    Err SummaryMismatch ∷
+    Err PartsMismatch ∷
+    Err MalformedY4m ∷
+    Err SettingsRecorded ∷
+    Err CameraMismatch ∷
+    Err BandStillWaiting ∷
+    Err CameraInUse ∷ []
 
 -- RULES 7.1: the answer of these numbers, the other way round
-abbrev pub answer_of : Numbers → YuvAnswer
-answer_of x = get_or (answers (record { expected = x.expected; received = x.received })) x.number Finished
+abbrev pub answer_of : Numbers → Result Unit YuvError
+answer_of x = get_or (answers (record { expected = x.expected; received = x.received })) x.number (Ok tt)

@@ -1,23 +1,25 @@
 // The refusals: the errors and checks of the Rust's yuv_error.rs, with those that the rules add beside them (RULES 7.1).
 #![tactic(auto)]
 
-ghost use Rattle.std.specs.Prelude.{◌≡◌, ◌++◌, ◌+◌, ◌*◌, ◌≤◌};
-ghost use Rattle.yuv_error.specs.Numbers.{sized, error_numbers, numbers_of};
-ghost use Rattle.yuv_error.specs.Bounded.{Bounded};
-ghost use Rattle.yuv_error.specs.Checks.{and_then, plane_rules_saying, chroma_number};
+ghost use Rattle.std.specs.Prelude.{◌≡◌, ◌+◌, ◌≤◌, OnOk, IfErr, IsOk, ◌↔◌, true, false, T};
+ghost use Rattle.yuv_support.specs.Matrix.{accepted};
+ghost use Rattle.yuv_error.specs.Numbers.{numbers_of};
+ghost use Rattle.yuv_error.specs.Checks.{least_mismatch, stride_mismatch};
 ghost use Rattle.yuv_error.specs.Rules.{first_numbers, large_rules, size_rules, matrix_rules, least_of, whole_of, too_short, too_narrow};
 ghost use Rattle.yuv_error.specs.Rules.{source_rules, plane_rules, whole_rules, planes_rules, buffer_rules};
-ghost use Rattle.yuv_error.specs.Lent.{window_rules, opening_rules, lent_rules};
-ghost use Rattle.yuv_error.specs.Known.{Sized};
+ghost use Rattle.yuv_error.specs.Lent.{source_of, window_rules, opening_rules, lent_rules};
+ghost use Rattle.yuv_error.specs.Known.{Sized, WholeRows, PlanesLent};
 
 use definitions::FrameDescription;
+use std::error::Error;
+use std::fmt;
 use yuv_support::YuvStandardMatrix;
 
 // The most pixels a side (RULES 7.3).
 const MAX_SIDE: u32 = 16384;
 
 // Shows size mismatching.
-#[derive(Clone, Copy)]
+#[derive(Clone, Copy, Debug, PartialEq, Eq, Hash)]
 pub struct MismatchedSize {
     pub expected: usize,
     pub received: usize,
@@ -25,7 +27,7 @@ pub struct MismatchedSize {
 
 // The refusals, by number. Where the Rust has an error for one, it has the Rust's name;
 // its ChromaPlaneMinimumSizeMismatch is one for each chroma plane here.
-#[derive(Clone, Copy)]
+#[derive(Clone, Copy, Debug, PartialEq, Eq, Hash)]
 pub enum YuvError {
     MalformedRequest,
     ZeroBaseSize,
@@ -52,24 +54,82 @@ pub enum YuvError {
     CameraInUse,
 }
 
-// What a call answers: finished work, or one refusal.
-#[derive(Clone, Copy)]
-pub enum YuvAnswer {
-    Finished,
-    Refused(YuvError),
+impl fmt::Display for MismatchedSize {
+    fn fmt<W: fmt::Write>(&self, f: &mut fmt::Formatter<W>) -> fmt::Result {
+        write!(f, "expected {}, received {}", self.expected, self.received)
+    }
 }
 
-// A lent buffer: `rows` rows of `row` bytes each, a row every `stride` bytes, `len` bytes in all.
-#[derive(Clone, Copy)]
+impl fmt::Display for YuvError {
+    fn fmt<W: fmt::Write>(&self, f: &mut fmt::Formatter<W>) -> fmt::Result {
+        match self {
+            YuvError::MalformedRequest => write!(
+                f,
+                "the request, the count of numbers or a code is malformed"
+            ),
+            YuvError::ZeroBaseSize => write!(f, "the size has no pixel"),
+            YuvError::SizeTooLarge => write!(f, "a side has too many pixels"),
+            YuvError::MatrixNotAccepted => write!(f, "the matrix is not accepted"),
+            YuvError::BandRowsMismatch => write!(f, "the band's rows do not follow"),
+            YuvError::DestinationSizeMismatch(size) => write!(f, "the source is too short: {size}"),
+            YuvError::MinimumStrideSizeMismatch(size) => write!(
+                f,
+                "the source's stride is below its row: {size}"
+            ),
+            YuvError::LumaPlaneMinimumSizeMismatch(size) => write!(
+                f,
+                "the Y plane's stride is below its row: {size}"
+            ),
+            YuvError::LumaPlaneSizeMismatch(size) => write!(f, "the Y plane is too short: {size}"),
+            YuvError::UPlaneMinimumSizeMismatch(size) => write!(
+                f,
+                "the U plane is too narrow or too short: {size}"
+            ),
+            YuvError::VPlaneMinimumSizeMismatch(size) => write!(
+                f,
+                "the V plane is too narrow or too short: {size}"
+            ),
+            YuvError::WholeRowsMismatch(size) => write!(f, "the rows are not whole: {size}"),
+            YuvError::CarriedRowSizeMismatch(size) => write!(
+                f,
+                "the carried row has another length: {size}"
+            ),
+            YuvError::WindowOutsideSource => write!(f, "the window reaches past its source"),
+            YuvError::MalformedShiftFile => write!(
+                f,
+                "the shift file, or what a record would hold, is malformed"
+            ),
+            YuvError::OutputTooShort => write!(f, "the output is too short"),
+            YuvError::SummaryMismatch => write!(f, "the summary is not that of the file"),
+            YuvError::PartsMismatch => write!(f, "the frames or parts are not allowed together"),
+            YuvError::MalformedY4m => write!(
+                f,
+                "the Y4M file, or what it would hold, is malformed"
+            ),
+            YuvError::SettingsRecorded => write!(f, "a record would lose its settings"),
+            YuvError::CameraMismatch => write!(
+                f,
+                "there is no such camera, or it has no open frame"
+            ),
+            YuvError::BandStillWaiting => write!(f, "a band of this camera still waits"),
+            YuvError::CameraInUse => write!(f, "the camera already has an open frame"),
+        }
+    }
+}
+
+impl Error for YuvError {}
+
+// A lent buffer: `rows` rows of `row` bytes each, a row every `stride` bytes, `len` bytes in all. No product of its numbers of 32 bits leaves 64.
+#[derive(Clone, Copy, Debug, PartialEq, Eq, Hash)]
 pub struct LentBuffer {
-    pub row: usize,
-    pub rows: usize,
+    pub row: u32,
+    pub rows: u32,
     pub stride: u32,
     pub len: usize,
 }
 
 // The lengths of what a call is lent.
-#[derive(Clone, Copy)]
+#[derive(Clone, Copy, Debug, PartialEq, Eq, Hash)]
 pub struct Lengths {
     pub source: usize,
     pub y: usize,
@@ -77,115 +137,136 @@ pub struct Lengths {
     pub v: usize,
 }
 
-impl YuvAnswer {
-    // This refusal, or else the next answer, as the Rust's Result::and.
-    pub fn and(self, next: YuvAnswer) -> YuvAnswer
-        ensures { result ≡ and_then self next }
-    {
-        match self {
-            YuvAnswer::Finished => next,
-            YuvAnswer::Refused(_) => self,
-        }
-    }
-}
-
 impl LentBuffer {
     // The least that holds the rows: the last one may lack its padding.
     fn least_size(self) -> usize
-        requires { Bounded self }
         ensures { result ≡ least_of self }
     {
-        self.stride as usize * (self.rows - 1) + self.row
+        self.stride as usize * self.rows.saturating_sub(1) as usize + self.row as usize
     }
 
     // All rows whole.
     fn whole_size(self) -> usize
-        requires { Bounded self }
         ensures { result ≡ whole_of self }
     {
-        self.stride as usize * self.rows
+        self.stride as usize * self.rows as usize
     }
 
-    fn is_too_short(self) -> bool
-        requires { Bounded self }
-        ensures { result ≡ too_short self }
+    // Refuses a buffer that is too short for its rows, by the refusal that the caller names.
+    fn check_long<S: FnOnce(MismatchedSize) -> YuvError>(self, short: S) -> Result<(), YuvError>
+        requires { (size : MismatchedSize) → S.pre short size }
+        ensures long { OnOk result (too_short self ≡ false) }
+        ensures short { IfErr result (λ e. (too_short self ≡ true) × S.post short (least_mismatch self) e) }
     {
-        self.len < self.least_size()
-    }
-
-    fn is_too_narrow(self) -> bool
-        ensures { result ≡ too_narrow self }
-    {
-        (self.stride as usize) < self.row
-    }
-
-    // What the refusal of a buffer too short for its rows carries.
-    fn length_mismatch(self) -> MismatchedSize
-        requires { Bounded self }
-        ensures { (result.expected ≡ least_of self) × (result.received ≡ self.len) }
-    {
-        MismatchedSize {
-            expected: self.least_size(),
-            received: self.len,
+        let least = self.least_size();
+        if self.len < least {
+            return Err(short(MismatchedSize {
+                expected: least,
+                received: self.len,
+            }));
         }
+        Ok(())
     }
 
-    // What the refusal of a plane's stride below its row carries.
-    fn stride_mismatch(self) -> MismatchedSize
-        requires { Bounded self }
-        ensures { (result.expected ≡ self.row * self.rows) × (result.received ≡ whole_of self) }
+    // Refuses a plane whose stride is below its row, by the refusal that the caller names.
+    fn check_wide<N: FnOnce(MismatchedSize) -> YuvError>(self, narrow: N) -> Result<(), YuvError>
+        requires { (size : MismatchedSize) → N.pre narrow size }
+        ensures wide { OnOk result (too_narrow self ≡ false) }
+        ensures narrow { IfErr result (λ e. (too_narrow self ≡ true) × N.post narrow (stride_mismatch self) e) }
     {
-        MismatchedSize {
-            expected: self.row * self.rows,
-            received: self.whole_size(),
+        if self.stride < self.row {
+            return Err(narrow(MismatchedSize {
+                expected: self.row as usize * self.rows as usize,
+                received: self.whole_size(),
+            }));
         }
+        Ok(())
     }
-}
 
-// The chroma planes, each with a refusal of its own.
-#[derive(Clone, Copy)]
-enum ChromaPlane {
-    U,
-    V,
-}
-
-impl ChromaPlane {
-    fn refusal(self, size: MismatchedSize) -> YuvError
-        ensures { error_numbers result ≡ sized (chroma_number self) size }
+    // The Rust's check_rgba_destination.
+    fn check_rgba_source(self) -> Result<(), YuvError>
+        ensures numbers { numbers_of result ≡ first_numbers (source_rules self) }
+        ensures wide { OnOk result (self.row ≤ self.stride) }
     {
-        match self {
-            ChromaPlane::U => YuvError::UPlaneMinimumSizeMismatch(size),
-            ChromaPlane::V => YuvError::VPlaneMinimumSizeMismatch(size),
+        self.check_long(YuvError::DestinationSizeMismatch)?;
+        if self.stride < self.row {
+            return Err(YuvError::MinimumStrideSizeMismatch(MismatchedSize {
+                expected: self.row as usize,
+                received: self.stride as usize,
+            }));
         }
+        Ok(())
+    }
+
+    fn check_y8_channel(self) -> Result<(), YuvError>
+        ensures numbers { numbers_of result ≡ first_numbers (plane_rules 8 9 self) }
+        ensures wide { OnOk result (self.row ≤ self.stride) }
+    {
+        self.check_wide(YuvError::LumaPlaneMinimumSizeMismatch)?;
+        self.check_long(YuvError::LumaPlaneSizeMismatch)
+    }
+
+    fn check_u_channel(self) -> Result<(), YuvError>
+        ensures numbers { numbers_of result ≡ first_numbers (plane_rules 10 10 self) }
+        ensures wide { OnOk result (self.row ≤ self.stride) }
+    {
+        self.check_wide(YuvError::UPlaneMinimumSizeMismatch)?;
+        self.check_long(YuvError::UPlaneMinimumSizeMismatch)
+    }
+
+    fn check_v_channel(self) -> Result<(), YuvError>
+        ensures numbers { numbers_of result ≡ first_numbers (plane_rules 11 11 self) }
+        ensures wide { OnOk result (self.row ≤ self.stride) }
+    {
+        self.check_wide(YuvError::VPlaneMinimumSizeMismatch)?;
+        self.check_long(YuvError::VPlaneMinimumSizeMismatch)
+    }
+
+    // The Rust has no such check: it may skip rows, take the wrong last row or panic where this one refuses.
+    fn check_whole_rows(self) -> Result<(), YuvError>
+        ensures numbers { numbers_of result ≡ first_numbers (whole_rules self) }
+        ensures whole { OnOk result (self.len ≡ whole_of self) }
+    {
+        let whole = self.whole_size();
+        if self.len != whole {
+            return Err(YuvError::WholeRowsMismatch(MismatchedSize {
+                expected: whole,
+                received: self.len,
+            }));
+        }
+        Ok(())
     }
 }
 
 // Refusal 3.
-fn check_large(width: u32, height: u32) -> YuvAnswer
-    ensures { numbers_of result ≡ first_numbers (large_rules width height) }
+fn check_large(width: u32, height: u32) -> Result<(), YuvError>
+    ensures numbers { numbers_of result ≡ first_numbers (large_rules width height) }
+    ensures small { OnOk result ((width ≤ 16384) × (height ≤ 16384)) }
 {
     if width > MAX_SIDE || height > MAX_SIDE {
-        return YuvAnswer::Refused(YuvError::SizeTooLarge);
+        return Err(YuvError::SizeTooLarge);
     }
-    YuvAnswer::Finished
+    Ok(())
 }
 
-fn check_size(width: u32, height: u32) -> YuvAnswer
-    ensures { numbers_of result ≡ first_numbers (size_rules width height) }
+fn check_size(width: u32, height: u32) -> Result<(), YuvError>
+    ensures numbers { numbers_of result ≡ first_numbers (size_rules width height) }
+    ensures small { OnOk result ((1 ≤ width) × (width ≤ 16384) × (1 ≤ height) × (height ≤ 16384)) }
 {
     if width == 0 || height == 0 {
-        return YuvAnswer::Refused(YuvError::ZeroBaseSize);
+        return Err(YuvError::ZeroBaseSize);
     }
     check_large(width, height)
 }
 
-pub fn check_matrix(matrix: YuvStandardMatrix) -> YuvAnswer
-    ensures { numbers_of result ≡ first_numbers (matrix_rules matrix) }
+pub fn check_matrix(matrix: YuvStandardMatrix) -> Result<(), YuvError>
+    ensures numbers { numbers_of result ≡ first_numbers (matrix_rules matrix) }
+    ensures accepted { IsOk result ↔ T (accepted matrix) }
 {
     if matrix.is_accepted() {
-        YuvAnswer::Finished
+        Ok(())
     } else {
-        YuvAnswer::Refused(YuvError::MatrixNotAccepted)
+        Err(YuvError::MatrixNotAccepted)
     }
 }
 
@@ -197,161 +278,89 @@ fn end_of(start: u32, size: u32) -> u64
 }
 
 // Refusal 14.
-fn check_window(frame: FrameDescription) -> YuvAnswer
-    ensures { numbers_of result ≡ first_numbers (window_rules frame) }
+fn check_window(frame: FrameDescription) -> Result<(), YuvError>
+    ensures numbers { numbers_of result ≡ first_numbers (window_rules frame) }
+    ensures inside { OnOk result ((frame.window.left + frame.width ≤ frame.window.source_width) × (frame.window.top + frame.height ≤ frame.window.source_height)) }
 {
-    let window = frame.window;
-    let right = end_of(window.left, frame.width);
-    let bottom = end_of(window.top, frame.height);
-    if (right > window.source_width as u64) | (bottom > window.source_height as u64) {
-        return YuvAnswer::Refused(YuvError::WindowOutsideSource);
+    let right = end_of(frame.window.left, frame.width);
+    let bottom = end_of(frame.window.top, frame.height);
+    if right > frame.window.source_width as u64 || bottom > frame.window.source_height as u64 {
+        return Err(YuvError::WindowOutsideSource);
     }
-    YuvAnswer::Finished
+    Ok(())
 }
 
 // Refuses a side of 0 (2), a side above 16,384, the source's too (3), a matrix that is not accepted (4), a window that reaches past
 // the source (14).
-pub fn check_opening(frame: FrameDescription) -> YuvAnswer
-    ensures { numbers_of result ≡ first_numbers (opening_rules frame) }
+pub fn check_opening(frame: FrameDescription) -> Result<(), YuvError>
+    ensures numbers { numbers_of result ≡ first_numbers (opening_rules frame) }
+    ensures sized { OnOk result (Sized frame) }
 {
-    let settings = frame.settings;
-    let matrix = settings.matrix;
-    let window = frame.window;
-    let size = check_size(frame.width, frame.height);
-    let source_size = check_large(window.source_width, window.source_height);
-    let accepted = check_matrix(matrix);
-    let inside = check_window(frame);
-    let sizes = size.and(source_size);
-    let others = accepted.and(inside);
-    sizes.and(others)
-}
-
-// The Rust's check_rgba_destination.
-fn check_rgba_source(source: LentBuffer) -> YuvAnswer
-    requires { Bounded source }
-    ensures { numbers_of result ≡ first_numbers (source_rules source) }
-{
-    if source.is_too_short() {
-        return YuvAnswer::Refused(YuvError::DestinationSizeMismatch(source.length_mismatch()));
-    }
-    if source.is_too_narrow() {
-        return YuvAnswer::Refused(YuvError::MinimumStrideSizeMismatch(MismatchedSize {
-            expected: source.row,
-            received: source.stride as usize,
-        }));
-    }
-    YuvAnswer::Finished
-}
-
-// The check that Y, U and V share; what it refuses with is its caller's.
-fn check_plane(plane: LentBuffer, narrow: YuvError, short: YuvError) -> YuvAnswer
-    requires { Bounded plane }
-    ensures { numbers_of result ≡ first_numbers (plane_rules_saying (error_numbers narrow) (error_numbers short) plane) }
-{
-    if plane.is_too_narrow() {
-        return YuvAnswer::Refused(narrow);
-    }
-    if plane.is_too_short() {
-        return YuvAnswer::Refused(short);
-    }
-    YuvAnswer::Finished
-}
-
-fn check_y8_channel(y: LentBuffer) -> YuvAnswer
-    requires { Bounded y }
-    ensures { numbers_of result ≡ first_numbers (plane_rules 8 9 y) }
-{
-    let narrow = YuvError::LumaPlaneMinimumSizeMismatch(y.stride_mismatch());
-    let short = YuvError::LumaPlaneSizeMismatch(y.length_mismatch());
-    check_plane(y, narrow, short)
-}
-
-fn check_chroma_channel(plane: ChromaPlane, chroma: LentBuffer) -> YuvAnswer
-    requires { Bounded chroma }
-    ensures { numbers_of result ≡ first_numbers (plane_rules (chroma_number plane) (chroma_number plane) chroma) }
-{
-    let narrow = plane.refusal(chroma.stride_mismatch());
-    let short = plane.refusal(chroma.length_mismatch());
-    check_plane(chroma, narrow, short)
-}
-
-// The Rust has no such check: it may skip rows, take the wrong last row or panic where this one refuses.
-fn check_whole_rows(lent: LentBuffer) -> YuvAnswer
-    requires { Bounded lent }
-    ensures { numbers_of result ≡ first_numbers (whole_rules lent) }
-{
-    let whole = lent.whole_size();
-    if lent.len == whole {
-        YuvAnswer::Finished
-    } else {
-        YuvAnswer::Refused(YuvError::WholeRowsMismatch(MismatchedSize {
-            expected: whole,
-            received: lent.len,
-        }))
-    }
+    check_size(frame.width, frame.height)?;
+    check_large(frame.window.source_width, frame.window.source_height)?;
+    check_matrix(frame.settings.matrix)?;
+    check_window(frame)
 }
 
 // Refuses a source (6, 7), a luma plane (8, 9), a chroma plane (10, 11) too short or too narrow for its rows, then one whose
-// rows are not whole (12). The sizes are those that `check_opening` lets through.
-fn check_buffers(source: LentBuffer, y: LentBuffer, u: LentBuffer, v: LentBuffer) -> YuvAnswer
-    requires bounded { Bounded source }
-    requires bounded_2 { Bounded y }
-    requires bounded_3 { Bounded u }
-    requires bounded_4 { Bounded v }
-    ensures { numbers_of result ≡ first_numbers (buffer_rules source y u v) }
+// rows are not whole (12).
+fn check_buffers(
+    source: LentBuffer,
+    y: LentBuffer,
+    u: LentBuffer,
+    v: LentBuffer,
+) -> Result<(), YuvError>
+    ensures numbers { numbers_of result ≡ first_numbers (buffer_rules source y u v) }
+    ensures whole { OnOk result (WholeRows source × WholeRows y × WholeRows u × WholeRows v) }
 {
-    let sizes = check_rgba_source(source)
-        .and(check_y8_channel(y))
-        .and(check_chroma_channel(ChromaPlane::U, u))
-        .and(check_chroma_channel(ChromaPlane::V, v));
-    let whole = check_whole_rows(source)
-        .and(check_whole_rows(y))
-        .and(check_whole_rows(u))
-        .and(check_whole_rows(v));
-    sizes.and(whole)
+    source.check_rgba_source()?;
+    y.check_y8_channel()?;
+    u.check_u_channel()?;
+    v.check_v_channel()?;
+    source.check_whole_rows()?;
+    y.check_whole_rows()?;
+    u.check_whole_rows()?;
+    v.check_whole_rows()
 }
 
 // Refusals 8 to 12, of planes that are read and not written.
-pub fn check_planes(y: LentBuffer, u: LentBuffer, v: LentBuffer) -> YuvAnswer
-    requires bounded { Bounded y }
-    requires bounded_2 { Bounded u }
-    requires bounded_3 { Bounded v }
-    ensures { numbers_of result ≡ first_numbers (planes_rules y u v) }
+pub fn check_planes(y: LentBuffer, u: LentBuffer, v: LentBuffer) -> Result<(), YuvError>
+    ensures numbers { numbers_of result ≡ first_numbers (planes_rules y u v) }
+    ensures whole { OnOk result (WholeRows y × WholeRows u × WholeRows v) }
 {
-    let rows_fit = check_y8_channel(y)
-        .and(check_chroma_channel(ChromaPlane::U, u))
-        .and(check_chroma_channel(ChromaPlane::V, v));
-    let rows_whole = check_whole_rows(y)
-        .and(check_whole_rows(u))
-        .and(check_whole_rows(v));
-    rows_fit.and(rows_whole)
+    y.check_y8_channel()?;
+    u.check_u_channel()?;
+    v.check_v_channel()?;
+    y.check_whole_rows()?;
+    u.check_whole_rows()?;
+    v.check_whole_rows()
 }
 
 // Refusals 6 to 12, for a source of `rows` rows.
-pub fn check_lent(frame: FrameDescription, rows: usize, stride: u32, lent: Lengths) -> YuvAnswer
+pub fn check_lent(
+    frame: FrameDescription,
+    rows: usize,
+    stride: u32,
+    lent: Lengths,
+) -> Result<(), YuvError>
     requires sized { Sized frame }
     requires le_rows { (1 ≤ rows) × (rows ≤ 16384) }
-    ensures { numbers_of result ≡ first_numbers (lent_rules frame rows stride lent) }
+    ensures numbers { numbers_of result ≡ first_numbers (lent_rules frame rows stride lent) }
+    ensures whole { OnOk result (WholeRows (source_of frame rows stride lent.source) × PlanesLent frame lent.y lent.u lent.v) }
 {
-    let settings = frame.settings;
-    let channels = settings.channels;
-    let sampling = settings.sampling;
-    let window = frame.window;
-    let width = frame.width as usize;
-    let height = frame.height as usize;
-    let row = window.source_width as usize * channels.get_channels_count();
-    let chroma_width = yuv_support::chroma_width(width);
-    let chroma_height = sampling.chroma_height(height);
+    let row = frame.window.source_width * frame.settings.channels.get_channels_count() as u32;
+    let chroma_width = yuv_support::chroma_width(frame.width as usize) as u32;
+    let chroma_height = frame.settings.sampling.chroma_height(frame.height as usize) as u32;
     check_buffers(
         LentBuffer {
             row,
-            rows,
+            rows: rows as u32,
             stride,
             len: lent.source,
         },
         LentBuffer {
-            row: width,
-            rows: height,
+            row: frame.width,
+            rows: frame.height,
             stride: frame.y_stride,
             len: lent.y,
         },

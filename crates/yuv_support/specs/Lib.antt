@@ -3,3 +3,4 @@ pub mod Channels
 pub mod Sampling
 pub mod Range
 pub mod Matrix
+pub mod Codes

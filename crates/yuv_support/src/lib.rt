@@ -1,14 +1,19 @@
 // The settings of a conversion, under the names of the Rust's yuv_support.rs.
 #![tactic(auto)]
 
-ghost use Rattle.std.specs.Prelude.{◌≡◌, ◌&&◌};
+mod codes; // settings from numbers, and as numbers
+
+ghost use Rattle.std.specs.Prelude.{◌≡◌};
 ghost use Rattle.yuv_support.specs.Channels.{channels_count, r_offset, g_offset, b_offset};
 ghost use Rattle.yuv_support.specs.Sampling.{chroma_width, chroma_height};
 ghost use Rattle.yuv_support.specs.Range.{yuv_range};
 ghost use Rattle.yuv_support.specs.Matrix.{kr_kb, in_half, accepted};
 
+use std::error::Error;
+use std::fmt;
+
 // Where the bytes of a pixel stand.
-#[derive(Clone, Copy)]
+#[derive(Clone, Copy, Debug, PartialEq, Eq, Hash)]
 pub enum YuvSourceChannels {
     Rgb,
     Rgba,
@@ -22,10 +27,8 @@ impl YuvSourceChannels {
         ensures { result ≡ channels_count self }
     {
         match self {
-            YuvSourceChannels::Rgb => 3,
-            YuvSourceChannels::Rgba => 4,
-            YuvSourceChannels::Bgra => 4,
-            YuvSourceChannels::Bgr => 3,
+            YuvSourceChannels::Rgb | YuvSourceChannels::Bgr => 3,
+            YuvSourceChannels::Rgba | YuvSourceChannels::Bgra => 4,
         }
     }
 
@@ -33,38 +36,29 @@ impl YuvSourceChannels {
         ensures { result ≡ r_offset self }
     {
         match self {
-            YuvSourceChannels::Rgb => 0,
-            YuvSourceChannels::Rgba => 0,
-            YuvSourceChannels::Bgra => 2,
-            YuvSourceChannels::Bgr => 2,
+            YuvSourceChannels::Rgb | YuvSourceChannels::Rgba => 0,
+            YuvSourceChannels::Bgra | YuvSourceChannels::Bgr => 2,
         }
     }
 
     pub fn get_g_channel_offset(self) -> usize
         ensures { result ≡ g_offset self }
     {
-        match self {
-            YuvSourceChannels::Rgb => 1,
-            YuvSourceChannels::Rgba => 1,
-            YuvSourceChannels::Bgra => 1,
-            YuvSourceChannels::Bgr => 1,
-        }
+        1
     }
 
     pub fn get_b_channel_offset(self) -> usize
         ensures { result ≡ b_offset self }
     {
         match self {
-            YuvSourceChannels::Rgb => 2,
-            YuvSourceChannels::Rgba => 2,
-            YuvSourceChannels::Bgra => 0,
-            YuvSourceChannels::Bgr => 0,
+            YuvSourceChannels::Rgb | YuvSourceChannels::Rgba => 2,
+            YuvSourceChannels::Bgra | YuvSourceChannels::Bgr => 0,
         }
     }
 }
 
 // How many rows of luma share a row of chroma; columns are always shared by two.
-#[derive(Clone, Copy)]
+#[derive(Clone, Copy, Debug, PartialEq, Eq, Hash)]
 pub enum YuvChromaSubsampling {
     Yuv420,
     Yuv422,
@@ -89,14 +83,14 @@ pub fn chroma_width(width: usize) -> usize
     width / 2 + width % 2
 }
 
-#[derive(Clone, Copy)]
+#[derive(Clone, Copy, Debug, PartialEq, Eq, Hash)]
 pub enum YuvRange {
     Limited,
     Full,
 }
 
 // The offsets and spans of a range at 8 bits.
-#[derive(Clone, Copy)]
+#[derive(Clone, Copy, Debug, PartialEq, Eq, Hash)]
 pub struct YuvChromaRange {
     pub bias_y: u8,
     pub bias_uv: u8,
@@ -124,7 +118,7 @@ pub fn get_yuv_range(range: YuvRange) -> YuvChromaRange
 }
 
 // The matrices; Custom carries kr, then kb.
-#[derive(Clone, Copy)]
+#[derive(Clone, Copy, Debug, PartialEq)]
 pub enum YuvStandardMatrix {
     Bt601,
     Bt709,
@@ -136,7 +130,7 @@ pub enum YuvStandardMatrix {
 }
 
 // The weights of red and of blue in luma.
-#[derive(Clone, Copy)]
+#[derive(Clone, Copy, Debug, PartialEq)]
 pub struct YuvBias {
     pub kr: f32,
     pub kb: f32,
@@ -177,13 +171,8 @@ impl YuvStandardMatrix {
         ensures { result ≡ accepted self }
     {
         match self {
-            YuvStandardMatrix::Bt601 => true,
-            YuvStandardMatrix::Bt709 => true,
-            YuvStandardMatrix::Bt2020 => true,
-            YuvStandardMatrix::Smpte240 => true,
-            YuvStandardMatrix::Bt470_6 => true,
-            YuvStandardMatrix::Fcc => true,
-            YuvStandardMatrix::Custom(kr, kb) => both_accepted(kr, kb),
+            YuvStandardMatrix::Custom(kr, kb) => in_half(kr) && in_half(kb),
+            _ => true,
         }
     }
 }
@@ -194,8 +183,14 @@ fn in_half(k: f32) -> bool
     k >= 0.0 && k <= 0.5
 }
 
-fn both_accepted(kr: f32, kb: f32) -> bool
-    ensures { result ≡ (in_half kr && in_half kb) }
-{
-    if in_half(kr) { in_half(kb) } else { false }
+// A number that is the code of no setting of its kind.
+#[derive(Clone, Copy, Debug, PartialEq, Eq, Hash)]
+pub struct UnknownCode(pub u32);
+
+impl fmt::Display for UnknownCode {
+    fn fmt<W: fmt::Write>(&self, f: &mut fmt::Formatter<W>) -> fmt::Result {
+        write!(f, "no setting has code {}", self.0)
+    }
 }
+
+impl Error for UnknownCode {}

@@ -17,11 +17,8 @@ returns-then-is_broken c =
 pub convert_frames-requires : goal.convert_frames-requires
 convert_frames-requires c =
     let n = lengths_of c.args.source.now c.args.y.now c.args.u.now c.args.v.now in
-    let u = unbroken c.args.convoy n (sym c.is_broken.ensures ∙ c.if-is_broken.false) in
-    record {
-      count_bound = u.few;
-      all_inside = all_inside c.args.convoy n u;
-    }
+    let u = unbroken c.args.frames.now n (sym c.is_broken.ensures ∙ c.if-is_broken.false) in
+    all_inside c.args.frames.now n u
 
 pub returns : goal.returns
 returns c =

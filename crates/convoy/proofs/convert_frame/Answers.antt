@@ -5,10 +5,10 @@ use Rattle.convoy.specs.Run.{planes_of}
 use Rattle.convoy.proofs.Calls.{unmade, made}
 use Rattle.convoy.proofs.convert_frame.Goals as goal
 
-pub returns-in-Malformed : goal.returns-in-Malformed
-returns-in-Malformed c = unmade c.args.frame c.args.source.now (planes_of c.args.y.now c.args.u.now c.args.v.now) c.in-Malformed.is
+pub returns-in-None : goal.returns-in-None
+returns-in-None c = unmade c.args.frame c.args.source.now (planes_of c.args.y.now c.args.u.now c.args.v.now) c.in-None.is
 
-pub returns-in-Frame : goal.returns-in-Frame
-returns-in-Frame c =
+pub returns-in-Some : goal.returns-in-Some
+returns-in-Some c =
     made c.args.frame c.args.source.now c.args.y.now c.args.u.now c.args.v.now _ c.rgbx_to_sharp_yuv.result _ _ _ _ _ _ _
-    (part_size c.args.frame.source) (part_size c.args.frame.y) (part_size c.args.frame.u) (part_size c.args.frame.v) c.in-Frame.is c.rgbx_to_sharp_yuv.ensures
+    (part_size c.args.frame.source) (part_size c.args.frame.y) (part_size c.args.frame.u) (part_size c.args.frame.v) c.in-Some.is c.rgbx_to_sharp_yuv.ensures

@@ -1,10 +1,9 @@
 -- `custom_at` meets its contract: past its end a list has NaN, which 0 / 0 is.
 -- Assumes nothing.
-use mathlib.Core.Path.{sym}
-use lib.Ieee.{nan, of_bits, div}
-use lib.ListN.{get_or-eq_default}
+use Rattle.std.proofs.Common.{rules}
+use lib.Ieee.{of_bits, div}
 use Rattle.convoy_calls.proofs.custom_at.Goals as goal
 
-pub returns-then-customs-i : goal.returns-then-customs-i
+pub returns : goal.returns
 unfolding div of_bits
-returns-then-customs-i c = sym (get_or-eq_default c.args.customs.now nan {n = c.args.i} c.if-customs-i.true)
+returns c = search rules

@@ -9,7 +9,8 @@ use lib.ListN.{get_or}
 use Rattle.yuv_support.specs.declared.YuvRange.{YuvRange}
 use Rattle.yuv_support.specs.declared.YuvStandardMatrix.{YuvStandardMatrix}
 use Rattle.yuv_support.specs.Matrix.{accepted}
-use Rattle.yuv_error.specs.declared.YuvAnswer.{YuvAnswer}
+use Rattle.std.specs.Prelude.{Result}
+use Rattle.yuv_error.specs.declared.YuvError.{YuvError}
 use Rattle.yuv_error.specs.Numbers.{Numbers}
 use Rattle.yuv_error.proofs.Numbers.{is_finished}
 use Rattle.definitions.specs.Painted.{Painted}
@@ -20,7 +21,7 @@ use Rattle.counts_request.proofs.Lines.{lines_like}
 use Rattle.counts_request.proofs.Puts.{Begins-as}
 use Rattle.counts_request.proofs.put_counts.Goals as goal
 
-module _ {range : YuvRange} {matrix : YuvStandardMatrix} {before after : List ℕ} {a : YuvAnswer} (ok : accepted matrix ≡ true)
+module _ {range : YuvRange} {matrix : YuvStandardMatrix} {before after : List ℕ} {a : Result Unit YuvError} (ok : accepted matrix ≡ true)
     (post : CountsPost range matrix before a after) where
   count : (y : ℕ) → y < 256 → get_or after y 0 ≡ count_of range matrix y
   count y l =

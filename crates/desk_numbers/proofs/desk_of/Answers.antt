@@ -1,26 +1,15 @@
-use mathlib.Core.Path.{refl}
-use native.Mathlib.Omega.{arith}
+-- `desk_of` meets its contract: each place is made from its numbers.
+-- Assumes nothing.
+use Rattle.std.proofs.Common.{rules, get_or}
 use Rattle.desk_places.specs.declared.Slot.TheVariants.{Free}
-use Rattle.desk_places.specs.declared.Place.{Place}
 use Rattle.desk.specs.declared.Desk.{Desk}
-use Rattle.convoy_calls.proofs.Frames.{filled_next, Filled-all}
+use Rattle.convoy_calls.proofs.Made.{made_map}
 use Rattle.desk_numbers.specs.Numbers.{desk_numbers, place_of, desk_of}
 use Rattle.desk_numbers.proofs.desk_of.Goals as goal
-
-abbrev none : Place
-none = record { slot = Free }
-
-pub loop-k-init : goal.loop-k-init
-loop-k-init c = record { size = refl; most = omega arith; at = λ j l. absurd (omega arith) }
-
-pub loop-k-preserved : goal.loop-k-preserved
-loop-k-preserved c =
-    filled_next 32 (place_of (desk_numbers c.args.numbers.now c.args.customs.now c.args.parts.now)) none c.loop-k.places c.loop-k.k c.place_of.result
-    c.loop-k-test.true c.place_of.ensures c.loop-k.invariant
 
 pub returns : goal.returns
 unfolding desk_of
 returns c =
-    let places = Filled-all 32 (place_of (desk_numbers c.args.numbers.now c.args.customs.now c.args.parts.now)) none c.loop-k.places c.loop-k.k
-    c.loop-k-test.false c.loop-k.invariant in
-    λ i. let r : Desk = record { places = places i; from = c.wide-from.ensures i } in r
+    let places = made_map _ _ (place_of (desk_numbers c.args.numbers.now c.args.customs.now c.args.parts.now)) (λ i y q k. search rules) Free
+    c.from_fn.result 32 c.from_fn.ensures.items in
+    λ i. let r : Desk = record { places = places i; from = get_or c.args.numbers.now 608 0 } in r

@@ -33,17 +33,17 @@ negated n h = ap (λ (z : ℤ). pos 0 -ℤ z) (to_z_pos w32 n (lt_of_lt_of_le h 
 negated_fits : (n : ℕ) → n < 2 ^ 16 → SFits w32 (pos 0 -ℤ to_z w32 n)
 negated_fits n h = subst (λ (z : ℤ). SFits w32 z) (sym (negated n h)) (fits_i32 (neg_ℤ (pos n)) (omega (arith, size_neg n)))
 
-pub nearest_whole-requires-clause-fact_1 : goal.nearest_whole-requires-clause-fact_1
+pub nearest_whole-requires-clause-small : goal.nearest_whole-requires-clause-small
 unfolding of_bits
-nearest_whole-requires-clause-fact_1 c =
+nearest_whole-requires-clause-small c =
     let below : T (lt c.args.x zero) =
     subst T (sym c.if-x.true) tt in
     let o = opposite c.args.x c.requires below in
     o.0
 
-pub nearest_whole-requires-clause-fact_2 : goal.nearest_whole-requires-clause-fact_2
+pub nearest_whole-requires-clause-not_negative : goal.nearest_whole-requires-clause-not_negative
 unfolding of_bits
-nearest_whole-requires-clause-fact_2 c =
+nearest_whole-requires-clause-not_negative c =
     let below : T (lt c.args.x zero) =
     subst T (sym c.if-x.true) tt in
     let o = opposite c.args.x c.requires below in

@@ -1,37 +1,16 @@
 -- `band_told` meets its contract: numbers without a meaning are refused before the band call, and the band call's promise is kept.
 -- Assumes nothing.
-use mathlib.Core.Path.{◌≡◌, refl, sym, ◌∙◌}
-use mathlib.Core.Bool.{false}
-use native.Mathlib.Omega.{arith}
-use Rattle.call_numbers.specs.Codes.{is_malformed}
-use Rattle.call_numbers.proofs.Numbers.{counted}
+use mathlib.Core.Path.{refl, sym, ◌∙◌}
+use Rattle.call_numbers.proofs.Numbers.{described_ok, described_err}
 use Rattle.frame_calls.proofs.Answered.{holds, fails, banded}
 use Rattle.frame_calls.proofs.band_told.Goals as goal
 
-pub returns-then-is_malformed : goal.returns-then-is_malformed
-returns-then-is_malformed c = holds _ (sym c.is_malformed.ensures ∙ c.if-is_malformed.true) (refl, (c.number_at.ensures, refl, refl, refl, refl))
+pub returns-in-Err : goal.returns-in-Err
+returns-in-Err c =
+    let p = described_err 3 c.args.numbers.now c.args.custom.now (sym c.described.ensures.value ∙ c.in-Err.is) in
+    holds _ p.0 (rw p.1, (c.number_at.ensures, refl, refl, refl, refl))
 
-pub describe_after-frame-requires : goal.describe_after-frame-requires
-describe_after-frame-requires c =
-    let meant : is_malformed 3 c.args.numbers.now ≡ false = sym c.is_malformed.ensures ∙ c.if-is_malformed.false in
-    (omega arith, meant)
-
-pub bounds-numbers-0 : goal.bounds-numbers-0
-bounds-numbers-0 c =
-    let meant : is_malformed 3 c.args.numbers.now ≡ false = sym c.is_malformed.ensures ∙ c.if-is_malformed.false in
-    omega (arith, counted 3 _ meant)
-
-pub bounds-numbers-1 : goal.bounds-numbers-1
-bounds-numbers-1 c =
-    let meant : is_malformed 3 c.args.numbers.now ≡ false = sym c.is_malformed.ensures ∙ c.if-is_malformed.false in
-    omega (arith, counted 3 _ meant)
-
-pub bounds-numbers-2 : goal.bounds-numbers-2
-bounds-numbers-2 c =
-    let meant : is_malformed 3 c.args.numbers.now ≡ false = sym c.is_malformed.ensures ∙ c.if-is_malformed.false in
-    omega (arith, counted 3 _ meant)
-
-pub returns : goal.returns
-returns c =
-    let meant : is_malformed 3 c.args.numbers.now ≡ false = sym c.is_malformed.ensures ∙ c.if-is_malformed.false in
-    fails _ meant (banded c.describe_after-frame.ensures c.band-converted.ensures)
+pub returns-in-Ok : goal.returns-in-Ok
+returns-in-Ok c =
+    let p = described_ok 3 c.args.numbers.now c.args.custom.now (sym c.described.ensures.value ∙ c.in-Ok.is) in
+    fails _ p.0 (banded (sym p.1) c.band-converted.ensures)

@@ -1,27 +1,19 @@
 -- `frame_answer` meets its contract: numbers without a meaning are refused before the frame call, and the frame call's promise is kept.
 -- Assumes nothing.
-use mathlib.Core.Path.{◌≡◌, refl, sym, ◌∙◌}
-use mathlib.Core.Bool.{false}
-use native.Mathlib.Omega.{arith}
-use Rattle.call_numbers.specs.Codes.{is_malformed}
-use Rattle.call_numbers.proofs.Numbers.{counted}
+use Rattle.std.proofs.Common.{rules, ◌≡◌}
+use Rattle.std.specs.Prelude.{Err}
+use mathlib.Core.Path.{refl, sym, ◌∙◌}
+use Rattle.call_numbers.proofs.Numbers.{described_ok, described_err}
 use Rattle.frame_calls.proofs.Answered.{holds, fails}
 use Rattle.frame_calls.proofs.frame_answer.Goals as goal
 
-pub returns-then-is_malformed : goal.returns-then-is_malformed
-returns-then-is_malformed c = holds _ (sym c.is_malformed.ensures ∙ c.if-is_malformed.true) (refl, (refl, refl, refl))
-
-pub describe_after-frame-requires : goal.describe_after-frame-requires
-describe_after-frame-requires c =
-    let meant : is_malformed 1 c.args.numbers.now ≡ false = sym c.is_malformed.ensures ∙ c.if-is_malformed.false in
-    (omega arith, meant)
-
-pub bounds-numbers-0 : goal.bounds-numbers-0
-bounds-numbers-0 c =
-    let meant : is_malformed 1 c.args.numbers.now ≡ false = sym c.is_malformed.ensures ∙ c.if-is_malformed.false in
-    omega (arith, counted 1 _ meant)
+pub returns-in_err-frame : goal.returns-in_err-frame
+returns-in_err-frame c =
+    let p = described_err 1 c.args.numbers.now c.args.custom.now (sym c.described.ensures.value ∙ c.in_err-frame.was) in
+    let same : c.from_residual.result ≡ Err c.in_err-frame.field-0.0 = search rules in
+    holds _ p.0 (rw (same, p.1), (refl, refl, refl))
 
 pub returns : goal.returns
 returns c =
-    let meant : is_malformed 1 c.args.numbers.now ≡ false = sym c.is_malformed.ensures ∙ c.if-is_malformed.false in
-    fails _ meant (rw c.describe_after-frame.ensures at c.rgbx_to_sharp_yuv.ensures)
+    let p = described_ok 1 c.args.numbers.now c.args.custom.now (sym c.described.ensures.value ∙ c.in_ok-frame.was) in
+    fails _ p.0 (rw p.1 c.rgbx_to_sharp_yuv.ensures)

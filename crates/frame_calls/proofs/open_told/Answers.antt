@@ -1,21 +1,16 @@
 -- `open_told` meets its contract: numbers without a meaning are refused before the opening, and the opening's promise is kept.
 -- Assumes nothing.
-use mathlib.Core.Path.{◌≡◌, refl, sym, ◌∙◌}
-use mathlib.Core.Bool.{false}
-use native.Mathlib.Omega.{arith}
-use Rattle.call_numbers.specs.Codes.{is_malformed}
+use mathlib.Core.Path.{refl, sym, ◌∙◌}
+use Rattle.call_numbers.proofs.Numbers.{described_ok, described_err}
 use Rattle.frame_calls.proofs.Answered.{holds, fails, opened}
 use Rattle.frame_calls.proofs.open_told.Goals as goal
 
-pub returns-then-is_malformed : goal.returns-then-is_malformed
-returns-then-is_malformed c = holds _ (sym c.is_malformed.ensures ∙ c.if-is_malformed.true) (refl, refl)
+pub returns-in-Err : goal.returns-in-Err
+returns-in-Err c =
+    let p = described_err 0 c.args.numbers.now c.args.custom.now (sym c.described.ensures.value ∙ c.in-Err.is) in
+    holds _ p.0 (rw p.1, refl)
 
-pub describe_after-requires : goal.describe_after-requires
-describe_after-requires c =
-    let meant : is_malformed 0 c.args.numbers.now ≡ false = sym c.is_malformed.ensures ∙ c.if-is_malformed.false in
-    (omega arith, meant)
-
-pub returns : goal.returns
-returns c =
-    let meant : is_malformed 0 c.args.numbers.now ≡ false = sym c.is_malformed.ensures ∙ c.if-is_malformed.false in
-    fails _ meant (opened c.describe_after.ensures c.open-opened.ensures)
+pub returns-in-Ok : goal.returns-in-Ok
+returns-in-Ok c =
+    let p = described_ok 0 c.args.numbers.now c.args.custom.now (sym c.described.ensures.value ∙ c.in-Ok.is) in
+    fails _ p.0 (opened (sym p.1) c.open-opened.ensures)

@@ -9,7 +9,9 @@ use lib.Seq.{take_all}
 use Rattle.frame_request.specs.Request.{frame_of, source_stride, luma_size, chroma_size}
 use Rattle.frame_request.specs.Packed.{Packed}
 use Rattle.frame_request.proofs.Checked.{Checked, checked, packed}
-use Rattle.frame_request.proofs.Post.{called, posted}
+use Rattle.std.proofs.Common.{rules}
+use Rattle.std.specs.Prelude.{Err}
+use Rattle.frame_request.proofs.Post.{called, posted, refused_late}
 use Rattle.frame_request.proofs.convert.Goals as goal
 
 -- the part of the input that is lent: all past the header
@@ -41,8 +43,8 @@ slice_bounds-convert_into-start c =
     let known : Checked c.args.input.now = checked c.args.input.now c.requires.input_value in
     omega (arith, known)
 
-pub convert_into-answer-requires : goal.convert_into-answer-requires
-convert_into-answer-requires c =
+pub convert_into-requires : goal.convert_into-requires
+convert_into-requires c =
     let known : Checked c.args.input.now = checked c.args.input.now c.requires.input_value in
     let fits : Packed (frame_of c.args.input.now) c.plane_sizes-sizes.result =
     packed c.args.input.now c.plane_sizes-sizes.result known
@@ -52,16 +54,16 @@ convert_into-answer-requires c =
       in_bounds = c.requires.in_bounds;
     }
 
-pub overflow_mul-sizes : goal.overflow_mul-sizes
-overflow_mul-sizes c =
+pub overflow_mul-result : goal.overflow_mul-result
+overflow_mul-result c =
     let known : Checked c.args.input.now = checked c.args.input.now c.requires.input_value in
     let fits : Packed (frame_of c.args.input.now) c.plane_sizes-sizes.result =
     packed c.args.input.now c.plane_sizes-sizes.result known
     (c.plane_sizes-sizes.ensures.0 ∙ ap luma_size c.frame_of-frame.ensures) (c.plane_sizes-sizes.ensures.1 ∙ ap chroma_size c.frame_of-frame.ensures) in
     omega (arith, fits)
 
-pub overflow_add-sizes : goal.overflow_add-sizes
-overflow_add-sizes c =
+pub overflow_add-result : goal.overflow_add-result
+overflow_add-result c =
     let known : Checked c.args.input.now = checked c.args.input.now c.requires.input_value in
     let fits : Packed (frame_of c.args.input.now) c.plane_sizes-sizes.result =
     packed c.args.input.now c.plane_sizes-sizes.result known
@@ -75,8 +77,15 @@ returns c =
     packed c.args.input.now c.plane_sizes-sizes.result known
     (c.plane_sizes-sizes.ensures.0 ∙ ap luma_size c.frame_of-frame.ensures) (c.plane_sizes-sizes.ensures.1 ∙ ap chroma_size c.frame_of-frame.ensures) in
     let w = fits in
-    posted c.args.input.now c.args.output.now _ c.convert_into-answer.result (c.plane_sizes-sizes.result.luma + 2 * c.plane_sizes-sizes.result.chroma)
-    c.respond.ensures (omega (arith, w))
-    (called c.args.input.now c.args.output.now _ c.frame_of-frame.result c.source_stride-stride.result _ c.convert_into-answer.result c.frame_of-frame.ensures
-    (c.source_stride-stride.ensures ∙ ap source_stride c.frame_of-frame.ensures) (rest c.args.input.now) c.requires.input_value c.convert_into-answer.ensures.result_value
-    c.convert_into-answer.ensures.painted)
+    posted c.in_ok-convert_into.was (omega (arith, w))
+    (called c.args.input.now c.args.output.now _ c.frame_of-frame.result c.source_stride-stride.result _ c.convert_into.result c.frame_of-frame.ensures
+    (c.source_stride-stride.ensures ∙ ap source_stride c.frame_of-frame.ensures) (rest c.args.input.now) c.requires.input_value c.convert_into.ensures.result_value
+    c.convert_into.ensures.painted)
+
+pub returns-in_err-convert_into : goal.returns-in_err-convert_into
+returns-in_err-convert_into c =
+    let is : c.from_residual.result ≡ Err c.in_err-convert_into.field-0.0 = search rules in
+    rw is (refused_late c.in_err-convert_into.was
+    (called c.args.input.now c.args.output.now _ c.frame_of-frame.result c.source_stride-stride.result _ c.convert_into.result c.frame_of-frame.ensures
+    (c.source_stride-stride.ensures ∙ ap source_stride c.frame_of-frame.ensures) (rest c.args.input.now) c.requires.input_value c.convert_into.ensures.result_value
+    c.convert_into.ensures.painted))

@@ -7,12 +7,12 @@ use Rattle.frame_request.proofs.reply_into.Goals as goal
 pub put_refusal-requires : goal.put_refusal-requires
 put_refusal-requires c =
     record {
-      number_bound = refused_below c.answer_into-response.ensures c.in-Refused.is c.error_numbers-numbers.ensures;
-      in_bounds = omega (arith, c.answer_into-response.auto);
+      number_bound = refused_below c.answer_into.ensures c.in-Err.is c.error_numbers.ensures;
+      in_bounds = omega (arith, c.answer_into.auto);
     }
 
-pub returns-in-Planes : goal.returns-in-Planes
-returns-in-Planes c = planes_replied c.answer_into-response.ensures c.in-Planes.is c.requires
+pub returns-in-Ok : goal.returns-in-Ok
+returns-in-Ok c = planes_replied c.answer_into.ensures c.in-Ok.is c.requires
 
-pub returns-in-Refused : goal.returns-in-Refused
-returns-in-Refused c = refused_replied c.answer_into-response.ensures c.in-Refused.is c.error_numbers-numbers.ensures c.put_refusal.ensures
+pub returns-in-Err : goal.returns-in-Err
+returns-in-Err c = refused_replied c.answer_into.ensures c.in-Err.is c.error_numbers.ensures c.put_refusal.ensures

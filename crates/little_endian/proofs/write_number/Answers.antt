@@ -1,16 +1,10 @@
-use mathlib.Core.Path.{sym, ◌∙◌}
+-- `write_number` meets its contract: the number's own bytes, then 0.
 use native.Mathlib.Omega.{arith}
-use lib.ListN.{length-set}
-use Rattle.little_endian.proofs.Stores.{number_more, number_done}
-use Rattle.std.proofs.Common.{true, false}
+use Rattle.std.proofs.lemmas.Grind.{common_steps}
+use Rattle.little_endian.proofs.Stores.{number_put}
 use Rattle.little_endian.proofs.write_number.Goals as goal
 
-pub loop-i-preserved : goal.loop-i-preserved
-loop-i-preserved c = (
-  number_more _ _ _ _ _ c.loop-i-test.true ∙ c.loop-i.invariant.0,
-  rw length-set c.loop-i.invariant.1,
-  omega arith,
-)
-
 pub returns : goal.returns
-returns c = sym (number_done _ _ _ _ _ c.loop-i-test.false) ∙ c.loop-i.invariant.0
+returns c =
+    number_put c.args.output.now _ _ c.args.at c.args.size c.args.number c.min-known.result _ _ c.requires (omega arith) c.min-known.ensures
+    (grind (arith, common_steps)) (omega arith) (omega arith) (grind (arith, common_steps))

@@ -1,7 +1,7 @@
 -- The reply to what was read is the reply to all that the reader had: what stands past the buffer changes no byte of it.
 use Rattle.std.proofs.Common.{◌≡◌, ℕ, ◌<◌, ◌≤◌, List, [], ◌++◌, length, take, None, Some, IfSome, Option, sym, ap, ◌∙◌, subst, arith, append-nil, length-take-le, inl, inr}
 use Rattle.std.specs.Io.KnownBytes.{Appends, Consumes, IsAtEnd}
-use Rattle.std.proofs.lemmas.Bool.{OnTrue_at, not-false, cases_order}
+use Rattle.std.proofs.lemmas.Bool.{cases_order}
 use Rattle.counts_request.specs.Reply.{reply}
 use Rattle.counts_request.proofs.Reply.{reply_enough}
 use Rattle.luma_counts.proofs.answer.Goals as goal
@@ -33,18 +33,18 @@ replied_start None b w v bs taken most end p = tt
 replied_start (Some x) None w v bs taken most end p = absurd taken
 replied_start (Some x) (Some y) w v bs taken most end (n, p) = (n, subst (λ xs. Appends w v (take n xs)) (same_reply bs y most end ∙ ap reply (sym taken)) p)
 
-pub returns-then-write_reply-clause-answered : goal.returns-then-write_reply-clause-answered
-returns-then-write_reply-clause-answered g c =
-    let read = c.read_input-read in
-    let size : length (take read.result.size read.new.buffer) ≡ read.result.size = length-take-le _ _ read.ensures.within in
-    let ended = OnTrue_at (not-false read.result.whole c.if-not-read.false) read.ensures.whole in
-    replied (g.R.Read.remaining c.args.reader.now) (g.R.Read.remaining read.new.reader) (g.W.Write.contents c.args.writer.now) (g.W.Write.contents c.write_reply.new.writer)
-    (take read.result.size read.new.buffer) read.ensures.bytes (omega arith) (λ short. ended (omega arith)) c.if-write_reply.ensures.all
+pub returns-in-Ok-write_reply-clause-answered : goal.returns-in-Ok-write_reply-clause-answered
+returns-in-Ok-write_reply-clause-answered g c =
+    let read = c.in-Ok in
+    let bytes = take read.size c.read_input.new.buffer in
+    let size : length bytes ≡ read.size = length-take-le _ _ read.ensures.within in
+    replied (g.R.Read.remaining c.args.reader.now) (g.R.Read.remaining c.read_input.new.reader) (g.W.Write.contents c.args.writer.now) (g.W.Write.contents c.write_reply.new.writer)
+    bytes read.ensures.bytes (omega (arith, size, read.ensures.within, c.read_input.auto.buffer)) (λ short. read.ensures.whole (omega (arith, short, size, c.read_input.auto.buffer))) c.in-Ok-write_reply.ensures.all
 
-pub returns-else-write_reply-clause-cut : goal.returns-else-write_reply-clause-cut
-returns-else-write_reply-clause-cut g c = λ _.
-    let read = c.read_input-read in
-    let size : length (take read.result.size read.new.buffer) ≡ read.result.size = length-take-le _ _ read.ensures.within in
-    let ended = OnTrue_at (not-false read.result.whole c.if-not-read.false) read.ensures.whole in
-    replied_start (g.R.Read.remaining c.args.reader.now) (g.R.Read.remaining read.new.reader) (g.W.Write.contents c.args.writer.now) (g.W.Write.contents c.write_reply.new.writer)
-    (take read.result.size read.new.buffer) read.ensures.bytes (omega arith) (λ short. ended (omega arith)) c.if-write_reply.ensures.start
+pub returns-in-Err-clause-cut : goal.returns-in-Err-clause-cut
+returns-in-Err-clause-cut g c = λ _.
+    let read = c.in-Ok in
+    let bytes = take read.size c.read_input.new.buffer in
+    let size : length bytes ≡ read.size = length-take-le _ _ read.ensures.within in
+    replied_start (g.R.Read.remaining c.args.reader.now) (g.R.Read.remaining c.read_input.new.reader) (g.W.Write.contents c.args.writer.now) (g.W.Write.contents c.write_reply.new.writer)
+    bytes read.ensures.bytes (omega (arith, size, read.ensures.within, c.read_input.auto.buffer)) (λ short. read.ensures.whole (omega (arith, short, size, c.read_input.auto.buffer))) c.in-Err.ensures.start

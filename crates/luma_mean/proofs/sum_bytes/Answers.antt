@@ -8,7 +8,6 @@ use lib.ListN.{length, get_or, drop, drop_of_length-le}
 use lib.Seq.{drop-cons}
 use Rattle.luma_mean.specs.Mean.{sum}
 use Rattle.luma_mean.proofs.sum_bytes.Goals as goal
-use Rattle.luma_mean.proofs.sum_bytes.Goals as goal
 
 one_more : (l : List ℕ) (i : ℕ) → i < length l → sum (drop i l) ≡ get_or l i 0 + sum (drop (i + 1) l)
 unfolding sum
@@ -18,8 +17,8 @@ none_left : (l : List ℕ) (i : ℕ) → length l ≤ i → sum (drop i l) ≡ 0
 unfolding sum
 none_left l i h = rw (drop_of_length-le l h)
 
-pub loop-i-preserved : goal.loop-i-preserved
-loop-i-preserved c = omega (arith, c.type_inv.luma c.loop-i.i, one_more c.args.luma.now c.loop-i.i (omega arith))
+pub loop-byte-preserved : goal.loop-byte-preserved
+loop-byte-preserved c = omega (arith, c.type_inv.luma c.loop-byte.byte-index, one_more c.args.luma.now c.loop-byte.byte-index (omega arith))
 
 pub returns : goal.returns
-returns c = omega (arith, none_left c.args.luma.now c.loop-i.i (omega arith))
+returns c = omega (arith, none_left c.args.luma.now c.loop-byte.byte-index (omega arith))

@@ -8,6 +8,6 @@ use Rattle.pixel_pairs.proofs.at.Goals as goal
 
 pub returns : goal.returns
 unfolding pixels_of
-returns c =
-    let first : c.args.x * c.args.count + 0 ≡ c.args.x * c.args.count = omega arith in
+returns g c =
+    let first : c.args.x * g.row.N + 0 ≡ c.args.x * g.row.N = omega arith in
     rw first

@@ -1,5 +1,5 @@
 -- Both loops: the planes are equal up to the place. A number or a byte that differs below the end stops the front below it. Assumes nothing.
-use Prim.Native.Nat.{◌-◌, ◌≤◌}
+use Rattle.std.proofs.Common.{◌-◌, ◌≤◌}
 use Rattle.plane_difference.specs.Difference.{equal_front}
 use Rattle.plane_difference.proofs.is_row_equal.Given as goal
 
@@ -9,8 +9,5 @@ invariant-loop-at l = (l.at ≤ l.end) × (l.at ≤ equal_front l.ours l.theirs)
 abbrev pub decreases-loop-at : goal.decreases-loop-at
 decreases-loop-at l = l.end - l.at
 
-abbrev pub invariant-loop-at-2 : goal.invariant-loop-at-2
-invariant-loop-at-2 l = (l.at ≤ l.end) × (l.at ≤ equal_front l.ours l.theirs)
-
-abbrev pub decreases-loop-at-2 : goal.decreases-loop-at-2
-decreases-loop-at-2 l = l.end - l.at
+abbrev pub invariant-loop-tail : goal.invariant-loop-tail
+invariant-loop-tail l = l.tail ≤ equal_front l.ours l.theirs

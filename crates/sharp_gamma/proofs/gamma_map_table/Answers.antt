@@ -1,7 +1,19 @@
-use native.Mathlib.Omega.{arith}
+-- Above the first index of 255 every entry is 255.
+-- Assumes nothing.
+use Rattle.std.proofs.Common.{◌≡◌, ℕ, get_or, subst, arith, rules}
+use Rattle.std.proofs.lemmas.Grind.{common_steps}
+use Rattle.sharp_gamma.specs.Entry.{gamma_entry}
 use Rattle.sharp_gamma.proofs.Bounds.{gamma_entry-le}
-use Rattle.sharp_gamma.proofs.Filled.{finish}
+use Rattle.sharp_gamma.proofs.Filled.{Filled, finish}
 use Rattle.sharp_gamma.proofs.gamma_map_table.Goals as goal
 
 pub returns : goal.returns
-returns c = finish c.loop-k.invariant.2 (omega arith) c.loop-i-2.invariant.1 (omega arith) _ c.first_index_table-first.ensures (gamma_entry-le _ _)
+returns c =
+    let entry = gamma_entry c.args.transfer c.args.rounding in
+    let first = c.first_index_table-first.result in
+    let all : c.loop-k.k ≡ 255 = omega arith in
+    let filled = subst (λ (k : ℕ). Filled entry c.loop-k.table (get_or first k 0) k) all (c.loop-k.invariant.2 entry c.first_index_table-first.ensures) in
+    record {
+      size = grind (arith, common_steps);
+      at = finish {run = c.fill-2.new.self} filled (gamma_entry-le c.args.transfer c.args.rounding) c.loop-k.invariant.0 (omega arith) (search rules) _;
+    }

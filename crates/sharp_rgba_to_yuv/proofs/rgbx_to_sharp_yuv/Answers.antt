@@ -1,53 +1,44 @@
 -- `rgbx_to_sharp_yuv` meets its contract: the check decides, and the work of an accepted frame is that of a band of all its rows.
 -- Assumes nothing.
-use Rattle.yuv_error.specs.declared.Lengths.{Lengths}
+use Rattle.std.proofs.Common.{rules, ◌≡◌}
+use Rattle.std.specs.Prelude.{Ok, Err}
+use Rattle.yuv_error.specs.Numbers.{numbers_of}
 use Rattle.yuv_error.specs.Lent.{lengths_of}
-use Rattle.yuv_error.proofs.First.{finished_number}
-use Rattle.sharp_rgba_to_yuv.specs.FrameCall.{frame_rules}
-use Rattle.sharp_rgba_to_yuv.proofs.Accepted.{Accepted, accepted}
+use Rattle.sharp_rgba_to_yuv.proofs.Accepted.{answered}
 use Rattle.sharp_rgba_to_yuv.proofs.Post.{refused, finished}
 use Prim.Native.Nat.{◌*◌}
+use mathlib.Core.Path.{refl, sym, ap, ◌∙◌}
 use native.Mathlib.Omega.{arith}
 use lib.ListN.{length-drop}
 use Rattle.definitions.proofs.Windows.{rest}
 use Rattle.sharp_rgba_to_yuv.proofs.rgbx_to_sharp_yuv.Goals as goal
 
-pub returns-in-Refused : goal.returns-in-Refused
-returns-in-Refused c =
-    refused c.args.frame c.args.stride c.args.source.now c.args.y.now c.args.u.now c.args.v.now c.check_frame-answer.result c.check_frame-answer.ensures
-    c.in-Refused.is
+pub returns-in_err-check_frame : goal.returns-in_err-check_frame
+returns-in_err-check_frame c =
+    let is : c.from_residual.result ≡ Err c.in_err-check_frame.field-0.0 = search rules in
+    let same : numbers_of c.from_residual.result ≡ numbers_of c.check_frame.result = search rules in
+    refused c.args.frame c.args.stride c.args.source.now c.args.y.now c.args.u.now c.args.v.now c.from_residual.result
+    (same ∙ c.check_frame.ensures.numbers) is
 
 pub overflow_mul-at : goal.overflow_mul-at
 overflow_mul-at c =
-    let lengths : Lengths = lengths_of c.args.source.now c.args.y.now c.args.u.now c.args.v.now in
-    let facts : Accepted c.args.frame c.args.stride lengths =
-    let n = lengths in
-    accepted c.args.frame c.args.stride n (finished_number (frame_rules c.args.frame c.args.stride n) c.in-Finished.is c.check_frame-answer.ensures) in
-    omega (arith, facts.inside)
+    let n = lengths_of c.args.source.now c.args.y.now c.args.u.now c.args.v.now in
+    omega (arith, (answered c.args.frame c.args.stride n c.in_ok-check_frame.was c.check_frame.ensures.numbers).inside)
 
 pub slice_bounds-sharpen_band-count : goal.slice_bounds-sharpen_band-count
 slice_bounds-sharpen_band-count c =
-    let lengths : Lengths = lengths_of c.args.source.now c.args.y.now c.args.u.now c.args.v.now in
-    let facts : Accepted c.args.frame c.args.stride lengths =
-    let n = lengths in
-    accepted c.args.frame c.args.stride n (finished_number (frame_rules c.args.frame c.args.stride n) c.in-Finished.is c.check_frame-answer.ensures) in
-    omega (arith, facts.inside)
+    let n = lengths_of c.args.source.now c.args.y.now c.args.u.now c.args.v.now in
+    omega (arith, (answered c.args.frame c.args.stride n c.in_ok-check_frame.was c.check_frame.ensures.numbers).inside)
 
 pub slice_bounds-sharpen_band-start : goal.slice_bounds-sharpen_band-start
 slice_bounds-sharpen_band-start c =
-    let lengths : Lengths = lengths_of c.args.source.now c.args.y.now c.args.u.now c.args.v.now in
-    let facts : Accepted c.args.frame c.args.stride lengths =
-    let n = lengths in
-    accepted c.args.frame c.args.stride n (finished_number (frame_rules c.args.frame c.args.stride n) c.in-Finished.is c.check_frame-answer.ensures) in
-    omega (arith, facts.inside)
+    let n = lengths_of c.args.source.now c.args.y.now c.args.u.now c.args.v.now in
+    omega (arith, (answered c.args.frame c.args.stride n c.in_ok-check_frame.was c.check_frame.ensures.numbers).inside)
 
 pub sharpen_band-requires : goal.sharpen_band-requires
 sharpen_band-requires c =
-    let lengths : Lengths = lengths_of c.args.source.now c.args.y.now c.args.u.now c.args.v.now in
-    let facts : Accepted c.args.frame c.args.stride lengths =
-    let n = lengths in
-    accepted c.args.frame c.args.stride n (finished_number (frame_rules c.args.frame c.args.stride n) c.in-Finished.is c.check_frame-answer.ensures) in
-    let f = facts in
+    let n = lengths_of c.args.source.now c.args.y.now c.args.u.now c.args.v.now in
+    let f = answered c.args.frame c.args.stride n c.in_ok-check_frame.was c.check_frame.ensures.numbers in
     let at = c.args.frame.window.top * c.args.stride in
     record {
       lent = rw (rest at c.args.source.now, length-drop at c.args.source.now) f.lent;
@@ -56,5 +47,6 @@ sharpen_band-requires c =
 
 pub returns : goal.returns
 returns c =
-    finished c.args.frame c.args.stride c.args.source.now c.args.y.now c.args.u.now c.args.v.now c.check_frame-answer.result c.check_frame-answer.ensures
-    c.in-Finished.is _ _ _ (rw (rest (c.args.frame.window.top * c.args.stride) c.args.source.now) at c.sharpen_band.ensures)
+    finished c.args.frame c.args.stride c.args.source.now c.args.y.now c.args.u.now c.args.v.now (Ok tt)
+    (sym (ap numbers_of c.in_ok-check_frame.was) ∙ c.check_frame.ensures.numbers) refl _ _ _
+    (rw (rest (c.args.frame.window.top * c.args.stride) c.args.source.now) at c.sharpen_band.ensures)

@@ -1,35 +1,25 @@
--- `fours420` meets its contract: a pixel has 3 bytes or 4.
--- Assumes nothing.
-use mathlib.Core.Path.{◌≡◌, sym, ◌∙◌}
 use native.Mathlib.Omega.{arith}
-use Rattle.definitions.specs.Image.{pixel_size}
-use Rattle.pixel_pairs.proofs.Pairs.{lent420}
+use Rattle.pixel_pairs.specs.Rows.{LumasPainted, inputs420}
+use Rattle.pixel_pairs.proofs.Pairs.{rows_room, begun_to, begun_more, Begun420-none}
 use Rattle.sharpen_row.proofs.fours420.Goals as goal
 
-pub rgb420-requires : goal.rgb420-requires
-rgb420-requires c =
-    let three : 3 ≡ pixel_size c.args.rows.frame = sym c.if-count-eq3.true ∙ c.pixel_size-count.ensures.0 in
+pub loop-k-init : goal.loop-k-init
+loop-k-init g c = Begun420-none _ _ _ _ _ _ _
+
+pub four420-c-requires : goal.four420-c-requires
+four420-c-requires g c =
     record {
-      prepared = c.requires.prepared;
-      rows420 = lent420 three c.requires.lent420;
-      chroma_room = c.requires.lent420.chroma;
+      rows420 = rows_room c.args.y.now c.loop-k.invariant.luma.size c.requires.rows;
+      inside = omega arith;
     }
 
-pub rgba420-requires : goal.rgba420-requires
-rgba420-requires c =
-    let four : 4 ≡ pixel_size c.args.rows.frame = omega (arith, c.if-count-eq3.false, c.pixel_size-count.ensures) in
-    record {
-      prepared = c.requires.prepared;
-      rows420 = lent420 four c.requires.lent420;
-      chroma_room = c.requires.lent420.chroma;
-    }
+pub put_chromas-requires : goal.put_chromas-requires
+put_chromas-requires g c =
+    (omega (arith, c.requires.chroma.in_u, c.loop-k.invariant.chroma.cb.size), omega (arith, c.requires.chroma.in_v, c.loop-k.invariant.chroma.cr.size))
 
-pub returns-then-count-eq3 : goal.returns-then-count-eq3
-returns-then-count-eq3 c =
-    let three : 3 ≡ pixel_size c.args.rows.frame = sym c.if-count-eq3.true ∙ c.pixel_size-count.ensures.0 in
-    rw (sym three) c.rgb420.ensures
-
-pub returns-else-count-eq3 : goal.returns-else-count-eq3
-returns-else-count-eq3 c =
-    let four : 4 ≡ pixel_size c.args.rows.frame = omega (arith, c.if-count-eq3.false, c.pixel_size-count.ensures) in
-    rw (sym four) c.rgba420.ensures
+pub loop-k-preserved : goal.loop-k-preserved
+loop-k-preserved g c =
+    let L = LumasPainted c.args.tables.now.rows.frame g.row.N c.args.this.now c.args.below.now in
+    let input = inputs420 c.args.tables.now.rows.frame g.row.N c.args.this.now c.args.below.now in
+    begun_to L c.args.tables.now.rows.frame input (omega arith) (begun_more L c.args.tables.now.rows.frame input c.four420-c.ensures.luma_more c.put_chromas.ensures.chroma_more c.four420-c.ensures.colours_at
+    c.loop-k.invariant)

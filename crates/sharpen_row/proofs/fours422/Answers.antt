@@ -1,35 +1,25 @@
--- `fours422` meets its contract: a pixel has 3 bytes or 4.
--- Assumes nothing.
-use mathlib.Core.Path.{◌≡◌, sym, ◌∙◌}
 use native.Mathlib.Omega.{arith}
-use Rattle.definitions.specs.Image.{pixel_size}
-use Rattle.pixel_pairs.proofs.Pairs.{lent422}
+use Rattle.pixel_pairs.specs.Rows.{Lumas422, inputs422}
+use Rattle.pixel_pairs.proofs.Pairs.{row_room, begun_to, begun_more, Begun422-none}
 use Rattle.sharpen_row.proofs.fours422.Goals as goal
 
-pub rgb422-requires : goal.rgb422-requires
-rgb422-requires c =
-    let three : 3 ≡ pixel_size c.args.rows.frame = sym c.if-count-eq3.true ∙ c.pixel_size-count.ensures.0 in
+pub loop-k-init : goal.loop-k-init
+loop-k-init g c = Begun422-none _ _ _ _ _ _
+
+pub four422-c-requires : goal.four422-c-requires
+four422-c-requires g c =
     record {
-      prepared = c.requires.prepared;
-      row422 = lent422 three c.requires.lent422;
-      chroma_room = c.requires.lent422.chroma;
+      row422 = row_room c.args.y.now c.loop-k.invariant.luma.size c.requires.row;
+      inside = omega arith;
     }
 
-pub rgba422-requires : goal.rgba422-requires
-rgba422-requires c =
-    let four : 4 ≡ pixel_size c.args.rows.frame = omega (arith, c.if-count-eq3.false, c.pixel_size-count.ensures) in
-    record {
-      prepared = c.requires.prepared;
-      row422 = lent422 four c.requires.lent422;
-      chroma_room = c.requires.lent422.chroma;
-    }
+pub put_chromas-requires : goal.put_chromas-requires
+put_chromas-requires g c =
+    (omega (arith, c.requires.chroma.in_u, c.loop-k.invariant.chroma.cb.size), omega (arith, c.requires.chroma.in_v, c.loop-k.invariant.chroma.cr.size))
 
-pub returns-then-count-eq3 : goal.returns-then-count-eq3
-returns-then-count-eq3 c =
-    let three : 3 ≡ pixel_size c.args.rows.frame = sym c.if-count-eq3.true ∙ c.pixel_size-count.ensures.0 in
-    rw (sym three) c.rgb422.ensures
-
-pub returns-else-count-eq3 : goal.returns-else-count-eq3
-returns-else-count-eq3 c =
-    let four : 4 ≡ pixel_size c.args.rows.frame = omega (arith, c.if-count-eq3.false, c.pixel_size-count.ensures) in
-    rw (sym four) c.rgba422.ensures
+pub loop-k-preserved : goal.loop-k-preserved
+loop-k-preserved g c =
+    let L = Lumas422 c.args.tables.now.rows.frame g.row.N c.args.this.now in
+    let input = inputs422 c.args.tables.now.rows.frame g.row.N c.args.this.now in
+    begun_to L c.args.tables.now.rows.frame input (omega arith) (begun_more L c.args.tables.now.rows.frame input c.four422-c.ensures.luma_more c.put_chromas.ensures.chroma_more c.four422-c.ensures.colours_at
+    c.loop-k.invariant)

@@ -1,38 +1,28 @@
-use mathlib.Core.Path.{◌≡◌, subst}
-use Prim.Native.Nat.{ℕ, ◌*◌, ◌/◌}
+use mathlib.Core.Path.{◌≡◌}
 use native.Mathlib.Omega.{arith}
 use Rattle.definitions.specs.Image.{chroma_size}
-use Rattle.pixel_pairs.specs.Rows.{LumasPainted, inputs420, InRow, Begun420, Stepped}
-use Rattle.pixel_pairs.proofs.Pairs.{lent420, rows_room, Stepped-more}
+use Rattle.pixel_pairs.specs.Rows.{LumasPainted, inputs420}
+use Rattle.pixel_pairs.proofs.Pairs.{rows_room, Stepped-none, Stepped-more}
 use Rattle.sharpen_row.proofs.rest420.Goals as goal
 
+pub loop-j-init : goal.loop-j-init
+loop-j-init g c = Stepped-none _ _ _ _ _ _ _
+
 pub block420-b-requires : goal.block420-b-requires
-block420-b-requires c =
-    let in_row : InRow c.args.rows.frame (record { j = c.loop-j.j; next = c.right_of-next.result }) =
-    record { inside = c.loop-j-test.true; next = c.right_of-next.ensures } in
+block420-b-requires g c =
     record {
-      prepared = c.requires.prepared;
-      rows420 = rows_room c.args.y.now c.loop-j.invariant.1.in_y (lent420 c.pixel_size-count.ensures.0 c.requires.lent420);
-      in_row = in_row;
+      rows420 = rows_room c.args.y.now c.loop-j.invariant.in_y c.requires.rows;
+      in_row = record { inside = omega arith; next = c.right_of-next.ensures };
     }
 
 pub put_chroma-requires : goal.put_chroma-requires
-put_chroma-requires c =
-    record {
-      converts = c.requires.prepared.summed.converts;
-      j_in_bounds = (omega (arith, c.loop-j-test.true, c.requires.lent420.chroma.in_u, c.loop-j.invariant.1.in_u), omega (arith, c.loop-j-test.true, c.requires.lent420.chroma.in_v, c.loop-j.invariant.1.in_v));
-    }
+put_chroma-requires g c =
+    (omega (arith, c.requires.chroma.in_u, c.loop-j.invariant.in_u), omega (arith, c.requires.chroma.in_v, c.loop-j.invariant.in_v))
 
 pub loop-j-preserved : goal.loop-j-preserved
-loop-j-preserved c = (
-  omega (arith, c.loop-j-test.true),
-  Stepped-more (LumasPainted c.args.rows.frame c.pixel_size-count.result c.args.this.now c.args.below.now) c.args.rows.frame
-      (inputs420 c.args.rows.frame c.pixel_size-count.result c.args.this.now c.args.below.now) c.block420-b.ensures.luma_more c.put_chroma.ensures.chroma_more c.block420-b.ensures.colour_at c.loop-j.invariant.1,
-)
+loop-j-preserved g c =
+    Stepped-more (LumasPainted c.args.tables.now.rows.frame g.row.N c.args.this.now c.args.below.now) c.args.tables.now.rows.frame (inputs420 c.args.tables.now.rows.frame g.row.N c.args.this.now c.args.below.now) c.block420-b.ensures.luma_more c.put_chroma.ensures.chroma_more
+    c.block420-b.ensures.colour_at c.loop-j.invariant
 
 pub returns : goal.returns
-returns c =
-    let end : c.loop-j.j ≡ chroma_size c.args.rows.frame = omega (arith, c.loop-j-test.false, c.loop-j.invariant.0) in
-    subst (λ (n : ℕ). Stepped (Begun420 c.args.rows.frame n c.args.this.now c.args.below.now) (2 * (c.args.rows.frame.width / 4)) (chroma_size c.args.rows.frame) c.args.y.now c.args.u.now c.args.v.now
-    c.loop-j.y c.loop-j.u c.loop-j.v) c.pixel_size-count.ensures.0
-    (rw end at c.loop-j.invariant.1)
+returns g c = let end : c.loop-j.j ≡ chroma_size c.args.tables.now.rows.frame = omega arith in rw end at c.loop-j.invariant

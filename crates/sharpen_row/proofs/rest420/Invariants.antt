@@ -1,12 +1,8 @@
 -- `rest420` meets its contract. The invariant: what was begun as far as the last whole four is begun as far as j.
 -- Assumes nothing.
-use Prim.Native.Nat.{◌+◌, ◌*◌, ◌-◌, ◌/◌, ◌≤◌}
+use Prim.Native.Nat.{◌*◌, ◌/◌}
 use Rattle.pixel_pairs.specs.Rows.{Begun420, Stepped}
 use Rattle.sharpen_row.proofs.rest420.Given as goal
 
 abbrev pub invariant-loop-j : goal.invariant-loop-j
-invariant-loop-j l =
-    (2 * l.j ≤ l.width + 1) × Stepped (Begun420 l.rows.frame l.count l.this l.below) (2 * (l.width / 4)) l.j l.initial.y l.initial.u l.initial.v l.y l.u l.v
-
-abbrev pub decreases-loop-j : goal.decreases-loop-j
-decreases-loop-j l = l.width - 2 * l.j
+invariant-loop-j g l = Stepped (Begun420 l.fn.tables.rows.frame g.row.N l.fn.this l.fn.below) (2 * (l.width / 4)) l.j l.fn.y l.fn.u l.fn.v l.y l.u l.v

@@ -2,62 +2,49 @@
 -- Assumes nothing.
 use native.Mathlib.Omega.{arith}
 use Prim.Native.Nat.{◌+◌, ◌≤◌, ◌<◌}
-use mathlib.Core.Path.{refl, sym, ◌∙◌}
+use mathlib.Core.Path.{sym, ◌∙◌}
 use lib.ListN.{length, drop}
 use Rattle.shift_file.specs.File.{record_bytes}
 use Rattle.shift_file.specs.Read.{records_in}
 use Rattle.shift_move.specs.Move.{other_form, moved}
+use Rattle.shift_move.proofs.Files.{HasRecords, has_records}
 use Rattle.shift_move.proofs.Steps.{left_next, record_next, record_last}
+use Rattle.shift_move.proofs.put_records.Goals.{In-loop-k}
+use Rattle.shift_move.proofs.put_records.Goals.{After-moved_size-at}
 use Rattle.shift_move.proofs.put_records.Goals as goal
 
-pub loop-k-init : goal.loop-k-init
-loop-k-init c = (refl, refl, c.requires.file_in_bounds, omega arith)
+below : (c : In-loop-k) → c.loop-k.k < length (records_in c.args.file.now.form c.args.file.now.bytes.now)
+below c =
+    let f = c.args.file.now in
+    let h : HasRecords f.form f.bytes.now f.count = has_records f.form f.bytes.now f.count f.checked f.are_bytes f.counted in
+    omega (arith, h.count, c.loop-k-test.true)
 
-pub put_record-requires : goal.put_record-requires
-put_record-requires c =
-    let below : c.loop-k.k < length (records_in c.args.from c.args.file.now) = omega (arith, c.requires.has_records.count) in
-    record {
-      has_record = record { is_file_lem = c.requires.has_records.is_file_lem; below = below };
-      k_in_bounds = omega (arith, c.loop-k.invariant.1, c.loop-k.invariant.2, left_next (records_in c.args.from c.args.file.now) c.loop-k.k (other_form c.args.from) below);
-    }
+-- what is left behind this record has room
+inside : (c : After-moved_size-at) → let f = c.args.file.now in
+    c.loop-k.at + c.moved_size-at.result + length (record_bytes (moved (other_form f.form) (drop (c.loop-k.k + 1) (records_in f.form f.bytes.now)))) ≤ length c.args.output.now
+inside c =
+    let f = c.args.file.now in
+    let h : HasRecords f.form f.bytes.now f.count = has_records f.form f.bytes.now f.count f.checked f.are_bytes f.counted in
+    omega (arith, c.moved_size-at.ensures, c.loop-k.invariant.room, left_next (records_in f.form f.bytes.now) c.loop-k.k (other_form f.form) (omega (arith, h.count, c.loop-k-test.true)))
 
-pub moved_size-at-requires : goal.moved_size-at-requires
-moved_size-at-requires c =
-    let below : c.loop-k.k < length (records_in c.args.from c.args.file.now) = omega (arith, c.requires.has_records.count) in
-    record { is_file_lem = c.requires.has_records.is_file_lem; below = below }
+pub put_record-requires-clause-room : goal.put_record-requires-clause-room
+put_record-requires-clause-room c =
+    let f = c.args.file.now in
+    omega (arith, c.loop-k.invariant.room, left_next (records_in f.form f.bytes.now) c.loop-k.k (other_form f.form) (below (goal.at.put_record-requires-clause-room c).In-loop-k))
 
 pub overflow_add-at : goal.overflow_add-at
-overflow_add-at c =
-    let below : c.loop-k.k < length (records_in c.args.from c.args.file.now) = omega (arith, c.requires.has_records.count) in
-    let inside : c.loop-k.at + c.moved_size-at.result + length (record_bytes (moved (other_form c.args.from) (drop (c.loop-k.k + 1) (records_in c.args.from c.args.file.now))))
-    ≤ length c.args.output.now =
-    omega (
-      arith,
-      c.moved_size-at.ensures,
-      c.loop-k.invariant.2,
-      left_next (records_in c.args.from c.args.file.now) c.loop-k.k (other_form c.args.from) below,
-    ) in
-    let h = inside in omega arith
+overflow_add-at c = omega (arith, inside (goal.at.overflow_add-at c).After-moved_size-at)
 
 pub loop-k-preserved : goal.loop-k-preserved
 loop-k-preserved c =
-    let below : c.loop-k.k < length (records_in c.args.from c.args.file.now) = omega (arith, c.requires.has_records.count) in
-    let inside : c.loop-k.at + c.moved_size-at.result + length (record_bytes (moved (other_form c.args.from) (drop (c.loop-k.k + 1) (records_in c.args.from c.args.file.now))))
-    ≤ length c.args.output.now =
-    omega (
-      arith,
-      c.moved_size-at.ensures,
-      c.loop-k.invariant.2,
-      left_next (records_in c.args.from c.args.file.now) c.loop-k.k (other_form c.args.from) below,
-    ) in
-    let rs = records_in c.args.from c.args.file.now in (
-      rw c.put_record.ensures
-          (record_next rs c.loop-k.k (other_form c.args.from) c.loop-k.output c.loop-k.at _ below c.moved_size-at.ensures ∙ c.loop-k.invariant.0),
-      c.put_record.auto.output ∙ c.loop-k.invariant.1,
-      inside,
-      omega arith,
-    )
+    let f = c.args.file.now in record {
+      same = rw c.put_record.ensures
+          (record_next (records_in f.form f.bytes.now) c.loop-k.k (other_form f.form) c.loop-k.output c.loop-k.at _ (below (goal.at.loop-k-preserved c).In-loop-k) c.moved_size-at.ensures ∙ c.loop-k.invariant.same);
+      room = inside (goal.at.loop-k-preserved c).After-moved_size-at;
+    }
 
 pub returns : goal.returns
 returns c =
-    sym (record_last (records_in c.args.from c.args.file.now) c.loop-k.k (other_form c.args.from) c.loop-k.output c.loop-k.at (omega (arith, c.requires.has_records.count))) ∙ c.loop-k.invariant.0
+    let f = c.args.file.now in
+    let h : HasRecords f.form f.bytes.now f.count = has_records f.form f.bytes.now f.count f.checked f.are_bytes f.counted in
+    sym (record_last (records_in f.form f.bytes.now) c.loop-k.k (other_form f.form) c.loop-k.output c.loop-k.at (omega (arith, h.count, c.loop-k-test.false))) ∙ c.loop-k.invariant.same

@@ -1,6 +1,6 @@
 -- `put_records` meets its contract: the records left to put, put from here on, are all of them put from the start.
 -- Assumes nothing.
-use Prim.Native.Nat.{◌+◌, ◌-◌, ◌≤◌}
+use Prim.Native.Nat.{◌+◌, ◌≤◌}
 use mathlib.Core.Path.{◌≡◌}
 use lib.ListN.{length, drop}
 use lib.Seq.{sets}
@@ -11,10 +11,9 @@ use Rattle.shift_move.proofs.put_records.Given as goal
 
 abbrev pub invariant-loop-k : goal.invariant-loop-k
 invariant-loop-k l =
-    let rs = records_in l.from l.file in
-    let to = other_form l.from in
-    (sets l.output l.at (record_bytes (moved to (drop l.k rs))) ≡ sets l.initial.output l.first (record_bytes (moved to rs)))
-    × (length l.output ≡ length l.initial.output) × (l.at + length (record_bytes (moved to (drop l.k rs))) ≤ length l.initial.output) × (l.k ≤ l.count)
-
-abbrev pub decreases-loop-k : goal.decreases-loop-k
-decreases-loop-k l = l.count - l.k
+    let rs = records_in l.file.form l.file.bytes.now in
+    let to = other_form l.file.form in
+    record {
+      same : sets l.output l.at (record_bytes (moved to (drop l.k rs))) ≡ sets l.initial.output l.first (record_bytes (moved to rs));
+      room : l.at + length (record_bytes (moved to (drop l.k rs))) ≤ length l.initial.output;
+    }

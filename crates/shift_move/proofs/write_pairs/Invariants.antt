@@ -1,6 +1,6 @@
 -- `write_pairs` meets its contract: the pairs left to write, written from here on, are all of them written from the start.
 -- Assumes nothing.
-use Prim.Native.Nat.{◌+◌, ◌*◌, ◌-◌, ◌≤◌}
+use Prim.Native.Nat.{◌+◌, ◌*◌}
 use mathlib.Core.Path.{◌≡◌}
 use lib.ListN.{length, drop}
 use lib.Seq.{sets}
@@ -11,11 +11,9 @@ use Rattle.shift_move.proofs.write_pairs.Given as goal
 
 abbrev pub invariant-loop-k : goal.invariant-loop-k
 invariant-loop-k l =
-    let rs = records_in l.from l.file in
-    let to = other_form l.from in
-    (sets l.output l.pair (pairs_of l.at (moved to (drop l.k rs))) ≡ sets l.initial.output l.first_pair (pairs_of l.first (moved to rs)))
-    × (length l.output ≡ length l.initial.output) × (l.pair + 12 * (l.count - l.k) ≤ length l.initial.output)
-    × (l.at + length (record_bytes (moved to (drop l.k rs))) ≡ l.first + length (record_bytes (moved to rs))) × (l.k ≤ l.count)
-
-abbrev pub decreases-loop-k : goal.decreases-loop-k
-decreases-loop-k l = l.count - l.k
+    let rs = records_in l.file.form l.file.bytes.now in
+    let to = other_form l.file.form in
+    record {
+      same : sets l.output (l.first_pair + 12 * l.k) (pairs_of l.at (moved to (drop l.k rs))) ≡ sets l.initial.output l.first_pair (pairs_of l.first (moved to rs));
+      here : l.at + length (record_bytes (moved to (drop l.k rs))) ≡ l.first + length (record_bytes (moved to rs));
+    }

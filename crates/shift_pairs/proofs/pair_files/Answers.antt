@@ -1,19 +1,13 @@
 -- 15 by the two checks; then each file has its records, and there is room for their keys. Assumes nothing.
-use Prim.Native.Nat.{ℕ, ◌-◌, ◌≤◌}
 use mathlib.Core.Path.{◌≡◌, sym, ◌∙◌}
 use mathlib.Core.Bool.{true, false}
-use mathlib.Core.List.{List}
 use borrow.Author.Tests.{not-true, not-false}
+use borrow.Author.Rules.{rules}
 use native.Mathlib.Omega.{arith}
-use lib.ListN.{length, take, length-take}
 use Rattle.shift_file.specs.Check.{is_file}
 use Rattle.shift_file.proofs.File.{Checked, Checked-file}
 use Rattle.shift_reader.proofs.Places.{pairs_inside}
 use Rattle.shift_pairs.proofs.pair_files.Goals as goal
-
--- the first n of an array
-part_long : (n k : ℕ) (t : List ℕ) → n ≡ k → k ≤ length t → length (take (n - 0) t) ≡ k
-part_long n k t e h = omega (arith, length-take (n - 0) t)
 
 pub returns-then-not-is_file : goal.returns-then-not-is_file
 returns-then-not-is_file c =
@@ -62,8 +56,8 @@ pair_with-requires c =
     let ours = ours_checked in
     let theirs = theirs_checked in
     record {
-      keys_fit = record { is_file_lem = ours.file; long = part_long _ _ _ (c.count_at-n.ensures ∙ sym ours.count) ours.file.has.few };
-      keys_fit_2 = record { is_file_lem = theirs.file; long = part_long _ _ _ (c.count_at-m.ensures ∙ sym theirs.count) theirs.file.has.few };
+      our_room = record { is_file_lem = ours.file; long = search rules };
+      their_room = record { is_file_lem = theirs.file; long = search rules };
     }
 
 pub returns : goal.returns

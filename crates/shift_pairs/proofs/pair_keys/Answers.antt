@@ -1,9 +1,8 @@
 -- The invariant is a walk under way. Each turn is one of its steps; after the last one the pairs are all. Assumes nothing.
-use Prim.Native.Nat.{◌+◌, ◌≤◌}
-use borrow.Author.Rules.{rules}
-use native.Mathlib.Omega.{arith}
-use lib.ListN.{length}
-use Rattle.shift_pairs.proofs.Walking.{place_inside, keys_few, Walking-none, so_far, Walking-ours, Walking-theirs, Walking-both}
+use Rattle.std.proofs.Common.{rules, arith, sym, ◌+◌, ◌≤◌, length}
+use lib.ListN.{length-map}
+use Rattle.crossing_keys.specs.Keys.{number_of}
+use Rattle.shift_pairs.proofs.Walking.{place_inside, keys_few, Walking-none, so_far, next_ours, next_theirs, next_both}
 use Rattle.shift_pairs.proofs.Walking.{all_ours, all_theirs, reported}
 use Rattle.shift_pairs.proofs.pair_keys.Goals.{At-loop-i}
 use Rattle.shift_pairs.proofs.pair_keys.Goals.{else-loop-i-test, then-loop-i-test+then-j-b}
@@ -17,61 +16,51 @@ pairs_few c =
     (omega (arith, c.loop-i.invariant.2.few_ours), omega (arith, c.loop-i.invariant.2.few_theirs))
 
 pub loop-i-init : goal.loop-i-init
-loop-i-init c = (search rules, search rules, Walking-none _ _ _ _ c.no_pair-first.ensures)
+loop-i-init c = (search rules, search rules, Walking-none _ _ _)
 
-pub loop-i-preserved-then-our_crossing-their_crossing : goal.loop-i-preserved-then-our_crossing-their_crossing
-loop-i-preserved-then-our_crossing-their_crossing c = (
+pub loop-i-preserved-then-x-y : goal.loop-i-preserved-then-x-y
+loop-i-preserved-then-x-y c = (
   search rules,
   search rules,
-  Walking-ours _ _ _ c.loop-i.i c.loop-i.j c.loop-i.tally c.loop-i.invariant.2 (omega arith) (omega arith)
-      (omega (arith, c.crossing_in-our_crossing.ensures, c.crossing_in-their_crossing.ensures)),
+  next_ours _ _ _ c.loop-i.i c.loop-i.j c.loop-i.tally _ _ c.loop-i.invariant.2 (omega arith) (omega arith) c.index-a-i.is c.index-b-j.is c.if-x-y.true,
 )
 
-pub loop-i-preserved-then-their_crossing-our_crossing : goal.loop-i-preserved-then-their_crossing-our_crossing
-loop-i-preserved-then-their_crossing-our_crossing c = (
+pub loop-i-preserved-then-y-x : goal.loop-i-preserved-then-y-x
+loop-i-preserved-then-y-x c = (
   search rules,
   search rules,
-  Walking-theirs _ _ _ c.loop-i.i c.loop-i.j c.loop-i.tally c.loop-i.invariant.2 (omega arith) (omega arith)
-      (omega (arith, c.crossing_in-our_crossing.ensures, c.crossing_in-their_crossing.ensures)),
+  next_theirs _ _ _ c.loop-i.i c.loop-i.j c.loop-i.tally _ _ c.loop-i.invariant.2 (omega arith) (omega arith) c.index-a-i.is c.index-b-j.is c.if-y-x.true,
 )
 
 pub with_pair-tally-requires : goal.with_pair-tally-requires
-with_pair-tally-requires c =
-    let ours = place_inside _ _ _ c.requires.has_keys c.loop-i.i (omega arith) in
-    let theirs = place_inside _ _ _ c.requires.has_keys_2 c.loop-i.j (omega arith) in
-    record {
-      has_record = record { is_file_lem = c.requires.has_keys.is_file_lem; below = omega (arith, ours, c.place_in.ensures) };
-      has_record_2 = record { is_file_lem = c.requires.has_keys_2.is_file_lem; below = omega (arith, theirs, c.place_in-else-their_crossing-our_crossing.ensures) };
-      differing_bound = omega (arith, so_far _ _ _ c.loop-i.i c.loop-i.j c.loop-i.tally c.loop-i.invariant.2, c.loop-i.invariant.2.few_ours, keys_few _ _ _ c.requires.has_keys);
-    }
-
-pub overflow_add-i-else-their_crossing-our_crossing : goal.overflow_add-i-else-their_crossing-our_crossing
-overflow_add-i-else-their_crossing-our_crossing c = omega (arith, c.loop-i-test.true, keys_few _ _ _ c.requires.has_keys)
-
-pub overflow_add-j-else-their_crossing-our_crossing : goal.overflow_add-j-else-their_crossing-our_crossing
-overflow_add-j-else-their_crossing-our_crossing c = omega (arith, c.loop-i.invariant.1, keys_few _ _ _ c.requires.has_keys_2)
+with_pair-tally-requires c = record {
+  our_record = record { is_file_lem = c.requires.our_keys.is_file_lem; below = place_inside _ _ _ c.requires.our_keys c.loop-i.i _ (omega arith) c.index-a-i.is };
+  their_record = record { is_file_lem = c.requires.their_keys.is_file_lem; below = place_inside _ _ _ c.requires.their_keys c.loop-i.j _ (omega arith) c.index-b-j.is };
+  few_pairs = omega (arith, so_far _ _ _ c.loop-i.i c.loop-i.j c.loop-i.tally c.loop-i.invariant.2, c.loop-i.invariant.2.few_ours, keys_few _ _ _ c.requires.our_keys);
+}
 
 pub loop-i-preserved : goal.loop-i-preserved
 loop-i-preserved c = (
   search rules,
   search rules,
-  Walking-both _ _ _ c.loop-i.i c.loop-i.j c.loop-i.tally c.loop-i.invariant.2 (omega arith) (omega arith)
-      (omega (arith, c.crossing_in-our_crossing.ensures, c.crossing_in-their_crossing.ensures))
-      _ _ c.place_in.ensures c.place_in-else-their_crossing-our_crossing.ensures _ c.with_pair-tally.ensures,
+  next_both _ _ _ c.loop-i.i c.loop-i.j c.loop-i.tally _ _ c.loop-i.invariant.2 (omega arith) (omega arith) c.index-a-i.is c.index-b-j.is (omega arith) _ c.with_pair-tally.ensures,
 )
 
 pub overflow_add-pairs : goal.overflow_add-pairs
 overflow_add-pairs c = omega (arith, pairs_few (goal.at.overflow_add-pairs c).At-loop-i)
 
-pub overflow_sub-only_ours : goal.overflow_sub-only_ours
-overflow_sub-only_ours c = omega (arith, pairs_few (goal.at.overflow_sub-only_ours c).At-loop-i)
+pub overflow_sub-result : goal.overflow_sub-result
+overflow_sub-result c = omega (arith, pairs_few (goal.at.overflow_sub-result c).At-loop-i)
 
-pub overflow_sub-only_theirs : goal.overflow_sub-only_theirs
-overflow_sub-only_theirs c = omega (arith, pairs_few (goal.at.overflow_sub-only_theirs c).At-loop-i)
+pub overflow_sub-result-2 : goal.overflow_sub-result-2
+overflow_sub-result-2 c = omega (arith, pairs_few (goal.at.overflow_sub-result-2 c).At-loop-i)
 
 pub returns : goal.returns
 returns c =
-    reported _ _ _ c.requires.has_keys.keys_are c.requires.has_keys_2.keys_are c.requires.has_keys.is_file_lem.has c.requires.has_keys_2.is_file_lem.has c.loop-i.tally c.loop-i.invariant.2.done
+    let long_a = length-map c.args.a.now number_of in
+    let long_b = length-map c.args.b.now number_of in
+    reported _ _ _ c.requires.our_keys.keys_are c.requires.their_keys.keys_are c.requires.our_keys.is_file_lem.has c.requires.their_keys.is_file_lem.has
+    _ _ (sym long_a) (sym long_b) c.loop-i.tally c.loop-i.invariant.2.done
     c.loop-i.invariant.2.tallied (elim c.loop-i-test.branch [
       | else-loop-i-test w ↦ all_ours _ _ _ c.loop-i.i c.loop-i.j c.loop-i.tally c.loop-i.invariant.2 (omega arith)
       | then-loop-i-test+then-j-b w ↦ all_theirs _ _ _ c.loop-i.i c.loop-i.j c.loop-i.tally c.loop-i.invariant.2 (omega arith)

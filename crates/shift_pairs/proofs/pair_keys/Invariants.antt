@@ -1,12 +1,14 @@
 -- The invariant is a walk under way. Each turn is one of its steps; after the last one the pairs are all. Assumes nothing.
 use Prim.Native.Nat.{◌+◌, ◌-◌, ◌≤◌}
+use mathlib.Core.List.{map}
 use lib.ListN.{length}
+use Rattle.crossing_keys.specs.Keys.{number_of}
 use Rattle.shift_pairs.specs.Pairing.{files_of}
 use Rattle.shift_pairs.proofs.Walking.{Walking}
 use Rattle.shift_pairs.proofs.pair_keys.Given as goal
 
 abbrev pub invariant-loop-i : goal.invariant-loop-i
-invariant-loop-i l = (l.i ≤ length l.a) × (l.j ≤ length l.b) × Walking (files_of l.form_a l.ours l.form_b l.theirs) l.a l.b l.i l.j l.tally
+invariant-loop-i l = (l.i ≤ length l.a) × (l.j ≤ length l.b) × Walking (files_of l.form_a l.ours l.form_b l.theirs) (map number_of l.a) (map number_of l.b) l.i l.j l.tally
 
 abbrev pub decreases-loop-i : goal.decreases-loop-i
 decreases-loop-i l = (length l.a - l.i) + (length l.b - l.j)

@@ -3,11 +3,10 @@
 use native.Mathlib.Omega.{arith}
 use Prim.Native.Nat.{ℕ}
 use mathlib.Core.List.{List}
-use mathlib.Core.Path.{◌≡◌, refl, sym, ap, ◌∙◌}
+use mathlib.Core.Path.{◌≡◌, refl, sym, ◌∙◌}
 use mathlib.Core.Bool.{true, false}
 use lib.ListN.{length}
 use borrow.Author.Tests.{lt-ltb, le-ltb, not-true, not-false}
-use Rattle.yuv_error.specs.Numbers.{numbers_of}
 use Rattle.yuv_error.specs.Rules.{Rule}
 use Rattle.yuv_error.proofs.First.{after_finished, finished_number}
 use Rattle.shift_file.specs.File.{bytes_of}
@@ -31,7 +30,7 @@ returns-then-output-size c =
     let frame : IsFrame c.args.frame = is_frame c.args.frame sides in
     let fit : PlanesFit c.args.frame (length c.args.y.now) (length c.args.u.now) (length c.args.v.now) =
     planes_Fit c.args.frame c.args.y.now c.args.u.now c.args.v.now frame
-    (finished_number (lent_rules c.args.frame c.args.y.now c.args.u.now c.args.v.now) c.in-Finished.is c.check_planes-answer.ensures) in
+    (finished_number (lent_rules c.args.frame c.args.y.now c.args.u.now c.args.v.now) c.in-Ok.is c.check_planes.ensures) in
     let size_is : c.record_size-size.result ≡ length bytes =
     c.record_size-size.ensures ∙ sym (length_made c.args.frame c.args.y.now c.args.u.now c.args.v.now fit) in
     let lent = lent_rules c.args.frame c.args.y.now c.args.u.now c.args.v.now in
@@ -39,7 +38,7 @@ returns-then-output-size c =
     record {
       answered =
           rw sides
-          (sym (after_finished lent last refl c.in-Finished.is c.check_planes-answer.ensures ∙ rw (lt-ltb (length c.args.output.now) (length bytes) (omega arith))));
+          (sym (after_finished lent last refl c.in-Ok.is c.check_planes.ensures ∙ rw (lt-ltb (length c.args.output.now) (length bytes) (omega arith))));
       size = n;
       written = refl;
     }
@@ -52,7 +51,7 @@ returns c =
     let frame : IsFrame c.args.frame = is_frame c.args.frame sides in
     let fit : PlanesFit c.args.frame (length c.args.y.now) (length c.args.u.now) (length c.args.v.now) =
     planes_Fit c.args.frame c.args.y.now c.args.u.now c.args.v.now frame
-    (finished_number (lent_rules c.args.frame c.args.y.now c.args.u.now c.args.v.now) c.in-Finished.is c.check_planes-answer.ensures) in
+    (finished_number (lent_rules c.args.frame c.args.y.now c.args.u.now c.args.v.now) c.in-Ok.is c.check_planes.ensures) in
     let size_is : c.record_size-size.result ≡ length bytes =
     c.record_size-size.ensures ∙ sym (length_made c.args.frame c.args.y.now c.args.u.now c.args.v.now fit) in
     let lent = lent_rules c.args.frame c.args.y.now c.args.u.now c.args.v.now in
@@ -60,7 +59,7 @@ returns c =
     record {
       answered =
           rw sides
-          (ap numbers_of c.in-Finished.is ∙ sym (after_finished lent last refl c.in-Finished.is c.check_planes-answer.ensures ∙ rw (le-ltb (length c.args.output.now) (length bytes) (omega arith))));
-      size = rw c.in-Finished.is n;
-      written = rw c.in-Finished.is (from_start bytes c.args.output.now _ c.put_record.ensures (omega arith));
+          (sym (after_finished lent last refl c.in-Ok.is c.check_planes.ensures ∙ rw (le-ltb (length c.args.output.now) (length bytes) (omega arith))));
+      size = n;
+      written = from_start bytes c.args.output.now _ c.put_record.ensures (omega arith);
     }

@@ -1,8 +1,5 @@
 -- The sorted keys of all crossings name the records. Assumes nothing.
-use mathlib.Core.Path.{ap, sym, ◌∙◌}
-use mathlib.Core.List.{List}
-use Prim.Native.Nat.{ℕ}
-use native.Mathlib.Omega.{arith}
+use Rattle.std.proofs.Common.{arith, ap, sym, ◌∙◌, ℕ, List}
 use lib.Seq.{sets}
 use Rattle.merge_sort.specs.Ascending.{by_keys}
 use Rattle.summary_entry.specs.Entry.{entries_bytes, no_entry}
@@ -18,8 +15,8 @@ pub write_entries-requires : goal.write_entries-requires
 write_entries-requires c =
     record {
       has_records = same_records c.args.form c.args.file.now _ _ c.requires.has_records c.write_keys.auto.keys;
-      places = file_Places c.args.form c.args.file.now _ _ c.requires.has_records c.write_keys.auto.keys c.write_keys.ensures;
-      keys_in_bounds = omega (arith, c.write_keys.auto.keys, c.requires.keys_in_bounds);
+      places = file_Places c.args.form c.args.file.now _ _ c.requires.has_records c.write_keys.ensures;
+      room = omega (arith, c.write_keys.auto.keys, c.requires.room);
     }
 
 pub returns : goal.returns

@@ -1,52 +1,36 @@
 use native.Mathlib.Omega.{arith}
-use Prim.Native.Nat.{◌+◌, ◌-◌, ◌≤◌}
-use mathlib.Core.Path.{◌≡◌, sym, ◌∙◌}
-use mathlib.Core.Bool.{true}
-use native.Mathlib.Nat.{zero-add}
-use native.Mathlib.Numerals.{one-add}
-use lib.ListN.{length, drop}
-use Rattle.shift_file.specs.Read.{size_at}
-use Rattle.shift_file.specs.Check.{record_stands}
-use Rattle.shift_writer.specs.Records.{count_from}
-use Rattle.shift_writer.proofs.Count.{standing_is, standing_some, standing_zero, stands_inside, count_end, count_full, count_none, count_more}
+use Prim.Native.Nat.{◌+◌}
+use mathlib.Core.Path.{◌≡◌, sym, ap, ◌∙◌}
+use Rattle.std.specs.Prelude.{None}
+use Rattle.shift_file.specs.Check.{size_standing}
+use Rattle.shift_writer.specs.Records.{count_back}
+use Rattle.shift_writer.proofs.Count.{Reached, Reached-zero, Reached-more, count_at_end, count_at_none, count_at_most}
+use Rattle.shift_writer.proofs.count_records.Goals.{In_ok-at}
 use Rattle.shift_writer.proofs.count_records.Goals as goal
 
-pub loop-at-init : goal.loop-at-init
-loop-at-init c = (rw zero-add, omega arith, omega arith)
+more : (c : In_ok-at) → Reached c.args.form c.args.records.now (c.loop-count.at + c.in_ok-at.field-0) (c.loop-count.count + 1)
+more c =
+    Reached-more c.args.form c.args.records.now c.loop-count.at c.loop-count.count c.loop-count.invariant (omega arith) c.if-at-records.false c.in_ok-at.field-0
+    (sym (c.size_standing.ensures ∙ ap (size_standing c.args.form) c.from_place.ensures) ∙ c.in_ok-at.was)
 
-pub returns-then-count-eq-MOST_RECORDS : goal.returns-then-count-eq-MOST_RECORDS
-returns-then-count-eq-MOST_RECORDS c =
-    omega (arith, c.loop-at.invariant.0, count_full c.args.form c.args.records.now c.loop-at.at (4096 - c.loop-at.count) (omega arith) c.loop-at-test.true)
+pub loop-count-init : goal.loop-count-init
+loop-count-init c = Reached-zero _ _
 
-pub returns-then-size-eq0 : goal.returns-then-size-eq0
-returns-then-size-eq0 c =
-    let none = standing_zero c.args.form c.args.records.now c.loop-at.at (sym c.size_standing-size.ensures ∙ c.if-size-eq0.true) in
-    omega (arith, c.loop-at.invariant.0, count_none c.args.form c.args.records.now c.loop-at.at (4096 - c.loop-at.count) c.loop-at-test.true none)
+pub returns-then-at-records : goal.returns-then-at-records
+returns-then-at-records c = count_at_end _ _ _ _ c.loop-count.invariant (omega arith) c.if-at-records.true
+
+pub returns-in_err-at : goal.returns-in_err-at
+returns-in_err-at c =
+    let e : None ≡ count_back c.args.form c.args.records.now =
+    count_at_none c.args.form c.args.records.now c.loop-count.at c.loop-count.count c.loop-count.invariant (omega arith) c.if-at-records.false
+    (sym (c.size_standing.ensures ∙ ap (size_standing c.args.form) c.from_place.ensures) ∙ c.in_err-at.was) in
+    cc
 
 pub overflow_add-at : goal.overflow_add-at
-overflow_add-at c =
-    let stands : record_stands c.args.form (drop c.loop-at.at c.args.records.now) ≡ true =
-    standing_some c.args.form c.args.records.now c.loop-at.at (rw (← c.size_standing-size.ensures) (omega arith)) in
-    let size_is : c.size_standing-size.result ≡ size_at c.args.form (drop c.loop-at.at c.args.records.now) =
-    c.size_standing-size.ensures ∙ standing_is _ _ _ stands in
-    let inside : c.loop-at.at + c.size_standing-size.result ≤ length c.args.records.now =
-    rw size_is (stands_inside _ _ _ c.loop-at.invariant.2 stands) in
-    let h = inside in omega arith
+overflow_add-at c = omega (arith, (more (goal.at.overflow_add-at c).In_ok-at).inside)
 
-pub loop-at-preserved : goal.loop-at-preserved
-loop-at-preserved c =
-    let stands : record_stands c.args.form (drop c.loop-at.at c.args.records.now) ≡ true =
-    standing_some c.args.form c.args.records.now c.loop-at.at (rw (← c.size_standing-size.ensures) (omega arith)) in
-    let size_is : c.size_standing-size.result ≡ size_at c.args.form (drop c.loop-at.at c.args.records.now) =
-    c.size_standing-size.ensures ∙ standing_is _ _ _ stands in
-    let inside : c.loop-at.at + c.size_standing-size.result ≤ length c.args.records.now =
-    rw size_is (stands_inside _ _ _ c.loop-at.invariant.2 stands) in
-    let more : count_from c.args.form c.args.records.now c.loop-at.at (4096 - c.loop-at.count)
-    ≡ 1 + count_from c.args.form c.args.records.now (c.loop-at.at + c.size_standing-size.result) (4096 - (c.loop-at.count + 1)) =
-    rw (size_is, one-add)
-    (count_more c.args.form c.args.records.now c.loop-at.at (4096 - c.loop-at.count) (4096 - (c.loop-at.count + 1)) (omega arith) c.loop-at-test.true stands) in
-    (omega (arith, more, c.loop-at.invariant.0), omega arith, inside)
+pub loop-count-preserved : goal.loop-count-preserved
+loop-count-preserved c = more (goal.at.loop-count-preserved c).In_ok-at
 
 pub returns : goal.returns
-returns c =
-    omega (arith, c.loop-at.invariant.0, count_end c.args.form c.args.records.now c.loop-at.at (4096 - c.loop-at.count) c.loop-at-test.false c.loop-at.invariant.2)
+returns c = count_at_most _ _ _ _ c.loop-count.invariant (omega arith)

@@ -1,14 +1,10 @@
 -- 15 by the check of the file, 17 by the check of the summary; then the first record of the crossing, if there is one. Assumes nothing.
-use mathlib.Core.Path.{◌≡◌, refl, sym, ◌∙◌, ap}
+use mathlib.Core.Path.{◌≡◌, refl, sym, ◌∙◌}
 use mathlib.Core.Bool.{true, false}
-use borrow.Author.Tests.{not-true, not-false, lt-ltb, le-ltb}
-use native.Mathlib.Omega.{arith}
-use lib.ListN.{length}
+use borrow.Author.Tests.{not-true, not-false}
 use Rattle.shift_file.specs.Read.{records_in}
 use Rattle.shift_file.specs.Check.{is_file}
 use Rattle.summary_check.specs.Check.{is_summary}
-use Rattle.summary_calls.specs.declared.FoundRecord.TheVariants.{At}
-use Rattle.summary_calls.specs.Found.{place_of_first}
 use Rattle.summary_calls.proofs.find_record.Goals as goal
 
 pub returns-then-not-is_file : goal.returns-then-not-is_file
@@ -27,24 +23,9 @@ returns-then-not-is_summary c =
     let no : is_summary _ _ _ ≡ false = sym c.is_summary.ensures ∙ not-true _ c.if-not-is_summary.true-raw in
     record { answered = rw (accepted, no); found = refl }
 
-pub returns-then-k-count : goal.returns-then-k-count
-returns-then-k-count c =
+pub returns : goal.returns
+returns c =
     let accepted : is_file c.args.form c.args.file.now ≡ true = sym c.is_file.ensures ∙ not-false _ c.if-not-is_file.false-raw in
     let checked : is_summary c.args.form (records_in c.args.form c.args.file.now) c.args.summary.now ≡ true =
     sym c.is_summary.ensures ∙ not-false _ c.if-not-is_summary.false-raw in
-    let rs = records_in c.args.form c.args.file.now in
-    let k = place_of_first c.args.crossing rs in
-    let yes = checked in
-    let file = accepted in
-    record { answered = rw (file, yes); found = rw (lt-ltb k (length rs) (omega arith)) (ap At c.first_of-k.ensures) }
-
-pub returns-else-k-count : goal.returns-else-k-count
-returns-else-k-count c =
-    let accepted : is_file c.args.form c.args.file.now ≡ true = sym c.is_file.ensures ∙ not-false _ c.if-not-is_file.false-raw in
-    let checked : is_summary c.args.form (records_in c.args.form c.args.file.now) c.args.summary.now ≡ true =
-    sym c.is_summary.ensures ∙ not-false _ c.if-not-is_summary.false-raw in
-    let rs = records_in c.args.form c.args.file.now in
-    let k = place_of_first c.args.crossing rs in
-    let yes = checked in
-    let file = accepted in
-    record { answered = rw (file, yes); found = rw (le-ltb k (length rs) (omega arith)) }
+    record { answered = rw (accepted, checked); found = c.first_of.ensures }

@@ -1,7 +1,5 @@
 -- The invariant: whether the entries from place i on are those that the keys name is what is asked. Assumes nothing.
-use Prim.Native.Nat.{◌≤◌, ◌-◌}
-use mathlib.Core.Path.{◌≡◌}
-use lib.ListN.{length}
+use Rattle.std.proofs.Common.{◌≡◌, length}
 use Rattle.summary_entry.specs.Entry.{entries_in}
 use Rattle.shift_file.specs.Read.{records_in}
 use Rattle.shift_summary.specs.Summary.{entries_of}
@@ -12,7 +10,4 @@ abbrev pub invariant-loop-i : goal.invariant-loop-i
 invariant-loop-i l =
     let es = entries_in (length l.keys) l.summary in
     let fs = entries_of l.form (records_in l.form l.file) in
-    (l.i ≤ length l.keys) × (same_from l.keys es fs l.i ≡ same_from l.keys es fs 0)
-
-abbrev pub decreases-loop-i : goal.decreases-loop-i
-decreases-loop-i l = length l.keys - l.i
+    same_from l.keys es fs l.i ≡ same_from l.keys es fs 0

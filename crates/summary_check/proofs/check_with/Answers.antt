@@ -13,8 +13,8 @@ pub are_those-requires : goal.are_those-requires
 are_those-requires c =
     record {
       has_records = same_records c.args.form c.args.file.now _ _ c.requires.has_records c.write_keys.auto.keys;
-      places = file_Places c.args.form c.args.file.now _ _ c.requires.has_records c.write_keys.auto.keys c.write_keys.ensures;
-      keys_in_bounds = omega (arith, c.write_keys.auto.keys, c.requires.keys_in_bounds);
+      places = file_Places c.args.form c.args.file.now _ _ c.requires.has_records c.write_keys.ensures;
+      room = omega (arith, c.write_keys.auto.keys, c.requires.room);
     }
 
 pub returns : goal.returns

@@ -51,7 +51,7 @@ place_entry-requires c =
     let yes = sym c.is_summary.ensures ∙ not-false _ c.if-not-is_summary.false-raw in
     let short = offsets_short c.args.form c.args.file.now c.args.added.now file_bytes added_bytes (accepted (goal.at.place_entry-requires c).Else-not-may_grow) c.args.summary.now yes in
     record {
-      count_in_bounds = omega (arith, c.if-summary-count.false);
+      room = omega (arith, c.if-summary-count.false);
       offsets_below = rw c.count_of-count.ensures.count_is at short;
     }
 

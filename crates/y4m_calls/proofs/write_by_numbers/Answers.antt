@@ -1,14 +1,11 @@
 -- `write_by_numbers` meets its contract: it tells what `write_pictures` answers for the sides and the code that the numbers are.
 -- Assumes nothing.
-use mathlib.Core.Path.{◌∙◌}
-use Rattle.call_numbers.proofs.Arrays.{one_told}
 use Rattle.y4m_calls.proofs.write_by_numbers.Goals as goal
 
 pub returns : goal.returns
-returns c =
-    record {
-      written = c.write_pictures-written.result;
-      number = c.tell_size.ensures.0;
-      told = c.tell_size.ensures.1 ∙ one_told c.args.told.now _ c.tell_size-arg-1.given.0.1;
-      wrote = rw (← c.wide-width.ensures, ← c.wide-height.ensures) c.write_pictures-written.ensures;
-    }
+returns c = record {
+  written = c.write_pictures-written.result;
+  number = c.tell_size.ensures.number;
+  told = c.tell_size.ensures.told;
+  wrote = c.write_pictures-written.ensures;
+}

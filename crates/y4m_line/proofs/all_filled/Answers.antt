@@ -1,22 +1,16 @@
-use native.Mathlib.Omega.{arith}
-use mathlib.Core.Path.{ap, sym, ◌∙◌}
-use Rattle.y4m_line.specs.Words.{filled}
-use Rattle.y4m_line.proofs.Words.{words_all, words_none, filled_not, filled_next}
+-- `all_filled` meets its contract: the parts at the spaces are the words. Assumes nothing.
+use Rattle.std.proofs.Common.{rules, tests, length, eqb, not, ap, ◌∙◌}
+use Rattle.std.specs.List.{list_all}
+use Rattle.std.proofs.lemmas.Iterator.Search.{all_from_yields_List}
+use Rattle.std.proofs.lemmas.Iterator.Splits.{YieldsList-from_slice_split}
+use Rattle.y4m_line.proofs.Words.{split_words, all_filled}
 use Rattle.y4m_line.proofs.all_filled.Goals as goal
 
-pub loop-start-init : goal.loop-start-init
-loop-start-init c = (ap filled (words_all _), omega arith)
-
-pub returns-then-end-start : goal.returns-then-end-start
-returns-then-end-start c =
-    sym (filled_not c.args.line.now c.loop-start.start c.word_end-end.result (omega arith) (omega arith) c.word_end-end.ensures.value (omega arith)) ∙ c.loop-start.invariant.0
-
-pub loop-start-preserved : goal.loop-start-preserved
-loop-start-preserved c = (
-  sym (filled_next c.args.line.now c.loop-start.start c.word_end-end.result (omega arith) (omega arith) c.word_end-end.ensures.value (omega arith)) ∙ c.loop-start.invariant.0,
-  omega arith,
-)
-
 pub returns : goal.returns
-unfolding filled
-returns c = sym (ap filled (words_none c.args.line.now c.loop-start.start (omega arith))) ∙ c.loop-start.invariant.0
+returns c =
+    all_from_yields_List (λ w. not (eqb (length w) 0)) _ _ _ c.all.ensures.ran
+    (YieldsList-from_slice_split _ (λ b. eqb b 32) c.args.line.now c.split.ensures.rest c.split.ensures.done c.split.ensures.closure
+    (λ x r q k. search (rules, tests)))
+    (λ x b q k. search (rules, tests))
+    ∙ ap (list_all (λ w. not (eqb (length w) 0))) (split_words c.args.line.now)
+    ∙ all_filled _

@@ -2,12 +2,8 @@
 use Rattle.y4m_line.proofs.Header.{line_is, line_not}
 use Rattle.y4m_line.proofs.is_line.Goals as goal
 
-pub returns-then-same_bytes : goal.returns-then-same_bytes
-returns-then-same_bytes c =
-    line_is c.args.word.now c.args.line.now c.index_of-end.result _ _ c.index_of-end.ensures.value c.part_of.ensures
-    c.same_bytes.ensures _ c.if-same_bytes.true c.all_filled.ensures
+pub returns-then-eq : goal.returns-then-eq
+returns-then-eq c = line_is c.args.word.now c.args.line.now _ _ c.first_word.ensures c.eq.ensures _ c.if-eq.true c.all_filled.ensures
 
-pub returns-else-same_bytes : goal.returns-else-same_bytes
-returns-else-same_bytes c =
-    line_not c.args.word.now c.args.line.now c.index_of-end.result _ _ c.index_of-end.ensures.value c.part_of.ensures
-    c.same_bytes.ensures c.if-same_bytes.false
+pub returns-else-eq : goal.returns-else-eq
+returns-else-eq c = line_not c.args.word.now c.args.line.now _ _ c.first_word.ensures c.eq.ensures c.if-eq.false

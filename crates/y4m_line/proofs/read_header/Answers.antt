@@ -1,45 +1,40 @@
 -- `read_header` meets its contract, test by test. Assumes nothing.
-use native.Mathlib.Omega.{arith}
-use Prim.Native.Nat.{◌<◌}
-use mathlib.Core.Path.{◌≡◌, sym, ◌∙◌}
-use mathlib.Core.Bool.{true}
-use borrow.Author.Tests.{not-true, not-false}
+use Rattle.std.proofs.Common.{◌≡◌, sym, ◌∙◌, true}
 use Rattle.y4m_line.specs.Line.{magic}
 use Rattle.y4m_line.specs.Header.{width_of, height_of, sampling_of, is_line}
+use Rattle.y4m_line.proofs.Decimal.{side_none, side_some, sampling_none, sampling_some}
 use Rattle.y4m_line.proofs.Header.{not_line, no_width, no_height, no_code, header}
 use Rattle.y4m_line.proofs.read_header.Goals as goal
 
 pub returns-then-not-starts_stream : goal.returns-then-not-starts_stream
-returns-then-not-starts_stream c = not_line _ (sym c.starts_stream.ensures ∙ not-true _ c.if-not-starts_stream.true-raw)
+returns-then-not-starts_stream c = not_line _ (sym c.starts_stream.ensures ∙ c.if-not-starts_stream.true)
 
-pub returns-then-width-eq0 : goal.returns-then-width-eq0
+pub returns-in_err-width : goal.returns-in_err-width
 unfolding width_of
-returns-then-width-eq0 c =
-    let line : is_line magic c.args.line.now ≡ true = sym c.starts_stream.ensures ∙ not-false _ c.if-not-starts_stream.false-raw in
-    no_width _ line (sym c.one_size-width.ensures ∙ c.if-width-eq0.true)
+returns-in_err-width c =
+    let line : is_line magic c.args.line.now ≡ true = sym c.starts_stream.ensures ∙ c.if-not-starts_stream.false in
+    rw c.from_residual.ensures (no_width _ line (side_none _ (sym c.one_size.ensures ∙ c.in_err-width.was)))
 
-pub returns-then-height-eq0 : goal.returns-then-height-eq0
+pub returns-in_err-height : goal.returns-in_err-height
 unfolding height_of width_of
-returns-then-height-eq0 c =
-    let line : is_line magic c.args.line.now ≡ true = sym c.starts_stream.ensures ∙ not-false _ c.if-not-starts_stream.false-raw in
-    let wide : 0 < width_of c.args.line.now = rw (← c.one_size-width.ensures) (omega arith) in
-    no_height _ line wide (sym c.one_size-height.ensures ∙ c.if-height-eq0.true)
+returns-in_err-height c =
+    let line : is_line magic c.args.line.now ≡ true = sym c.starts_stream.ensures ∙ c.if-not-starts_stream.false in
+    let wide = side_some _ _ (sym c.one_size.ensures ∙ c.in_ok-width.was) in
+    rw c.from_residual-in_err-height.ensures (no_height _ line wide.0 (side_none _ (sym c.one_size-2.ensures ∙ c.in_err-height.was)))
 
-pub returns-then-sampling-eq0 : goal.returns-then-sampling-eq0
+pub returns-in_err-sampling : goal.returns-in_err-sampling
 unfolding sampling_of width_of height_of
-returns-then-sampling-eq0 c =
-    let line : is_line magic c.args.line.now ≡ true = sym c.starts_stream.ensures ∙ not-false _ c.if-not-starts_stream.false-raw in
-    let wide : 0 < width_of c.args.line.now = rw (← c.one_size-width.ensures) (omega arith) in
-    let high : 0 < height_of c.args.line.now = rw (← c.one_size-height.ensures) (omega arith) in
-    no_code _ line wide high (sym c.one_code-sampling.ensures ∙ c.if-sampling-eq0.true)
+returns-in_err-sampling c =
+    let line : is_line magic c.args.line.now ≡ true = sym c.starts_stream.ensures ∙ c.if-not-starts_stream.false in
+    let wide = side_some _ _ (sym c.one_size.ensures ∙ c.in_ok-width.was) in
+    let high = side_some _ _ (sym c.one_size-2.ensures ∙ c.in_ok-height.was) in
+    rw c.from_residual-in_err-sampling.ensures (no_code _ line wide.0 high.0 (sampling_none _ (sym c.one_sampling.ensures ∙ c.in_err-sampling.was)))
 
 pub returns : goal.returns
 unfolding width_of height_of sampling_of
 returns c =
-    let line : is_line magic c.args.line.now ≡ true = sym c.starts_stream.ensures ∙ not-false _ c.if-not-starts_stream.false-raw in
-    let wide : 0 < width_of c.args.line.now = rw (← c.one_size-width.ensures) (omega arith) in
-    let high : 0 < height_of c.args.line.now = rw (← c.one_size-height.ensures) (omega arith) in
-    let coded : 0 < sampling_of c.args.line.now = rw (← c.one_code-sampling.ensures) (omega arith) in (
-      header _ line wide high coded,
-      (c.one_size-width.ensures, (c.one_size-height.ensures, c.one_code-sampling.ensures)),
-    )
+    let line : is_line magic c.args.line.now ≡ true = sym c.starts_stream.ensures ∙ c.if-not-starts_stream.false in
+    let wide = side_some _ _ (sym c.one_size.ensures ∙ c.in_ok-width.was) in
+    let high = side_some _ _ (sym c.one_size-2.ensures ∙ c.in_ok-height.was) in
+    let coded = sampling_some _ _ (sym c.one_sampling.ensures ∙ c.in_ok-sampling.was) in
+    record { is_header_lem = header _ line wide.0 high.0 coded.0; width = wide.1; height = high.1; sampling = coded.1 }

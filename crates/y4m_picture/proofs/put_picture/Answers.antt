@@ -20,7 +20,7 @@ copy_rows-requires c =
       rw c.sampling_of-sampling.ensures at c.chroma_size.ensures.0,
       rw (← size_is c.args.frame) c.requires.frame_in_bounds,
     ) in
-    (c.requires.planes_fit.y_row, c.requires.planes_fit.y_size, omega (arith, sizes, c.copy_bytes.auto.output))
+    (c.requires.planes_fit.y_row, c.requires.planes_fit.y_size, omega (arith, sizes, c.put.auto.output))
 
 pub copy_rows-requires-2 : goal.copy_rows-requires-2
 copy_rows-requires-2 c =
@@ -34,7 +34,7 @@ copy_rows-requires-2 c =
     ) in
     rows_fit _ (chroma_width c.args.frame.width) _ (chroma_rows c.args.frame) _ _ _ _
     c.chroma_width-chroma_width.ensures sizes.0 c.requires.planes_fit.u_row c.requires.planes_fit.u_size
-    (omega (arith, sizes, c.copy_rows.auto.output, c.copy_bytes.auto.output))
+    (omega (arith, sizes, c.copy_rows.auto.output, c.put.auto.output))
 
 pub copy_rows-requires-3 : goal.copy_rows-requires-3
 copy_rows-requires-3 c =
@@ -48,7 +48,7 @@ copy_rows-requires-3 c =
     ) in
     rows_fit _ (chroma_width c.args.frame.width) _ (chroma_rows c.args.frame) _ _ _ _
     c.chroma_width-chroma_width.ensures sizes.0 c.requires.planes_fit.v_row c.requires.planes_fit.v_size
-    (omega (arith, sizes, c.copy_rows-2.auto.output, c.copy_rows.auto.output, c.copy_bytes.auto.output))
+    (omega (arith, sizes, c.copy_rows-2.auto.output, c.copy_rows.auto.output, c.put.auto.output))
 
 pub returns : goal.returns
 unfolding line_of text_of tag_bytes
@@ -64,5 +64,5 @@ returns c =
     let n = sizes in
     let u-at = 6 + c.luma_size-u_at.result in
     put_steps c.args.frame c.args.y.now c.args.u.now c.args.v.now c.requires.planes_fit c.args.output.now _ _ _ _ _ _ u-at (u-at + c.chroma_size.result)
-    c.copy_bytes.ensures c.copy_rows.ensures c.chroma_width-chroma_width.ensures n.0
+    c.put.ensures c.copy_rows.ensures c.chroma_width-chroma_width.ensures n.0
     (omega (arith, n.1)) c.copy_rows-2.ensures (omega (arith, n.2)) c.copy_rows-3.ensures

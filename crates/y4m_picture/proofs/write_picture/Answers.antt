@@ -6,7 +6,7 @@ use mathlib.Core.List.{List}
 use mathlib.Core.Path.{◌≡◌, refl, sym, ◌∙◌}
 use mathlib.Core.Bool.{true, false}
 use lib.ListN.{length}
-use borrow.Author.Tests.{lt-ltb, le-ltb, not-true, not-false}
+use borrow.Author.Tests.{lt-ltb, le-ltb}
 use Rattle.shift_writer.proofs.Answers.{from_start}
 use Rattle.y4m_file.specs.File.{picture_bytes}
 use Rattle.y4m_picture.specs.Picture.{picture_made, picture_allowed}
@@ -16,13 +16,13 @@ use Rattle.y4m_picture.proofs.write_picture.Goals as goal
 
 pub returns-then-not-is_picture : goal.returns-then-not-is_picture
 returns-then-not-is_picture c =
-    let no : picture_allowed _ _ _ _ ≡ false = sym c.is_picture.ensures ∙ not-true _ c.if-not-is_picture.true-raw in
+    let no : picture_allowed _ _ _ _ ≡ false = sym c.is_picture.ensures ∙ c.if-not-is_picture.true in
     record { answered = rw no; size = refl; written = refl }
 
 pub picture_size-size-requires : goal.picture_size-size-requires
 picture_size-size-requires c =
     let allowed : picture_allowed c.args.frame (length c.args.y.now) (length c.args.u.now) (length c.args.v.now) ≡ true =
-    sym c.is_picture.ensures ∙ not-false _ c.if-not-is_picture.false-raw in
+    sym c.is_picture.ensures ∙ c.if-not-is_picture.false in
     let fit : PlanesFit c.args.frame (length c.args.y.now) (length c.args.u.now) (length c.args.v.now) = planes_Fit _ _ _ _ allowed in
     fit.frame
 
@@ -30,7 +30,7 @@ pub returns-then-output-size : goal.returns-then-output-size
 returns-then-output-size c =
     let bytes : List ℕ = picture_bytes (picture_made c.args.frame c.args.y.now c.args.u.now c.args.v.now) in
     let allowed : picture_allowed c.args.frame (length c.args.y.now) (length c.args.u.now) (length c.args.v.now) ≡ true =
-    sym c.is_picture.ensures ∙ not-false _ c.if-not-is_picture.false-raw in
+    sym c.is_picture.ensures ∙ c.if-not-is_picture.false in
     let fit : PlanesFit c.args.frame (length c.args.y.now) (length c.args.u.now) (length c.args.v.now) = planes_Fit _ _ _ _ allowed in
     let size_is : c.picture_size-size.result ≡ length bytes =
     c.picture_size-size.ensures ∙ sym (length_made c.args.frame c.args.y.now c.args.u.now c.args.v.now fit) in
@@ -44,7 +44,7 @@ returns-then-output-size c =
 pub put_picture-requires : goal.put_picture-requires
 put_picture-requires c =
     let allowed : picture_allowed c.args.frame (length c.args.y.now) (length c.args.u.now) (length c.args.v.now) ≡ true =
-    sym c.is_picture.ensures ∙ not-false _ c.if-not-is_picture.false-raw in
+    sym c.is_picture.ensures ∙ c.if-not-is_picture.false in
     let fit : PlanesFit c.args.frame (length c.args.y.now) (length c.args.u.now) (length c.args.v.now) = planes_Fit _ _ _ _ allowed in
     record {
       planes_fit = fit;
@@ -55,7 +55,7 @@ pub returns : goal.returns
 returns c =
     let bytes : List ℕ = picture_bytes (picture_made c.args.frame c.args.y.now c.args.u.now c.args.v.now) in
     let allowed : picture_allowed c.args.frame (length c.args.y.now) (length c.args.u.now) (length c.args.v.now) ≡ true =
-    sym c.is_picture.ensures ∙ not-false _ c.if-not-is_picture.false-raw in
+    sym c.is_picture.ensures ∙ c.if-not-is_picture.false in
     let fit : PlanesFit c.args.frame (length c.args.y.now) (length c.args.u.now) (length c.args.v.now) = planes_Fit _ _ _ _ allowed in
     let size_is : c.picture_size-size.result ≡ length bytes =
     c.picture_size-size.ensures ∙ sym (length_made c.args.frame c.args.y.now c.args.u.now c.args.v.now fit) in

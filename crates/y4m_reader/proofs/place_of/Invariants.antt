@@ -1,11 +1,6 @@
--- `place_of` meets its contract: past the header's line the first picture, past each picture the next.
--- Assumes nothing.
-use Prim.Native.Nat.{◌-◌, ◌≤◌}
+-- `place_of` meets its contract: past the header's line the first picture, past each picture the next. Assumes nothing.
 use Rattle.y4m_reader.specs.Known.{Stood}
 use Rattle.y4m_reader.proofs.place_of.Given as goal
 
-abbrev pub invariant-loop-i : goal.invariant-loop-i
-invariant-loop-i l = Stood l.file l.i l.at × (l.i ≤ l.k)
-
-abbrev pub decreases-loop-i : goal.decreases-loop-i
-decreases-loop-i l = l.k - l.i
+abbrev pub invariant-loop : goal.invariant-loop
+invariant-loop l = Stood l.file.bytes.now l.counter l.at

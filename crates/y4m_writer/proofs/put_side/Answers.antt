@@ -11,6 +11,6 @@ returns c =
     let side = decimal 5 c.args.side in
     let q = c.args.at + length c.args.text.now in
     record {
-      output_after = two_runs c.args.output.now c.copy_bytes.new.output c.put_decimal.new.output c.args.text.now side c.args.at q c.put_decimal.result c.copy_bytes.ensures refl c.put_decimal.ensures.output_after c.put_decimal.ensures.value;
-      value = two_places c.args.output.now c.copy_bytes.new.output c.put_decimal.new.output c.args.text.now side c.args.at q c.put_decimal.result c.copy_bytes.ensures refl c.put_decimal.ensures.output_after c.put_decimal.ensures.value;
+      output_after = two_runs c.args.output.now c.put.new.output c.put_decimal.new.output c.args.text.now side c.args.at q c.put_decimal.result c.put.ensures refl c.put_decimal.ensures.output_after c.put_decimal.ensures.value;
+      value = two_places c.args.output.now c.put.new.output c.put_decimal.new.output c.args.text.now side c.args.at q c.put_decimal.result c.put.ensures refl c.put_decimal.ensures.output_after c.put_decimal.ensures.value;
     }

@@ -9,8 +9,8 @@ use Rattle.y4m_writer.proofs.Puts.{line_most}
 use Rattle.y4m_writer.proofs.Whole.{front_is}
 use Rattle.y4m_writer.proofs.write_header.Goals as goal
 
-pub copy_bytes-requires : goal.copy_bytes-requires
-copy_bytes-requires c =
+pub put-requires : goal.put-requires
+put-requires c =
     let part : c.part_of.result.now ≡ line_of magic (written_tags c.args.sampling c.args.width c.args.height) =
     front_is _ _ _ _ _ c.put_header-size.ensures.output_after c.put_header-size.ensures.value.0 (omega (arith, line_most c.args.sampling c.args.width c.args.height)) c.part_of.ensures in
     omega (arith, ap length part)
@@ -19,4 +19,4 @@ pub returns : goal.returns
 returns c =
     let part : c.part_of.result.now ≡ line_of magic (written_tags c.args.sampling c.args.width c.args.height) =
     front_is _ _ _ _ _ c.put_header-size.ensures.output_after c.put_header-size.ensures.value.0 (omega (arith, line_most c.args.sampling c.args.width c.args.height)) c.part_of.ensures in
-    c.copy_bytes.ensures ∙ ap (λ t. sets c.args.output.now 0 t) part
+    c.put.ensures ∙ ap (λ t. sets c.args.output.now 0 t) part

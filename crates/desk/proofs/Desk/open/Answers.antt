@@ -1,47 +1,32 @@
--- `open` meets its contract: the checks of the number and of the parts, then the opening's own, decide.
+-- `open` meets its contract: the first check that refuses answers, and each is asked once those before it did not.
 -- Assumes nothing.
-use Prim.Native.Nat.{◌<◌}
-use mathlib.Core.Path.{refl}
-use mathlib.Core.List.{List, ◌++◌}
-use borrow.Author.Rules.{rules}
-use Rattle.yuv_error.specs.Rules.{Rule}
+use Rattle.std.proofs.Common.{rules, ◌≡◌, ◌++◌}
+use mathlib.Core.Path.{refl, sym, ◌∙◌}
+use Rattle.yuv_error.specs.Numbers.{numbers_of}
 use Rattle.yuv_error.specs.Lent.{opening_rules}
-use Rattle.yuv_error.proofs.First.{Answers, answers, both, finished_number}
-use Rattle.desk.specs.DeskCall.{number_rules, part_rules, open_call}
-use Rattle.desk.proofs.Given.{open_given}
-use Rattle.desk.proofs.Post.{open_refused, open_accepted}
+use Rattle.yuv_error.proofs.First.{after_refused, after_finished}
+use Rattle.desk.specs.DeskCall.{number_rules, part_rules}
 use Rattle.desk.proofs.Desk.open.Goals as goal
 
-pub returns-in-Refused : goal.returns-in-Refused
-returns-in-Refused c =
-    let rules : List Rule =
-    number_rules c.args.self.places c.args.camera ++ part_rules c.args.self.places c.args.parts c.args.lens ++ opening_rules c.args.frame in
-    let decided : Answers c.and-answer.result rules =
-    both (both (answers c.check_number-number.result (number_rules c.args.self.places c.args.camera) refl c.check_number-number.ensures)
-    (answers c.check_parts-taken.result (part_rules c.args.self.places c.args.parts c.args.lens) refl c.check_parts-taken.ensures) c.and.ensures)
-    (answers c.open-opened.result.answer (opening_rules c.args.frame) refl c.open-opened.ensures.answered) c.and-answer.ensures in
-    open_refused c.args.self c.args.camera c.args.frame c.args.parts c.args.lens c.and-answer.result decided.equation c.in-Refused.is
+pub returns-in_err-check_number : goal.returns-in_err-check_number
+returns-in_err-check_number c =
+    let same : numbers_of c.from_residual.result ≡ numbers_of c.check_number.result = search rules in
+    record {
+      answered = same ∙ after_refused (number_rules c.args.self.now.places c.args.camera)
+          (part_rules c.args.self.now.places c.args.parts c.args.lens ++ opening_rules c.args.frame) refl
+          c.in_err-check_number.was c.check_number.ensures.numbers;
+      desk = search rules;
+    }
 
-pub bounds-next-camera : goal.bounds-next-camera
-bounds-next-camera c =
-    let rules : List Rule =
-    number_rules c.args.self.places c.args.camera ++ part_rules c.args.self.places c.args.parts c.args.lens ++ opening_rules c.args.frame in
-    let decided : Answers c.and-answer.result rules =
-    both (both (answers c.check_number-number.result (number_rules c.args.self.places c.args.camera) refl c.check_number-number.ensures)
-    (answers c.check_parts-taken.result (part_rules c.args.self.places c.args.parts c.args.lens) refl c.check_parts-taken.ensures) c.and.ensures)
-    (answers c.open-opened.result.answer (opening_rules c.args.frame) refl c.open-opened.ensures.answered) c.and-answer.ensures in
-    let below : c.args.camera < 32 =
-    (open_given (open_call c.args.self c.args.camera c.args.frame c.args.parts c.args.lens (record { desk = c.args.self; answer = c.and-answer.result }))
-    (finished_number rules c.in-Finished.is decided.equation)).below in
-    below
-
-pub returns : goal.returns
-returns c =
-    let rules : List Rule =
-    number_rules c.args.self.places c.args.camera ++ part_rules c.args.self.places c.args.parts c.args.lens ++ opening_rules c.args.frame in
-    let decided : Answers c.and-answer.result rules =
-    both (both (answers c.check_number-number.result (number_rules c.args.self.places c.args.camera) refl c.check_number-number.ensures)
-    (answers c.check_parts-taken.result (part_rules c.args.self.places c.args.parts c.args.lens) refl c.check_parts-taken.ensures) c.and.ensures)
-    (answers c.open-opened.result.answer (opening_rules c.args.frame) refl c.open-opened.ensures.answered) c.and-answer.ensures in
-    open_accepted c.args.self c.args.camera c.args.frame c.args.parts c.args.lens c.and-answer.result decided.equation c.in-Finished.is
-    c.open-opened.ensures.state
+pub returns-in_err-check_parts : goal.returns-in_err-check_parts
+returns-in_err-check_parts c =
+    let same : numbers_of c.from_residual-in_err-check_parts.result ≡ numbers_of c.check_parts.result = search rules in
+    record {
+      answered = same
+          ∙ after_refused (part_rules c.args.self.now.places c.args.parts c.args.lens) (opening_rules c.args.frame) refl
+          c.in_err-check_parts.was c.check_parts.ensures
+          ∙ sym (after_finished (number_rules c.args.self.now.places c.args.camera)
+          (part_rules c.args.self.now.places c.args.parts c.args.lens ++ opening_rules c.args.frame) refl
+          c.in_ok-check_number.was c.check_number.ensures.numbers);
+      desk = search rules;
+    }

@@ -1,37 +1,24 @@
--- `step` meets its contract: it is the next camera's turn, and what serving it promises is handed on.
+-- `step` meets its contract: the camera whose turn it is is one of the 32.
 -- Assumes nothing.
 use mathlib.Core.Path.{sym, ◌∙◌}
 use native.Mathlib.Omega.{arith}
-use Rattle.desk_places.proofs.Turn.{Waits, turn_Waits}
-use Rattle.desk_bands.specs.Buffers.{Buffers, buffers_of}
-use Rattle.desk.proofs.Post.{step_none, step_served}
+use Rattle.desk_places.proofs.NextTurn.{Waits, turn_Waits}
 use Rattle.desk.proofs.Desk.step.Goals as goal
 
-pub offset_bounds-left-camera : goal.offset_bounds-left-camera
-offset_bounds-left-camera c =
-    let waits : Waits c.args.self.places c.in-Turn.camera c.in-Turn.frame c.in-Turn.band =
-    turn_Waits _ _ (sym c.in-Turn.is ∙ c.next_waiting-next.ensures) in
+pub offset_bounds-self-turn : goal.offset_bounds-self-turn
+offset_bounds-self-turn c =
+    let turn = c.in-Some.turn in
+    let waits : Waits c.args.self.now.places turn.camera turn.frame turn.band = turn_Waits _ _ (sym c.in-Some.is ∙ c.next_waiting.ensures) in
     omega (arith, waits.below)
 
-pub bounds-left-camera : goal.bounds-left-camera
-bounds-left-camera c =
-    let waits : Waits c.args.self.places c.in-Turn.camera c.in-Turn.frame c.in-Turn.band =
-    turn_Waits _ _ (sym c.in-Turn.is ∙ c.next_waiting-next.ensures) in
+pub bounds-self-turn : goal.bounds-self-turn
+bounds-self-turn c =
+    let turn = c.in-Some.turn in
+    let waits : Waits c.args.self.now.places turn.camera turn.frame turn.band = turn_Waits _ _ (sym c.in-Some.is ∙ c.next_waiting.ensures) in
     waits.below
 
-pub overflow_add-left : goal.overflow_add-left
-overflow_add-left c =
-    let waits : Waits c.args.self.places c.in-Turn.camera c.in-Turn.frame c.in-Turn.band =
-    turn_Waits _ _ (sym c.in-Turn.is ∙ c.next_waiting-next.ensures) in
+pub overflow_add-self : goal.overflow_add-self
+overflow_add-self c =
+    let turn = c.in-Some.turn in
+    let waits : Waits c.args.self.now.places turn.camera turn.frame turn.band = turn_Waits _ _ (sym c.in-Some.is ∙ c.next_waiting.ensures) in
     omega (arith, waits.below)
-
-pub returns-in-NoneWaiting : goal.returns-in-NoneWaiting
-returns-in-NoneWaiting c =
-    let lent : Buffers = buffers_of c.args.source.now c.args.y.now c.args.u.now c.args.v.now c.args.carried.now in
-    step_none c.args.self lent (sym c.in-NoneWaiting.is ∙ c.next_waiting-next.ensures)
-
-pub returns-in-Turn : goal.returns-in-Turn
-returns-in-Turn c =
-    let lent : Buffers = buffers_of c.args.source.now c.args.y.now c.args.u.now c.args.v.now c.args.carried.now in
-    step_served c.args.self c.in-Turn.camera c.in-Turn.frame c.in-Turn.band c.serve_band-r.result c.after_band-slot.result _ lent _
-    (sym c.in-Turn.is ∙ c.next_waiting-next.ensures) c.serve_band-r.ensures c.after_band-slot.ensures (omega arith)

@@ -3,75 +3,52 @@
 use mathlib.Core.Path.{◌≡◌, ◌∙◌, ap}
 use Prim.Native.Nat.{ℕ, ◌*◌}
 use native.Mathlib.Omega.{arith}
-use lib.IntN.{nat_abs}
+use lib.IntN.{ℤ, nat_abs}
 use Rattle.yuv_support.specs.declared.YuvChromaRange.{YuvChromaRange}
-use Rattle.forward_transform.specs.declared.CbCrForwardTransformI32.{CbCrForwardTransformI32}
+use Rattle.forward_transform.specs.declared.CbCrForwardTransform.{CbCrForwardTransform}
+use Rattle.forward_transform.specs.Shape.{Shape}
+use Rattle.definitions.specs.declared.YuvSettings.{YuvSettings}
 use Rattle.definitions.specs.Pixel.{bias_y}
 use Rattle.pixel_pairs.specs.declared.tables.Weights.{Weights}
 use Rattle.pixel_pairs.specs.Weights.{by_place, luma_weights}
 use Rattle.pixel_pairs.specs.Tables.{luma_part}
-use Rattle.pixel_pairs.proofs.Signed.{read_small}
+use Rattle.pixel_pairs.proofs.Signed.{kept}
 use Rattle.pixel_pairs.proofs.Weights.{Small, luma_Small, placed_Small, placed_kept, size_kept, bias_small}
 use Rattle.pixel_pairs.proofs.TableSums.{Places-none, Places-more}
 use Rattle.pixel_pairs.proofs.tables.sum_tables.Goals as goal
 
-pub magnitude-requires : goal.magnitude-requires
-magnitude-requires c =
-    let weights : Weights = c.by_place-weights.result in
-    let small : Small weights.first weights.second weights.third =
-    rw (c.by_place-weights.ensures ∙ placed_kept c.args.frame.settings.channels (luma_Small c.requires.weighed.shape))
-    (placed_Small c.args.frame.settings.channels (luma_Small c.requires.weighed.shape)) in
-    let s = small.r in rw (read_small _ s) s
+-- the luma weights are small, so they stand by their places as they were handed on
+small_placed : (s : YuvSettings) {t : CbCrForwardTransform ℤ} {w : Weights} → Shape s.range t → w ≡ by_place s.channels (kept t.yr) (kept t.yg) (kept t.yb)
+    → Small w.first w.second w.third
+small_placed s shape e = rw (e ∙ placed_kept s.channels (luma_Small shape)) (placed_Small s.channels (luma_Small shape))
 
 pub fill-requires : goal.fill-requires
 fill-requires c =
     let weights : Weights = c.by_place-weights.result in
-    let small : Small weights.first weights.second weights.third =
-    rw (c.by_place-weights.ensures ∙ placed_kept c.args.frame.settings.channels (luma_Small c.requires.weighed.shape))
-    (placed_Small c.args.frame.settings.channels (luma_Small c.requires.weighed.shape)) in
-    let bias_is : c.get_yuv_range-levels.result.bias_y ≡ bias_y c.args.frame.settings =
-    ap (λ (l : YuvChromaRange). l.bias_y) c.get_yuv_range-levels.ensures in
-    let first_is : c.magnitude.result ≡ nat_abs weights.first = size_kept weights.first small.r c.magnitude.ensures in
+    let small = small_placed c.args.frame.settings c.requires.weighed.shape c.by_place-weights.ensures in
+    let bias_is : c.get_yuv_range.result.bias_y ≡ bias_y c.args.frame.settings =
+    ap (λ (l : YuvChromaRange). l.bias_y) c.get_yuv_range.ensures in
+    let first_is : c.unsigned_abs.result ≡ nat_abs weights.first = size_kept weights.first small.r c.unsigned_abs.ensures.value in
     record {
       at_bound = (omega arith, omega (arith, first_is, small.r), omega (arith, bias_is, bias_small c.args.frame.settings.range));
       sums_len = c.requires.sums_len;
     }
 
-pub magnitude-requires-2 : goal.magnitude-requires-2
-magnitude-requires-2 c =
-    let weights : Weights = c.by_place-weights.result in
-    let small : Small weights.first weights.second weights.third =
-    rw (c.by_place-weights.ensures ∙ placed_kept c.args.frame.settings.channels (luma_Small c.requires.weighed.shape))
-    (placed_Small c.args.frame.settings.channels (luma_Small c.requires.weighed.shape)) in
-    let s = small.g in rw (read_small _ s) s
-
 pub fill-requires-2 : goal.fill-requires-2
 fill-requires-2 c =
     let weights : Weights = c.by_place-weights.result in
-    let small : Small weights.first weights.second weights.third =
-    rw (c.by_place-weights.ensures ∙ placed_kept c.args.frame.settings.channels (luma_Small c.requires.weighed.shape))
-    (placed_Small c.args.frame.settings.channels (luma_Small c.requires.weighed.shape)) in
-    let second_is : c.magnitude-2.result ≡ nat_abs weights.second = size_kept weights.second small.g c.magnitude-2.ensures in
+    let small = small_placed c.args.frame.settings c.requires.weighed.shape c.by_place-weights.ensures in
+    let second_is : c.unsigned_abs-2.result ≡ nat_abs weights.second = size_kept weights.second small.g c.unsigned_abs-2.ensures.value in
     record {
       at_bound = (omega arith, omega (arith, second_is, small.g), omega arith);
       sums_len = c.fill.ensures.size ∙ c.requires.sums_len;
     }
 
-pub magnitude-requires-3 : goal.magnitude-requires-3
-magnitude-requires-3 c =
-    let weights : Weights = c.by_place-weights.result in
-    let small : Small weights.first weights.second weights.third =
-    rw (c.by_place-weights.ensures ∙ placed_kept c.args.frame.settings.channels (luma_Small c.requires.weighed.shape))
-    (placed_Small c.args.frame.settings.channels (luma_Small c.requires.weighed.shape)) in
-    let s = small.b in rw (read_small _ s) s
-
 pub fill-requires-3 : goal.fill-requires-3
 fill-requires-3 c =
     let weights : Weights = c.by_place-weights.result in
-    let small : Small weights.first weights.second weights.third =
-    rw (c.by_place-weights.ensures ∙ placed_kept c.args.frame.settings.channels (luma_Small c.requires.weighed.shape))
-    (placed_Small c.args.frame.settings.channels (luma_Small c.requires.weighed.shape)) in
-    let third_is : c.magnitude-3.result ≡ nat_abs weights.third = size_kept weights.third small.b c.magnitude-3.ensures in
+    let small = small_placed c.args.frame.settings c.requires.weighed.shape c.by_place-weights.ensures in
+    let third_is : c.unsigned_abs-3.result ≡ nat_abs weights.third = size_kept weights.third small.b c.unsigned_abs-3.ensures.value in
     record {
       at_bound = (omega arith, omega (arith, third_is, small.b), omega arith);
       sums_len = c.fill-2.ensures.size ∙ c.fill.ensures.size ∙ c.requires.sums_len;
@@ -84,15 +61,13 @@ returns c =
     let weights_are : weights ≡ luma_weights c.args.frame.settings =
     c.by_place-weights.ensures
     ∙ placed_kept c.args.frame.settings.channels (luma_Small c.requires.weighed.shape)
-    ∙ ap (λ (t : CbCrForwardTransformI32). by_place c.args.frame.settings.channels t.yr t.yg t.yb) c.requires.weighed.weights in
-    let small : Small weights.first weights.second weights.third =
-    rw (c.by_place-weights.ensures ∙ placed_kept c.args.frame.settings.channels (luma_Small c.requires.weighed.shape))
-    (placed_Small c.args.frame.settings.channels (luma_Small c.requires.weighed.shape)) in
-    let bias_is : c.get_yuv_range-levels.result.bias_y ≡ bias_y c.args.frame.settings =
-    ap (λ (l : YuvChromaRange). l.bias_y) c.get_yuv_range-levels.ensures in
-    let first_is : c.magnitude.result ≡ nat_abs weights.first = size_kept weights.first small.r c.magnitude.ensures in
-    let second_is : c.magnitude-2.result ≡ nat_abs weights.second = size_kept weights.second small.g c.magnitude-2.ensures in
-    let third_is : c.magnitude-3.result ≡ nat_abs weights.third = size_kept weights.third small.b c.magnitude-3.ensures in
+    ∙ ap (λ (t : CbCrForwardTransform ℤ). by_place c.args.frame.settings.channels t.yr t.yg t.yb) c.requires.weighed.weights in
+    let small = small_placed c.args.frame.settings c.requires.weighed.shape c.by_place-weights.ensures in
+    let bias_is : c.get_yuv_range.result.bias_y ≡ bias_y c.args.frame.settings =
+    ap (λ (l : YuvChromaRange). l.bias_y) c.get_yuv_range.ensures in
+    let first_is : c.unsigned_abs.result ≡ nat_abs weights.first = size_kept weights.first small.r c.unsigned_abs.ensures.value in
+    let second_is : c.unsigned_abs-2.result ≡ nat_abs weights.second = size_kept weights.second small.g c.unsigned_abs-2.ensures.value in
+    let third_is : c.unsigned_abs-3.result ≡ nat_abs weights.third = size_kept weights.third small.b c.unsigned_abs-3.ensures.value in
     let first = first_is ∙ ap (λ (w : Weights). nat_abs w.first) weights_are in
     let second = second_is ∙ ap (λ (w : Weights). nat_abs w.second) weights_are in
     let third = third_is ∙ ap (λ (w : Weights). nat_abs w.third) weights_are in

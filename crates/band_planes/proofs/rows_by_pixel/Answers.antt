@@ -1,0 +1,2 @@
+-- `rows_by_pixel` meets its contract: a pixel has 3 bytes or 4.
+-- Assumes nothing.

@@ -1,8 +1,0 @@
--- `settings_of` meets its contract: each field is what its code means.
--- Assumes nothing.
-use Rattle.frame_request.specs.Request.{settings_of}
-use Rattle.frame_request.proofs.settings_of.Goals as goal
-
-pub returns : goal.returns
-unfolding settings_of
-returns c = rw (c.channels_of.ensures, c.sampling_of.ensures, c.range_of.ensures, c.matrix_of.ensures, c.transfer_of.ensures)

@@ -1,0 +1,12 @@
+-- The invariant: what the planes that are left say is the whole answer. Assumes nothing.
+use Rattle.std.proofs.Common.{◌≡◌}
+use Rattle.shift_reader.specs.Entry.{record_of}
+use Rattle.record_difference.specs.Record.{record_difference}
+use Rattle.record_difference.proofs.Compared.{from_plane}
+use Rattle.record_difference.proofs.compare_records.Given as goal
+
+abbrev pub invariant-loop-plane : goal.invariant-loop-plane
+invariant-loop-plane l =
+    let r = record_of l.form_a l.ours l.i in
+    let s = record_of l.form_b l.theirs l.j in
+    from_plane l.plane-index l.a r s ≡ record_difference l.form_a r l.form_b s

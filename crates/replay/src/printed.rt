@@ -1,0 +1,115 @@
+// What is printed of a call.
+ghost use Rattle.std.specs.Prelude.{◌≡◌, vec_len, IfOk};
+
+use std::alloc::{AllocError, Global};
+use std::fmt;
+use yuv_error::{MismatchedSize, YuvError};
+
+// The planes that calls write.
+#[derive(Drop)]
+pub struct Planes {
+    pub y: Vec<u8>,
+    pub u: Vec<u8>,
+    pub v: Vec<u8>,
+}
+
+impl Planes {
+    // Zeros, so many for each plane.
+    pub fn new(alloc: Global, size: usize) -> Result<Planes, AllocError>
+        ensures { IfOk result (λ planes. (vec_len planes.y ≡ size) × (vec_len planes.u ≡ size) × (vec_len planes.v ≡ size)) }
+    {
+        let y = vec![in alloc; 0u8; size]?;
+        let u = vec![in alloc; 0u8; size]?;
+        let v = vec![in alloc; 0u8; size]?;
+        Ok(Planes { y, u, v })
+    }
+}
+
+// The digest of each.
+impl fmt::Display for Planes {
+    fn fmt<W: fmt::Write>(&self, f: &mut fmt::Formatter<W>) -> fmt::Result {
+        let y = Digest(&self.y);
+        let u = Digest(&self.u);
+        let v = Digest(&self.v);
+        write!(f, " y={y} u={u} v={v}")
+    }
+}
+
+// What a call answered: number, expected and received, each after a space.
+#[derive(Clone, Copy)]
+pub struct Answer(pub Result<(), YuvError>);
+
+impl fmt::Display for Answer {
+    ghost use Rattle.std.specs.Prelude.{Some};
+    ghost use Rattle.yuv_error.specs.Numbers.{numbers_of};
+    ghost use Rattle.replay.specs.Printed.{answer_text};
+
+    ghost output = { λ answer. Some (answer_text (numbers_of answer.0)) };
+
+    fn fmt<W: fmt::Write>(&self, f: &mut fmt::Formatter<W>) -> fmt::Result {
+        let numbers = error_numbers::answer_numbers(self.0);
+        let number = numbers.number;
+        let MismatchedSize { expected, received } = numbers.size;
+        write!(f, " {number} {expected} {received}")
+    }
+}
+
+// The CRC-32 of zlib and PNG of some bytes, as eight digits.
+#[derive(Clone, Copy)]
+pub struct Digest<'a>(pub &'a [u8]);
+
+impl fmt::Display for Digest<'_> {
+    fn fmt<W: fmt::Write>(&self, f: &mut fmt::Formatter<W>) -> fmt::Result {
+        let digest = crc32(self.0);
+        write!(f, "{digest:08x}")
+    }
+}
+
+// Each number after a space.
+#[derive(Clone, Copy)]
+pub struct Numbers<'a>(pub &'a [u64]);
+
+impl fmt::Display for Numbers<'_> {
+    fn fmt<W: fmt::Write>(&self, f: &mut fmt::Formatter<W>) -> fmt::Result {
+        for number in self.0 {
+            write!(f, " {number}")?;
+        }
+        Ok(())
+    }
+}
+
+// What four bits leave of a CRC-32, by these bits.
+const HALVES: [u32; 16] = [
+    0x0000_0000,
+    0x1DB7_1064,
+    0x3B6E_20C8,
+    0x26D9_30AC,
+    0x76DC_4190,
+    0x6B6B_51F4,
+    0x4DB2_6158,
+    0x5005_713C,
+    0xEDB8_8320,
+    0xF00F_9344,
+    0xD6D6_A3E8,
+    0xCB61_B38C,
+    0x9B64_C2B0,
+    0x86D3_D2D4,
+    0xA00A_E278,
+    0xBDBD_F21C,
+];
+
+fn crc32_of_half(crc: u32) -> u32 {
+    HALVES[(crc % 16) as usize] ^ crc / 16
+}
+
+fn crc32_of_byte(crc: u32, byte: u8) -> u32 {
+    crc32_of_half(crc32_of_half(crc ^ u32::from(byte)))
+}
+
+fn crc32(bytes: &[u8]) -> u32 {
+    let mut crc = 0xFFFF_FFFF;
+    for byte in bytes {
+        crc = crc32_of_byte(crc, *byte);
+    }
+    crc ^ 0xFFFF_FFFF
+}

@@ -1,2 +1,0 @@
--- Laws of Y4M files by numbers.
-pub mod Told
