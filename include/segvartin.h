@@ -2,8 +2,8 @@
  * Segvartin: strided 8-bit RGB frames to planar YUV 4:2:0 and 4:2:2 ("sharp YUV", chroma interpolated over linear light), and files which hold the
  * planes of many frames: shift files, and Y4M files, which players and encoders take.
  *
- * Link libsegvartin.a (x86-64, System V ABI). It has no state, no heap, no threads, no input and no output, and of libc it calls memset, memcpy
- * and memmove alone; calls on separate buffers may run on separate threads. A call takes less than 96 KiB of stack, segvartin_convert_convoy,
+ * Link libsegvartin.a (x86-64, System V ABI). It has no state, no heap, no threads, no input and no output, and of libc it calls memset and memcpy
+ * alone; calls on separate buffers may run on separate threads. A call takes less than 96 KiB of stack, segvartin_convert_convoy,
  * segvartin_desk_step and segvartin_pair_shift_files less than 128.
  *
  * Call segvartin_frame, segvartin_open and segvartin_band, or the same calls with their numbers in structs: segvartin_convert_frame,

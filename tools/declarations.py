@@ -177,7 +177,7 @@ def names_differ():
     convoy = re.search(r'const MAX_FRAMES: usize = (\d+);', (ROOT / 'crates' / 'convoy_parts' / 'src' / 'lib.rt').read_text())[1]
     cameras = re.search(r'pub places: \[Slot; (\d+)\]', (ROOT / 'crates' / 'desk' / 'src' / 'lib.rt').read_text())[1]
     records = re.search(r'const MOST_RECORDS: u32 = (\d+);', (ROOT / 'crates' / 'shift_file' / 'src' / 'lib.rt').read_text())[1]
-    entry = re.search(r'const ENTRY: usize = (\d+);', (ROOT / 'crates' / 'summary_calls' / 'src' / 'lib.rt').read_text())[1]
+    entry = re.search(r'const ENTRY: usize = (\d+);', (ROOT / 'crates' / 'summary_entry' / 'src' / 'lib.rt').read_text())[1]
     header = HEADER.read_text()
     ours = {name.split('::')[1].upper(): code for name, code in settings.items()} | {REFUSALS[name]: number for name, number in refusals.items()}
     ours |= {'FINISHED': 0, 'MAX_SIDE': int(side), 'MAX_CONVOY': int(convoy), 'MAX_RECORDS': int(records), 'SUMMARY_ENTRY': int(entry)}

@@ -1,4 +1,6 @@
 // Band calls: a frame converted in bands of rows, between which its state goes in by value and comes back.
+// Y, U and V come as three slices, as C lends them: each contract speaks of y, u and v one by one, so a struct of the three would be made for a call
+// and taken apart in it.
 #![tactic(auto)]
 
 ghost use Rattle.std.specs.Prelude.{◌≡◌, ◌+◌, ◌*◌, ◌-◌, ◌/◌, ◌%◌, ◌≤◌, length, OnOk};
@@ -22,7 +24,7 @@ pub struct FrameState {
     pub done: u32,
 }
 
-// What an opening or a band call hands back.
+// What an opening or a band call hands back: the state in any case, refused or not, so this is no `Result`.
 #[derive(Clone, Copy, Debug, PartialEq)]
 pub struct FrameAnswer {
     pub state: FrameState,

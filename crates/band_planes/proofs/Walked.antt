@@ -11,9 +11,8 @@ use Rattle.definitions.specs.declared.Band.{Band}
 use Rattle.definitions.specs.Image.{Image}
 use Rattle.definitions.specs.Bands.{band_image, Sharpened}
 use Rattle.definitions.proofs.Bands.{Sharpened-none, Sharpened-then}
-use Rattle.band_steps.specs.declared.Work.{Work}
 use Rattle.yuv_error.specs.Known.{Lent}
-use Rattle.band_steps.specs.Steps.{band_of, frame_of, Sees}
+use Rattle.band_steps.specs.Steps.{Sees}
 use Rattle.band_steps.proofs.Steps.{Sees-own}
 
 -- what is lent, after rows were written
@@ -39,23 +38,19 @@ pub Sharpened-to : {d : FrameDescription} {from to end : ℕ} {image : Image} {y
     → Sharpened d from end image y u v y' u' v'
 Sharpened-to {d} {from} {image = image} {y} {u} {v} {y'} {u'} {v'} e p = subst (λ (n : ℕ). Sharpened d from n image y u v y' u' v') e p
 
-pub Sharpened-as : {d : FrameDescription} {from to : ℕ} {image : Image} {y u v y' u' v' y'' u'' v'' : List ℕ} → y'' ≡ y' → u'' ≡ u' → v'' ≡ v'
-    → Sharpened d from to image y u v y' u' v' → Sharpened d from to image y u v y'' u'' v''
-Sharpened-as e f g p = rw (e, f, g) p
-
 -- rows `from` up to `row` of a band, for every image that has the band's own rows
-pub record Walked (w : Work) (from row : ℕ) (source y u v y' u' v' : List ℕ) : Type 0 where
+pub record Walked (b : Band) (from row : ℕ) (source y u v y' u' v' : List ℕ) : Type 0 where
   pub least : from ≤ row
-  pub most : row ≤ w.done + w.count
-  pub sharpened : (image : Image) → Sees w source image → Sharpened (frame_of w) from row image y u v y' u' v'
+  pub most : row ≤ b.done + b.rows
+  pub sharpened : (image : Image) → Sees b source image → Sharpened b.frame from row image y u v y' u' v'
 
-pub walked_none : (w : Work) (from : ℕ) (source y u v : List ℕ) → from ≤ w.done + w.count → Walked w from from source y u v y u v
-walked_none w from source y u v most = record { least = le_refl from; most = most; sharpened = λ image sees. Sharpened-none (frame_of w) from image y u v }
+pub walked_none : (b : Band) (from : ℕ) (source y u v : List ℕ) → from ≤ b.done + b.rows → Walked b from from source y u v y u v
+walked_none b from source y u v most = record { least = le_refl from; most = most; sharpened = λ image sees. Sharpened-none b.frame from image y u v }
 
-pub walked_then : {w : Work} {from row next : ℕ} {source y u v y' u' v' y'' u'' v'' : List ℕ} → w.done + w.count ≤ (frame_of w).height
-    → Walked w from row source y u v y' u' v'
-    → row ≤ next → next ≤ w.done + w.count → ((image : Image) → Sees w source image → Sharpened (frame_of w) row next image y' u' v' y'' u'' v'')
-    → Walked w from next source y u v y'' u'' v''
+pub walked_then : {b : Band} {from row next : ℕ} {source y u v y' u' v' y'' u'' v'' : List ℕ} → b.done + b.rows ≤ b.frame.height
+    → Walked b from row source y u v y' u' v'
+    → row ≤ next → next ≤ b.done + b.rows → ((image : Image) → Sees b source image → Sharpened b.frame row next image y' u' v' y'' u'' v'')
+    → Walked b from next source y u v y'' u'' v''
 walked_then inside p rise most step =
     record {
       least = omega (arith, p.least);
@@ -64,11 +59,11 @@ walked_then inside p rise most step =
           (step image sees);
     }
 
-pub Walked-to : {w : Work} {from row next : ℕ} {source y u v y' u' v' : List ℕ} → row ≡ next → Walked w from row source y u v y' u' v'
-    → Walked w from next source y u v y' u' v'
+pub Walked-to : {b : Band} {from row next : ℕ} {source y u v y' u' v' : List ℕ} → row ≡ next → Walked b from row source y u v y' u' v'
+    → Walked b from next source y u v y' u' v'
 Walked-to e p = rw e at p
 
 -- any image serves for the planes' sizes
-pub Walked-some : {w : Work} {from row : ℕ} {source y u v y' u' v' : List ℕ} → Walked w from row source y u v y' u' v'
-    → Sharpened (frame_of w) from row (band_image (band_of w) source []) y u v y' u' v'
-Walked-some {w} {source = source} p = p.sharpened _ (Sees-own w source [])
+pub Walked-some : {b : Band} {from row : ℕ} {source y u v y' u' v' : List ℕ} → Walked b from row source y u v y' u' v'
+    → Sharpened b.frame from row (band_image b source []) y u v y' u' v'
+Walked-some {b} {source = source} p = p.sharpened _ (Sees-own b source [])

@@ -2,17 +2,17 @@
 -- Assumes nothing.
 use Prim.Native.Nat.{ℕ, ◌+◌, ◌*◌, ◌-◌, ◌%◌, ◌≤◌, ◌<◌}
 use mathlib.Core.Path.{◌≡◌, refl, ap, subst⁻¹}
-use native.Mathlib.Nat.{le_refl, mul_comm, mul-le-mul}
+use native.Mathlib.Nat.{le_refl, mul_comm}
 use native.Mathlib.Omega.{arith}
 use Rattle.yuv_support.specs.declared.YuvChromaSubsampling.{YuvChromaSubsampling}
 use Rattle.yuv_support.specs.declared.YuvChromaSubsampling.TheVariants.{Yuv420, Yuv422}
 use Rattle.yuv_support.specs.Sampling.{chroma_height}
 use Rattle.definitions.specs.Image.{pixel_size, row_size, row_start, chroma_size, chroma_rows}
 use Rattle.definitions.proofs.Numbers.{row_end, next_row, columns_inside}
-use Rattle.band_steps.specs.declared.Work.{Work}
+use Rattle.definitions.specs.declared.Band.{Band}
 use Rattle.band_steps.specs.declared.Step.{Step}
 use Rattle.yuv_error.specs.Known.{Lent}
-use Rattle.band_steps.specs.Steps.{band_of, frame_of, chroma_row, step_of, SourceAt, PlaneAt, YAt, ChromaAt, PairAt}
+use Rattle.band_steps.specs.Steps.{chroma_row, step_of, SourceAt, PlaneAt, YAt, ChromaAt, PairAt}
 
 -- row k of a plane of whole rows
 plane_place : (stride n rows k at length : ℕ) → n ≤ stride → length ≡ stride * rows → k < rows → at ≡ k * stride → PlaneAt stride n k at n length
@@ -31,79 +31,66 @@ pub chroma_row_most : (s : YuvChromaSubsampling) (row : ℕ) → chroma_row s ro
 chroma_row_most Yuv420 row = omega arith
 chroma_row_most Yuv422 row = le_refl row
 
--- where a row of a plane starts is a usize
-pub place_small : (k stride : ℕ) → k ≤ 16384 → stride < 4294967296 → k * stride < 18446744073709551616
-place_small k stride a b = omega (arith, mul-le-mul {n₁ = k} {m₁ = stride} {n₂ = 16384} {m₂ = 4294967296} a (omega arith))
-
 -- a step's row
-pub row_is : (w : Work) {row : ℕ} {s : Step} → s ≡ step_of w row → s.row ≡ row
-row_is w e = ap (λ (s : Step). s.row) e
+pub row_is : (b : Band) {row : ℕ} {s : Step} → s ≡ step_of b row → s.row ≡ row
+row_is b e = ap (λ (s : Step). s.row) e
 
 -- the frame's columns lie in a source row
-in_row : (w : Work) {source y u v : ℕ} → Lent (band_of w) source y u v
-    → (frame_of w).window.left * pixel_size (frame_of w) + row_size (frame_of w) ≤ w.stride
-in_row w lent =
-    let d = frame_of w in
+in_row : (b : Band) {source y u v : ℕ} → Lent b source y u v
+    → b.frame.window.left * pixel_size b.frame + row_size b.frame ≤ b.stride
+in_row b lent =
+    let d = b.frame in
     omega (arith, columns_inside d.window.left d.width d.window.source_width (pixel_size d) lent.sized.right, lent.given.source_row)
 
-module _ (w : Work) {source y u v : ℕ} (lent : Lent (band_of w) source y u v) {row : ℕ} (least : w.done ≤ row) (most : row < w.done + w.count) where
-  pub inside : row < (frame_of w).height
+module _ (b : Band) {source y u v : ℕ} (lent : Lent b source y u v) {row : ℕ} (least : b.done ≤ row) (most : row < b.done + b.rows) where
+  pub inside : row < b.frame.height
   inside = omega (arith, lent.given.rows_most)
 
-  source_end : (row - w.done) * w.stride + w.stride ≤ source
-  source_end = omega (arith, row_end (row - w.done) w.count w.stride (omega arith), mul_comm w.stride w.count, lent.given.source_size)
+  source_end : (row - b.done) * b.stride + b.stride ≤ source
+  source_end = omega (arith, row_end (row - b.done) b.rows b.stride (omega arith), mul_comm b.stride b.rows, lent.given.source_size)
 
   -- the frame's pixels in the row
-  row_inside : row_start (frame_of w) w.stride (row - w.done) + row_size (frame_of w) ≤ (row - w.done) * w.stride + w.stride
-  row_inside = omega (arith, in_row w lent)
+  row_inside : row_start b.frame b.stride (row - b.done) + row_size b.frame ≤ (row - b.done) * b.stride + b.stride
+  row_inside = omega (arith, in_row b lent)
 
-  -- what `step_at` asks
-  pub step_fits : source < 18446744073709551616
-      → (((frame_of w).width ≤ 16384) × ((frame_of w).window.left ≤ 16384) × (w.done ≤ row) × (row ≤ 16384))
-      × (row_start (frame_of w) w.stride (row - w.done) < 18446744073709551616)
-  step_fits fits = (
-    (lent.sized.width_most, omega (arith, lent.sized.right, lent.sized.source_width_most), least, omega (arith, inside, lent.sized.height_most)),
-    omega (arith, source_end, row_inside),
-  )
-
-  module _ {s : Step} (is : s ≡ step_of w row) where
-    pub source_at : {count : ℕ} → count ≡ pixel_size (frame_of w) → SourceAt count w s source
-    source_at {count} pixel = subst⁻¹ (λ (s : Step). SourceAt count w s source) is
+  module _ {s : Step} (is : s ≡ step_of b row) where
+    pub source_at : {count : ℕ} → count ≡ pixel_size b.frame → SourceAt count b s source
+    source_at {count} pixel = subst⁻¹ (λ (s : Step). SourceAt count b s source) is
         (record { pixel = pixel; least = least; most = most; place = refl; size = refl; room = omega (arith, source_end, row_inside) })
 
-    pub y_at : YAt w s y
-    y_at = subst⁻¹ (λ (s : Step). YAt w s y) is
-        (plane_place (frame_of w).y_stride (frame_of w).width (frame_of w).height row _ y lent.planes.y_row lent.planes.y_size inside refl)
+    pub y_at : YAt b s y
+    y_at = subst⁻¹ (λ (s : Step). YAt b s y) is
+        (plane_place b.frame.y_stride b.frame.width b.frame.height row _ y lent.planes.y_row lent.planes.y_size inside refl)
 
-    pub chroma_at : ChromaAt w s u v
+    pub chroma_at : ChromaAt b s u v
     chroma_at =
-        let k = chroma_row_inside (frame_of w).settings.sampling (frame_of w).height row inside in
-        subst⁻¹ (λ (s : Step). ChromaAt w s u v) is (record {
-          in_u = plane_place (frame_of w).u_stride (chroma_size (frame_of w)) (chroma_rows (frame_of w)) _ _ u lent.planes.u_row
+        let k = chroma_row_inside b.frame.settings.sampling b.frame.height row inside in
+        subst⁻¹ (λ (s : Step). ChromaAt b s u v) is (record {
+          in_u = plane_place b.frame.u_stride (chroma_size b.frame) (chroma_rows b.frame) _ _ u lent.planes.u_row
               lent.planes.u_size k refl;
-          in_v = plane_place (frame_of w).v_stride (chroma_size (frame_of w)) (chroma_rows (frame_of w)) _ _ v lent.planes.v_row
+          in_v = plane_place b.frame.v_stride (chroma_size b.frame) (chroma_rows b.frame) _ _ v lent.planes.v_row
               lent.planes.v_size k refl;
         })
 
 -- a row and the next, from an even row on
-module _ (w : Work) {source y u v : ℕ} (lent : Lent (band_of w) source y u v) {row : ℕ} (least : w.done ≤ row) (most : row + 2 ≤ w.done + w.count)
-    (even : row % 2 ≡ 0) {s : Step} (is : s ≡ step_of w row) where
-  pub pair_at : PairAt w s source y
+module _ (b : Band) {source y u v : ℕ} (lent : Lent b source y u v) {row : ℕ} (least : b.done ≤ row) (most : row + 2 ≤ b.done + b.rows)
+    (even : row % 2 ≡ 0) {s : Step} (is : s ≡ step_of b row) where
+  pub pair_at : PairAt b s source y
   pair_at =
-      let d = frame_of w in
+      let d = b.frame in
       let h : row + 2 ≤ d.height = omega (arith, lent.given.rows_most) in
-      let i = row - w.done in
-      subst⁻¹ (λ (s : Step). PairAt w s source y) is (record {
+      let i = row - b.done in
+      subst⁻¹ (λ (s : Step). PairAt b s source y) is (record {
         even = even;
         most = most;
         height = h;
         source_room = omega (
           arith,
-          next_row i w.stride,
-          row_end (i + 1) w.count w.stride (omega arith),
-          mul_comm w.stride w.count,
+          next_row i b.stride,
+          row_end (i + 1) b.rows b.stride (omega arith),
+          mul_comm b.stride b.rows,
           lent.given.source_size,
-          in_row w lent,
+          in_row b lent,
         );
         y_room = omega (
           arith,

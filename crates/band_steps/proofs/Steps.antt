@@ -20,9 +20,9 @@ use Rattle.definitions.proofs.Bands.{band_own_rows}
 use Rattle.definitions.proofs.Windows.{own_row}
 use Rattle.definitions.proofs.Numbers.{next_row, three_or_four}
 use Rattle.pixel_pairs.specs.Rows.{RowOf, ChromaRoom, TwoPainted, ChromaWritten}
-use Rattle.band_steps.specs.declared.Work.{Work}
+use Rattle.definitions.specs.declared.Band.{Band}
 use Rattle.band_steps.specs.declared.Step.{Step}
-use Rattle.band_steps.specs.Steps.{band_of, frame_of, chroma_of, SourceAt, PlaneAt, YAt, ChromaAt, PairAt, Sees, LumaIs, ChromaIs}
+use Rattle.band_steps.specs.Steps.{chroma_of, SourceAt, PlaneAt, YAt, ChromaAt, PairAt, Sees, LumaIs, ChromaIs}
 use Rattle.band_steps.proofs.Written.{Painted-as, two_as, two_part, rows_written, part_written}
 
 -- a part of a buffer that was lent, and the buffer with the part back in its place
@@ -36,49 +36,41 @@ pub part_long : (at n m : ℕ) (l : List ℕ) → at + n ≤ length l → m ≤ 
 part_long at n m l room fits = simp (length-take, length-drop) (omega (arith, room, fits))
 
 -- the parts that a step lends
-pub source_row : {count : ℕ} (w : Work) {s : Step} (source : List ℕ) → SourceAt count w s (length source) → RowOf (frame_of w) count (part s.source s.size source)
-source_row w {s} source at = rw at.pixel (record {
-  wide = (three_or_four (frame_of w).settings.channels).0;
-  size = part_long s.source s.size (row_size (frame_of w)) source at.room (omega (arith, at.size));
+pub source_row : {count : ℕ} (b : Band) {s : Step} (source : List ℕ) → SourceAt count b s (length source) → RowOf b.frame count (part s.source s.size source)
+source_row b {s} source at = rw at.pixel (record {
+  wide = (three_or_four b.frame.settings.channels).0;
+  size = part_long s.source s.size (row_size b.frame) source at.room (omega (arith, at.size));
 })
 
--- and the row below it
-pub next_source_row : {count : ℕ} (w : Work) {s : Step} (source : List ℕ) → SourceAt count w s (length source) → s.source + w.stride + s.size ≤ length source
-    → RowOf (frame_of w) count (part (s.source + w.stride) s.size source)
-next_source_row w {s} source at room = rw at.pixel (record {
-  wide = (three_or_four (frame_of w).settings.channels).0;
-  size = part_long (s.source + w.stride) s.size (row_size (frame_of w)) source room (omega (arith, at.size));
-})
-
-pub chroma_room : (w : Work) {s : Step} (u v : List ℕ) → ChromaAt w s (length u) (length v)
-    → ChromaRoom (frame_of w) (part s.u s.chroma u) (part s.v s.chroma v)
-chroma_room w {s} u v at = record {
-  in_u = part_long s.u s.chroma (chroma_size (frame_of w)) u at.in_u.room (omega (arith, at.in_u.size));
-  in_v = part_long s.v s.chroma (chroma_size (frame_of w)) v at.in_v.room (omega (arith, at.in_v.size));
+pub chroma_room : (b : Band) {s : Step} (u v : List ℕ) → ChromaAt b s (length u) (length v)
+    → ChromaRoom b.frame (part s.u s.chroma u) (part s.v s.chroma v)
+chroma_room b {s} u v at = record {
+  in_u = part_long s.u s.chroma (chroma_size b.frame) u at.in_u.room (omega (arith, at.in_u.size));
+  in_v = part_long s.v s.chroma (chroma_size b.frame) v at.in_v.room (omega (arith, at.in_v.size));
 }
 
 -- ---- rows of the source
 
-pub row_seen : {count : ℕ} (w : Work) {s : Step} (source : List ℕ) (image : Image) → SourceAt count w s (length source) → Sees w source image
+pub row_seen : {count : ℕ} (b : Band) {s : Step} (source : List ℕ) (image : Image) → SourceAt count b s (length source) → Sees b source image
     → pixels_of count (part s.source s.size source) ≡ image s.row
-row_seen w {s} source image p sees = rw p.pixel (own_row (band_of w) source s.row s.source s.size p.place p.size ∙ sees s.row p.least)
+row_seen b {s} source image p sees = rw p.pixel (own_row b source s.row s.source s.size p.place p.size ∙ sees s.row p.least)
 
 -- and the row below it
-pub next_seen : {count : ℕ} (w : Work) {s : Step} (source : List ℕ) (image : Image) → SourceAt count w s (length source) → Sees w source image
-    → pixels_of count (part (s.source + w.stride) s.size source) ≡ image (s.row + 1)
-next_seen w {s} source image p sees =
-    let next : s.row - w.done + 1 ≡ s.row + 1 - w.done = omega (arith, p.least) in
-    let place : s.source + w.stride ≡ row_start (frame_of w) w.stride (s.row + 1 - w.done) = omega (
+pub next_seen : {count : ℕ} (b : Band) {s : Step} (source : List ℕ) (image : Image) → SourceAt count b s (length source) → Sees b source image
+    → pixels_of count (part (s.source + b.stride) s.size source) ≡ image (s.row + 1)
+next_seen b {s} source image p sees =
+    let next : s.row - b.done + 1 ≡ s.row + 1 - b.done = omega (arith, p.least) in
+    let place : s.source + b.stride ≡ row_start b.frame b.stride (s.row + 1 - b.done) = omega (
       arith,
       p.place,
-      next_row (s.row - w.done) w.stride,
-      ap (λ (i : ℕ). i * w.stride) next,
+      next_row (s.row - b.done) b.stride,
+      ap (λ (i : ℕ). i * b.stride) next,
     ) in
-    rw p.pixel (own_row (band_of w) source (s.row + 1) (s.source + w.stride) s.size place p.size ∙ sees (s.row + 1) (omega (arith, p.least)))
+    rw p.pixel (own_row b source (s.row + 1) (s.source + b.stride) s.size place p.size ∙ sees (s.row + 1) (omega (arith, p.least)))
 
 -- the image that the band sees has its own rows
-pub Sees-own : (w : Work) (source carried : List ℕ) → Sees w source (band_image (band_of w) source carried)
-Sees-own w source carried i l = band_own_rows (band_of w) source carried i l
+pub Sees-own : (b : Band) (source carried : List ℕ) → Sees b source (band_image b source carried)
+Sees-own b source carried i l = band_own_rows b source carried i l
 
 -- ---- chroma inputs
 
@@ -94,51 +86,51 @@ module _ (d : FrameDescription) (image : Image) where
 
 -- ---- what came back
 
-pub luma_is : (w : Work) (s : Step) {y p : List ℕ} (image : Image) {row : Pixels} → YAt w s (length y) → row ≡ image s.row
-    → Painted (frame_of w).width (luma_row (frame_of w) row) (part s.y s.width y) p
-    → LumaIs (frame_of w) s.row (s.row + 1) image y (back s.y s.width y p)
-luma_is w s image at e q = part_written (luma_at (frame_of w) image) at (Painted-as (ap (luma_row (frame_of w)) e) q)
+pub luma_is : (b : Band) (s : Step) {y p : List ℕ} (image : Image) {row : Pixels} → YAt b s (length y) → row ≡ image s.row
+    → Painted b.frame.width (luma_row b.frame row) (part s.y s.width y) p
+    → LumaIs b.frame s.row (s.row + 1) image y (back s.y s.width y p)
+luma_is b s image at e q = part_written (luma_at b.frame image) at (Painted-as (ap (luma_row b.frame) e) q)
 
 -- two luma rows, lent in one part
-pub lumas_are : (w : Work) (s : Step) {source : ℕ} {y p : List ℕ} (image : Image) {this below : Pixels} → YAt w s (length y) → PairAt w s source (length y)
-    → this ≡ image s.row → below ≡ image (s.row + 1) → let n = s.y + (frame_of w).y_stride + s.width - s.y in
-    TwoPainted 0 (frame_of w).y_stride (frame_of w).width (luma_row (frame_of w) this) (luma_row (frame_of w) below) (take n (drop s.y y)) p
-    → LumaIs (frame_of w) s.row (s.row + 2) image y (put_mid s.y n y p)
-lumas_are w s {y = y} image at pair a b written =
-    let d = frame_of w in
+pub lumas_are : (b : Band) (s : Step) {source : ℕ} {y p : List ℕ} (image : Image) {this below : Pixels} → YAt b s (length y) → PairAt b s source (length y)
+    → this ≡ image s.row → below ≡ image (s.row + 1) → let n = s.y + b.frame.y_stride + s.width - s.y in
+    TwoPainted 0 b.frame.y_stride b.frame.width (luma_row b.frame this) (luma_row b.frame below) (take n (drop s.y y)) p
+    → LumaIs b.frame s.row (s.row + 2) image y (put_mid s.y n y p)
+lumas_are b s {y = y} image at pair this_is below_is written =
+    let d = b.frame in
     let n = s.y + d.y_stride + s.width - s.y in
     let fits : d.y_stride + d.width ≤ n = omega (arith, at.size) in
     let rows = two_part s.y n d.y_stride d.width (omega (arith, pair.y_room)) fits at.row written in
     rows_written s.row d.y_stride d.width s.y (s.y + d.y_stride) (luma_at d image) y _ at.place refl at.row
-    (two_as (ap (luma_row d) a) (ap (luma_row d) b) rows)
+    (two_as (ap (luma_row d) this_is) (ap (luma_row d) below_is) rows)
 
-chroma_is : (w : Work) (s : Step) {k : ℕ} {u v p q : List ℕ} (image : Image) {input : ℕ → ℕ → ℕ} → ChromaAt w s (length u) (length v)
-    → chroma_of (frame_of w) s.row ≡ k
-    → input ≡ chroma_input (frame_of w).settings.sampling (frame_of w) image k
-    → ChromaWritten (frame_of w) input (part s.u s.chroma u) (part s.v s.chroma v) p q
-    → ChromaIs (frame_of w) k image u v (back s.u s.chroma u p) (back s.v s.chroma v q)
+chroma_is : (b : Band) (s : Step) {k : ℕ} {u v p q : List ℕ} (image : Image) {input : ℕ → ℕ → ℕ} → ChromaAt b s (length u) (length v)
+    → chroma_of b.frame s.row ≡ k
+    → input ≡ chroma_input b.frame.settings.sampling b.frame image k
+    → ChromaWritten b.frame input (part s.u s.chroma u) (part s.v s.chroma v) p q
+    → ChromaIs b.frame k image u v (back s.u s.chroma u p) (back s.v s.chroma v q)
 unfolding cb_at cr_at
-chroma_is w s {k} {u} {v} image at row e written =
-    let in_u = subst (λ (k : ℕ). PlaneAt (frame_of w).u_stride (chroma_size (frame_of w)) k s.u s.chroma (length u)) row at.in_u in
-    let in_v = subst (λ (k : ℕ). PlaneAt (frame_of w).v_stride (chroma_size (frame_of w)) k s.v s.chroma (length v)) row at.in_v in
+chroma_is b s {k} {u} {v} image at row e written =
+    let in_u = subst (λ (k : ℕ). PlaneAt b.frame.u_stride (chroma_size b.frame) k s.u s.chroma (length u)) row at.in_u in
+    let in_v = subst (λ (k : ℕ). PlaneAt b.frame.v_stride (chroma_size b.frame) k s.v s.chroma (length v)) row at.in_v in
     record {
-      cb = part_written (cb_at (frame_of w) image) in_u (Painted-as (ap (cb_row (frame_of w)) e) written.cb);
-      cr = part_written (cr_at (frame_of w) image) in_v (Painted-as (ap (cr_row (frame_of w)) e) written.cr);
+      cb = part_written (cb_at b.frame image) in_u (Painted-as (ap (cb_row b.frame) e) written.cb);
+      cr = part_written (cr_at b.frame image) in_v (Painted-as (ap (cr_row b.frame) e) written.cr);
     }
 
 -- in each sampling
-pub chroma_420 : (w : Work) (s : Step) {u v p q : List ℕ} (image : Image) {this below : Pixels} → (frame_of w).settings.sampling ≡ Yuv420
-    → ChromaAt w s (length u) (length v)
-    → this ≡ image (2 * (s.row / 2)) → below ≡ image (min (2 * (s.row / 2) + 1) ((frame_of w).height - 1))
-    → ChromaWritten (frame_of w) (input420 (frame_of w) this below) (part s.u s.chroma u) (part s.v s.chroma v) p q
-    → ChromaIs (frame_of w) (s.row / 2) image u v (back s.u s.chroma u p) (back s.v s.chroma v q)
-chroma_420 w s image m at a b = chroma_is w s image at (rw m) (input_of_420 (frame_of w) image (s.row / 2) m a b)
+pub chroma_420 : (b : Band) (s : Step) {u v p q : List ℕ} (image : Image) {this below : Pixels} → b.frame.settings.sampling ≡ Yuv420
+    → ChromaAt b s (length u) (length v)
+    → this ≡ image (2 * (s.row / 2)) → below ≡ image (min (2 * (s.row / 2) + 1) (b.frame.height - 1))
+    → ChromaWritten b.frame (input420 b.frame this below) (part s.u s.chroma u) (part s.v s.chroma v) p q
+    → ChromaIs b.frame (s.row / 2) image u v (back s.u s.chroma u p) (back s.v s.chroma v q)
+chroma_420 b s image m at this_is below_is = chroma_is b s image at (rw m) (input_of_420 b.frame image (s.row / 2) m this_is below_is)
 
-pub chroma_422 : (w : Work) (s : Step) {u v p q : List ℕ} (image : Image) {this : Pixels} → (frame_of w).settings.sampling ≡ Yuv422
-    → ChromaAt w s (length u) (length v) → this ≡ image s.row
-    → ChromaWritten (frame_of w) (input422 (frame_of w) this) (part s.u s.chroma u) (part s.v s.chroma v) p q
-    → ChromaIs (frame_of w) s.row image u v (back s.u s.chroma u p) (back s.v s.chroma v q)
-chroma_422 w s image m at a = chroma_is w s image at (rw m) (input_of_422 (frame_of w) image s.row m a)
+pub chroma_422 : (b : Band) (s : Step) {u v p q : List ℕ} (image : Image) {this : Pixels} → b.frame.settings.sampling ≡ Yuv422
+    → ChromaAt b s (length u) (length v) → this ≡ image s.row
+    → ChromaWritten b.frame (input422 b.frame this) (part s.u s.chroma u) (part s.v s.chroma v) p q
+    → ChromaIs b.frame s.row image u v (back s.u s.chroma u p) (back s.v s.chroma v q)
+chroma_422 b s image m at this_is = chroma_is b s image at (rw m) (input_of_422 b.frame image s.row m this_is)
 
 -- ---- steps
 

@@ -141,7 +141,7 @@ fn stored_set(index: usize) -> CbCrForwardTransform<i32>
     BUILT[index]
 }
 
-// The set for the range, of the two that begin at `first`.
+// The set for the range, of the two that begin at `first`. Its match chooses a set, and no step.
 fn stored_pair(first: usize, range: YuvRange) -> CbCrForwardTransform<i32>
     requires { first < 9 }
     ensures { result ≡ stored_pair first range }

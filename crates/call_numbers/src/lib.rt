@@ -1,5 +1,6 @@
 // The numbers that a caller without enums and structs passes and is told: a description in a slice, so that a later setting is one number more; an
-// answer as its number, expected and received.
+// answer as its number, expected and received. Numbers and kr and kb come as two parameters, since C lends two arrays, the contracts speak of each,
+// and a caller here makes one call: a struct of both would be made for that call alone.
 #![tactic(auto)]
 
 ghost use Rattle.std.specs.Prelude.{◌≡◌, false, ◌+◌, ◌≤◌, length, get_or, drop, set, OnOk};
@@ -31,16 +32,16 @@ pub fn number_at(numbers: &[u32], i: usize) -> u32
     numbers.get(i).copied().unwrap_or(0)
 }
 
-// Whether one of a description's codes has no meaning.
+// Whether one of a description's codes has no meaning. A test of numbers: `settings_of` takes the first meaning of such a code, since a desk's numbers come
+// to it untested.
 fn has_unknown(numbers: &[u32]) -> bool
-    requires { 10 ≤ length numbers.now }
     ensures { result ≡ is_unknown numbers.now }
 {
-    numbers[2] >= 4
-        || numbers[3] >= 2
-        || numbers[4] >= 2
-        || numbers[5] > CUSTOM
-        || numbers[6] >= 4
+    number_at(numbers, 2) >= 4
+        || number_at(numbers, 3) >= 2
+        || number_at(numbers, 4) >= 2
+        || number_at(numbers, 5) > CUSTOM
+        || number_at(numbers, 6) >= 4
         || number_at(numbers, DESCRIPTION) >= 2
 }
 
@@ -78,54 +79,52 @@ pub fn matrix_of(code: u32, custom: &[f32; 2]) -> YuvStandardMatrix
     }
 }
 
+#[tactic(auto, unfolding(crate::specs::Codes::settings_of))]
 fn settings_of(numbers: &[u32], custom: &[f32; 2]) -> YuvSettings
-    requires { 10 ≤ length numbers.now }
     ensures { result ≡ settings_of numbers.now custom.now }
 {
     YuvSettings {
-        channels: setting_codes::channels_of(numbers[2]),
-        sampling: setting_codes::sampling_of(numbers[3]),
-        range: setting_codes::range_of(numbers[4]),
-        matrix: matrix_of(numbers[5], custom),
-        transfer: setting_codes::transfer_of(numbers[6]),
+        channels: setting_codes::channels_of(number_at(numbers, 2)),
+        sampling: setting_codes::sampling_of(number_at(numbers, 3)),
+        range: setting_codes::range_of(number_at(numbers, 4)),
+        matrix: matrix_of(number_at(numbers, 5), custom),
+        transfer: setting_codes::transfer_of(number_at(numbers, 6)),
         rounding: setting_codes::rounding_of(number_at(numbers, DESCRIPTION)),
     }
 }
 
 #[tactic(auto, unfolding(crate::specs::Codes::window_of))]
 fn window_of(numbers: &[u32]) -> Window
-    requires { 10 ≤ length numbers.now }
     ensures { result ≡ window_of numbers.now }
 {
     if numbers.len() < WITH_WINDOW {
         return Window {
             left: 0,
             top: 0,
-            source_width: numbers[0],
-            source_height: numbers[1],
+            source_width: number_at(numbers, 0),
+            source_height: number_at(numbers, 1),
         };
     }
     Window {
-        left: numbers[11],
-        top: numbers[12],
-        source_width: numbers[13],
-        source_height: numbers[14],
+        left: number_at(numbers, 11),
+        top: number_at(numbers, 12),
+        source_width: number_at(numbers, 13),
+        source_height: number_at(numbers, 14),
     }
 }
 
-// The frame that a description's numbers describe; a code without a meaning counts as the first.
+// The frame that a description's numbers describe; a number that is not given counts as 0, a code without a meaning as the first.
 pub fn describe(numbers: &[u32], custom: &[f32; 2]) -> FrameDescription
-    requires { 10 ≤ length numbers.now }
     ensures { result ≡ description_of numbers.now custom.now }
 {
     FrameDescription {
-        width: numbers[0],
-        height: numbers[1],
+        width: number_at(numbers, 0),
+        height: number_at(numbers, 1),
         window: window_of(numbers),
         settings: settings_of(numbers, custom),
-        y_stride: numbers[7],
-        u_stride: numbers[8],
-        v_stride: numbers[9],
+        y_stride: number_at(numbers, 7),
+        u_stride: number_at(numbers, 8),
+        v_stride: number_at(numbers, 9),
     }
 }
 
@@ -154,7 +153,7 @@ pub fn described(
     Ok(describe_after(before, numbers, custom))
 }
 
-// Tells an answer: its number, and its expected and received.
+// Tells an answer: its number, and its expected and received. `told` is a slice here and in `tell`, as the arrays that C lends have 2, 3 or 4 places.
 pub fn tell_answer(answer: Result<(), YuvError>, told: &mut [usize]) -> u32
     requires { 2 ≤ length told.old }
     ensures { (result ≡ (numbers_of answer).number)
@@ -166,7 +165,7 @@ pub fn tell_answer(answer: Result<(), YuvError>, told: &mut [usize]) -> u32
     numbered.number
 }
 
-// What an opening or a band call has to tell: its answer, and the rows done.
+// What an opening or a band call has to tell: its answer, and the rows done, which are told beside a refusal too, so this is no `Result`.
 #[derive(Clone, Copy, Debug, PartialEq, Eq)]
 pub struct Told {
     pub answer: Result<(), YuvError>,

@@ -17,7 +17,7 @@ use Rattle.forward_transform.proofs.Sums.{luma_bias}
 use Rattle.built_coefficients.specs.Built.{forward_transform}
 use Rattle.built_coefficients.proofs.Shapes.{forward_Shape}
 use Rattle.definitions.proofs.Pixel.{luma_is}
-use Rattle.colour_counts.specs.declared.LumaWeights.{LumaWeights}
+use Rattle.colour_counts.specs.declared.luma.LumaWeights.{LumaWeights}
 use Rattle.colour_counts.specs.Counts.{settings_of}
 use Rattle.colour_counts.specs.Known.{Weighs}
 
@@ -41,12 +41,20 @@ module _ (range : YuvRange) (matrix : YuvStandardMatrix) (a : T (accepted matrix
   shape : Shape range t
   shape = forward_Shape range matrix a
 
+  -- every luma is a byte
+  pub byte_luma : (r g b start : ℕ) → r ≡ nat_abs t.yr → g ≡ nat_abs t.yg → b ≡ nat_abs t.yb → start ≡ luma_bias range → 255 * (r + g + b) + start < 256 * 8192
+  byte_luma r g b start x y z s =
+      let R = x ∙ ap nat_abs shape.yr in
+      let G = y ∙ ap nat_abs shape.yg in
+      let B = z ∙ ap nat_abs shape.yb in
+      omega (arith, light range _ shape.luma_most_lem)
+
   pub weighs : (w : LumaWeights) → w.r ≡ nat_abs t.yr → w.g ≡ nat_abs t.yg → w.b ≡ nat_abs t.yb → w.start ≡ luma_bias range → Weighs range matrix w
   weighs w r g b start =
       let R = r ∙ ap nat_abs shape.yr in
       let G = g ∙ ap nat_abs shape.yg in
       let B = b ∙ ap nat_abs shape.yb in
       record {
-        light = omega (arith, light range _ shape.luma_most_lem);
+        light = w.byte_luma;
         luma = λ c l. let n = bytes c l in rw (R, G, B, start) (sym (luma_is (settings_of range matrix) shape _ _ _ n.0 n.1 n.2));
       }

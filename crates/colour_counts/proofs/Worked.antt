@@ -4,11 +4,12 @@
 use Prim.Native.Nat.{ℕ, zero, suc, ◌+◌, ◌*◌, ◌-◌, ◌/◌, ◌%◌, ◌≤◌, ◌<◌}
 use mathlib.Core.Path.{◌≡◌, refl, sym, ap, ◌∙◌}
 use native.Mathlib.Omega.{arith}
+use lib.Dec.{lit<}
 use Rattle.yuv_support.specs.declared.YuvRange.TheVariants.{Full}
 use Rattle.yuv_support.specs.declared.YuvStandardMatrix.TheVariants.{Bt601}
 use Rattle.built_coefficients.specs.Built.{forward_transform}
 use Rattle.definitions.proofs.Planes.{below?}
-use Rattle.colour_counts.specs.declared.LumaWeights.{LumaWeights}
+use Rattle.colour_counts.specs.declared.luma.LumaWeights.{LumaWeights}
 use Rattle.colour_counts.specs.Counts.{count_below, count_of}
 use Rattle.colour_counts.specs.Known.{luma_by, Weighs}
 use Rattle.colour_counts.proofs.Counting.{count_none, count_one, count_other, count_like}
@@ -32,7 +33,7 @@ module _ (f : ℕ → ℕ) (y m : ℕ) where
       rw next (count_other f (m + n) y (other (m + n) (omega arith) (omega arith)) ∙ run_past n (λ c l h. other c l (omega arith)))
 
 abbrev bt601 : LumaWeights
-bt601 = record { r = 2449; g = 4809; b = 934; start = 4095 }
+bt601 = record { r = 2449; g = 4809; b = 934; start = 4095; byte_luma = lit< tt }
 
 bt601-Weighs : Weighs Full Bt601 bt601
 unfolding forward_transform

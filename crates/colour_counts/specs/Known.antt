@@ -3,7 +3,7 @@
 use Rattle.std.specs.Prelude.{ℕ, ◌+◌, ◌*◌, ◌/◌, ◌%◌, ◌<◌, ◌≡◌}
 use Rattle.yuv_support.specs.declared.YuvRange.{YuvRange}
 use Rattle.yuv_support.specs.declared.YuvStandardMatrix.{YuvStandardMatrix}
-use Rattle.colour_counts.specs.declared.LumaWeights.{LumaWeights}
+use Rattle.colour_counts.specs.declared.luma.LumaWeights.{LumaWeights}
 use Rattle.colour_counts.specs.Counts.{colours, luma_of_colour}
 
 -- the luma of a colour by such weights

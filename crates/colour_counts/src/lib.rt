@@ -1,12 +1,15 @@
 // How many of the 16,777,216 colours have each luma, in a matrix and range.
 #![tactic(auto)]
 
+mod luma;
+
 ghost use Rattle.std.specs.Prelude.{◌≡◌, ◌+◌, ◌*◌, ◌/◌, ◌%◌, ◌≤◌, ◌<◌, T};
 ghost use Rattle.yuv_support.specs.Matrix.{accepted};
 ghost use Rattle.definitions.specs.Painted.{Painted};
 ghost use Rattle.colour_counts.specs.Counts.{colours, count_below, CountsPost};
-ghost use Rattle.colour_counts.specs.Known.{luma_by, ByteLuma, Weighs};
+ghost use Rattle.colour_counts.specs.Known.{luma_by, Weighs};
 
+use luma::LumaWeights;
 use yuv_error::YuvError;
 use yuv_support::{YuvRange, YuvStandardMatrix, get_yuv_range};
 
@@ -21,15 +24,6 @@ const ROUNDING: u64 = 4095;
 
 // A carried sum stands in the high half of its word: the compiler then finds the place of a count by one shift, with no mask.
 const HIGH: u64 = 4294967296;
-
-// The weights of luma, none of which is negative, and what it starts from.
-#[derive(Clone, Copy, Debug, PartialEq, Eq, Hash)]
-struct LumaWeights {
-    r: u64,
-    g: u64,
-    b: u64,
-    start: u64,
-}
 
 fn luma_weights(range: YuvRange, matrix: YuvStandardMatrix) -> LumaWeights
     requires { T (accepted matrix) }
@@ -48,8 +42,7 @@ fn luma_weights(range: YuvRange, matrix: YuvStandardMatrix) -> LumaWeights
 // What the red and the green of a pair add to luma, and what it starts from. A pair's number has the bytes R and G, the higher first.
 #[tactic(auto, using(forward_transform::proofs::Sums::byte_times))]
 fn sum_of(w: LumaWeights, pair: u32) -> u64
-    requires byte_luma { ByteLuma w }
-    requires pair_bound { pair < 65536 }
+    requires { pair < 65536 }
     ensures { (result ≡ pair / 256 * w.r + pair % 256 * w.g + w.start) × (result + 255 * w.b < 256 * 8192) }
 {
     (pair / 256) as u64 * w.r + (pair % 256) as u64 * w.g + w.start
@@ -58,7 +51,6 @@ fn sum_of(w: LumaWeights, pair: u32) -> u64
 // Counts the 256 colours of a pair, after those of the pairs before it. The sum is carried, so a colour takes one addition and no product. No accepted
 // matrix takes a luma out of the range that the definition holds it in.
 fn count_blues(w: LumaWeights, pair: u32, counts: &mut [u32; 256])
-    requires byte_luma { ByteLuma w }
     requires pair_bound { pair < 65536 }
     requires painted { Painted 256 (count_below (luma_by w) (pair * 256)) counts.old counts.old }
     ensures { Painted 256 (count_below (luma_by w) (pair * 256 + 256)) counts.old counts.new }
@@ -73,7 +65,6 @@ fn count_blues(w: LumaWeights, pair: u32, counts: &mut [u32; 256])
 
 // All colours, in the order of their numbers.
 fn count_all(w: LumaWeights, counts: &mut [u32; 256])
-    requires { ByteLuma w }
     ensures { Painted 256 (count_below (luma_by w) colours) counts.old counts.new }
 {
     counts.fill(0);

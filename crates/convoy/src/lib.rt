@@ -1,4 +1,6 @@
 // A convoy: many frames in one call, with the effect of single calls in order, up to the first that is refused.
+// Y, U and V come as three slices, as C lends them: each contract speaks of y, u and v one by one, so a struct of the three would be made for a call
+// and taken apart in it.
 #![tactic(auto)]
 
 ghost use Rattle.yuv_error.specs.Lent.{lengths_of};
@@ -8,14 +10,16 @@ ghost use Rattle.convoy.specs.Called.{FrameInside, AllInside, Called};
 use convoy_parts::ConvoyFrame;
 use yuv_error::{Lengths, YuvError};
 
-// What a convoy is answered: how many frames are finished, which is the place from 0 of the one that was refused, and its refusal.
-#[derive(Clone, Copy)]
+// What a convoy is answered: how many frames are finished, which is the place from 0 of the one that was refused, and its refusal. How many
+// are finished is told beside a refusal too, so this is no `Result`. `Told` of `call_numbers` has the rows of one frame in its place.
+#[derive(Clone, Copy, Debug, PartialEq, Eq)]
 pub struct ConvoyAnswer {
     pub answer: Result<(), YuvError>,
     pub done: usize,
 }
 
-// The single call of a frame, on its parts of the buffers.
+// The single call of a frame, on its parts of the buffers. They are sliced here: a method of `BufferPart` that answered a part lent by `&mut` would need a
+// contract on what comes back, which the slice expression has.
 fn convert_frame(
     frame: ConvoyFrame,
     source: &[u8],
@@ -57,6 +61,7 @@ fn convert_frames(
         result.answer result.done (planes_of y.new u.new v.new) }
 {
     for (done, frame) in frames.iter().enumerate() {
+        // no `?`: what is returned is no `Result`
         match convert_frame(*frame, source, y, u, v) {
             Ok(()) => {}
             Err(refusal) => {

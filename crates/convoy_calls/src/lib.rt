@@ -1,12 +1,12 @@
 // A convoy from numbers, for callers without enums and structs: sixteen numbers a frame, its kr and kb, its parts as offsets and lengths; and what is
-// told of it.
+// told of it. `call_convoy` has C's parameters; Y, U and V come as three slices for the reason that crate `convoy` gives.
 #![tactic(auto)]
 
 ghost use Rattle.std.specs.Prelude.{◌≡◌, ◌≤◌, ◌<◌, [], ◌∷◌, get_or};
 ghost use Rattle.std.specs.Float.{nan};
 ghost use Rattle.yuv_error.specs.Numbers.{numbers_of};
 ghost use Rattle.convoy.specs.Run.{planes_of, convoy_call, ConvoyPost};
-ghost use Rattle.convoy_calls.specs.Numbers.{part_at, described_by, described_of, frame_of, convoy_of};
+ghost use Rattle.convoy_calls.specs.Numbers.{custom_at, part_at, described_of, frame_of, convoy_of};
 ghost use Rattle.convoy_calls.specs.Calls.{exported_convoy, ConvoyKept};
 
 use buffer_parts::BufferPart;
@@ -28,12 +28,13 @@ const FRAME_CUSTOMS: usize = 2;
 const FRAME_PARTS: usize = 8;
 
 // Float i, or NaN where it is not given.
-fn custom_at(customs: &[f32], i: usize) -> f32
+fn float_at(customs: &[f32], i: usize) -> f32
     ensures { result ≡ get_or customs.now i nan }
 {
     customs.get(i).copied().unwrap_or(f32::NAN)
 }
 
+// No conversion of a type of ours: `usize` is std's, and its `TryFrom<u64>` would answer a `Result` that never is an error where this is built.
 pub fn as_place(n: u64) -> usize
     ensures { result ≡ n }
 {
@@ -57,70 +58,68 @@ pub fn part_at(parts: &[u64], i: usize) -> BufferPart
     }
 }
 
-// What a frame's numbers describe, all sixteen of them given.
-fn described_by(numbers: &[u32], custom: &[f32; 2]) -> Option<FrameDescription>
-    ensures { result ≡ described_by numbers.now custom.now }
-{
-    if call_numbers::is_malformed(OF_FRAME, numbers) {
-        return None;
-    }
-    Some(call_numbers::describe_after(OF_FRAME, numbers, custom))
+// The numbers of a convoy's frames, kr and kb of each, and offsets and lengths of its parts, as C lends them.
+#[derive(Clone, Copy, Debug)]
+pub struct ConvoyNumbers<'a> {
+    pub numbers: &'a [u32],
+    pub customs: &'a [f32],
+    pub parts: &'a [u64],
 }
 
-fn described_of(k: usize, numbers: &[u32], custom: &[f32; 2]) -> Option<FrameDescription>
-    requires { k < 64 }
-    ensures { result ≡ described_of k numbers.now custom.now }
-{
-    let at = FRAME_NUMBERS * k;
-    let end = at + FRAME_NUMBERS;
-    if numbers.len() < end {
-        return None;
+impl ConvoyNumbers<'_> {
+    // What frame k's sixteen numbers describe; nothing where fewer are left for it.
+    fn described(&self, k: usize) -> Option<FrameDescription>
+        requires { k < 64 }
+        ensures { result ≡ described_of k self.now.numbers.now (custom_at self.now.customs.now k) }
+    {
+        let at = FRAME_NUMBERS * k;
+        let end = at + FRAME_NUMBERS;
+        if self.numbers.len() < end {
+            return None;
+        }
+        let in_customs = FRAME_CUSTOMS * k;
+        let custom = [
+            float_at(self.customs, in_customs),
+            float_at(self.customs, in_customs + 1),
+        ];
+        call_numbers::described(OF_FRAME, &self.numbers[at..end], &custom).ok()
     }
-    described_by(&numbers[at..end], custom)
-}
 
-// Frame k of a convoy, from its numbers.
-#[tactic(auto, unfolding(crate::specs::Numbers::frame_of))]
-fn frame_of(k: usize, numbers: &[u32], customs: &[f32], parts: &[u64]) -> ConvoyFrame
-    requires { k < 64 }
-    ensures { result ≡ frame_of numbers.now customs.now parts.now k }
-{
-    let in_customs = FRAME_CUSTOMS * k;
-    let in_parts = FRAME_PARTS * k;
-    let custom = [
-        custom_at(customs, in_customs),
-        custom_at(customs, in_customs + 1),
-    ];
-    ConvoyFrame {
-        described: described_of(k, numbers, &custom),
-        stride: call_numbers::number_at(numbers, FRAME_NUMBERS * k),
-        source: part_at(parts, in_parts),
-        y: part_at(parts, in_parts + 2),
-        u: part_at(parts, in_parts + 4),
-        v: part_at(parts, in_parts + 6),
+    #[tactic(auto, unfolding(crate::specs::Numbers::frame_of))]
+    fn frame(&self, k: usize) -> ConvoyFrame
+        requires { k < 64 }
+        ensures { result ≡ frame_of self.now.numbers.now self.now.customs.now self.now.parts.now k }
+    {
+        let in_parts = FRAME_PARTS * k;
+        ConvoyFrame {
+            described: self.described(k),
+            stride: call_numbers::number_at(self.numbers, FRAME_NUMBERS * k),
+            source: part_at(self.parts, in_parts),
+            y: part_at(self.parts, in_parts + 2),
+            u: part_at(self.parts, in_parts + 4),
+            v: part_at(self.parts, in_parts + 6),
+        }
     }
-}
 
-// The frames that the numbers describe, as many as a convoy has room for. A frame past the numbers is one of codes without a meaning, with parts of
-// no bytes.
-pub fn convoy_from_numbers(numbers: &[u32], customs: &[f32], parts: &[u64]) -> [ConvoyFrame; 64]
-    ensures { result ≡ convoy_of 64 numbers.now customs.now parts.now }
-{
-    std::array::from_fn(|k| frame_of(k, numbers, customs, parts))
+    // The frames that the numbers describe, as many as a convoy has room for. A frame past the numbers is one of codes without a meaning, with parts
+    // of no bytes.
+    pub fn frames(&self) -> [ConvoyFrame; 64]
+        ensures { result ≡ convoy_of 64 self.now.numbers.now self.now.customs.now self.now.parts.now }
+    {
+        std::array::from_fn(|k| self.frame(k))
+    }
 }
 
 // Converts the first `count` of those frames; refusal 18 where a convoy has no room for so many.
 fn convert_numbered(
     count: usize,
-    numbers: &[u32],
-    customs: &[f32],
-    parts: &[u64],
+    given: &ConvoyNumbers,
     source: &[u8],
     y: &mut [u8],
     u: &mut [u8],
     v: &mut [u8],
 ) -> ConvoyAnswer
-    ensures { ConvoyPost (convoy_call (convoy_of count numbers.now customs.now parts.now) source.now
+    ensures { ConvoyPost (convoy_call (convoy_of count given.now.numbers.now given.now.customs.now given.now.parts.now) source.now
         (planes_of y.old u.old v.old) result
         (planes_of y.new u.new v.new)) }
 {
@@ -130,7 +129,7 @@ fn convert_numbered(
             done: 0,
         };
     }
-    let frames = convoy_from_numbers(numbers, customs, parts);
+    let frames = given.frames();
     convoy::convert_convoy(&frames[..count], source, y, u, v)
 }
 
@@ -161,6 +160,11 @@ pub fn call_convoy(
         (planes_of y.old u.old v.old) result told.new
         (planes_of y.new u.new v.new)) }
 {
-    let answered = convert_numbered(count, numbers, customs, parts, source, y, u, v);
+    let given = ConvoyNumbers {
+        numbers,
+        customs,
+        parts,
+    };
+    let answered = convert_numbered(count, &given, source, y, u, v);
     tell_convoy(answered, told)
 }

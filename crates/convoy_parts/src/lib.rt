@@ -13,8 +13,8 @@ use yuv_error::Lengths;
 pub const MAX_FRAMES: usize = 64;
 
 // A frame of a convoy: what it is converted by, `None` where codes without a meaning came for it; the stride of its source; and its parts of the four
-// buffers.
-#[derive(Clone, Copy)]
+// buffers. The frames of a convoy have no carried rows, so this is not what a desk's `FrameParts` is.
+#[derive(Clone, Copy, Debug, PartialEq)]
 pub struct ConvoyFrame {
     pub described: Option<FrameDescription>,
     pub stride: u32,
@@ -60,6 +60,7 @@ fn any_outside(frames: &[ConvoyFrame], lent: Lengths) -> bool
 fn any_overlap(frames: &[ConvoyFrame]) -> bool
     ensures { result ≡ any_overlap frames.now }
 {
+    // no `for`: a turn takes the frames after this one too, and `split_first` gives both without an index
     let mut rest = frames;
     while let Some((frame, later)) = rest.split_first() {
         if frame.overlaps_any(later) {

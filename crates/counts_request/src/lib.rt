@@ -23,7 +23,7 @@ fn asked(input: &[u8]) -> Option<(YuvRange, YuvStandardMatrix)>
     Some((range, matrix))
 }
 
-// A text that is being put into the output, which it fills up to `at`.
+// A text that is being put into the output, which it fills up to `at`. There is no heap, and std's writer into a slice does not say which bytes it leaves.
 #[derive(Drop)]
 struct Text<'a> {
     output: &'a mut [u8],

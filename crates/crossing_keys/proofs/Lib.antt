@@ -1,2 +1,3 @@
--- Laws of keys.
+-- Laws of keys, and of a file with its keys.
 pub mod Keyed
+pub mod Places

@@ -4,20 +4,22 @@
 ghost use Rattle.std.specs.Prelude.{◌≡◌, map, length};
 ghost use Rattle.merge_sort.specs.Ascending.{sorted, keys_from};
 ghost use Rattle.shift_file.specs.Read.{records_in};
-ghost use Rattle.crossing_keys.specs.Keys.{crossings_of, number_of, KeysFit};
+ghost use Rattle.crossing_keys.specs.Keys.{crossings_of, number_of};
 
 mod key;
+mod ordered; // a file with its keys
 
 pub use key::Key;
-use shift_file::ShiftForm;
+pub use ordered::OrderedFile;
+use shift_reader::file::ShiftFile;
 
 // The key of each record, in ascending order.
-pub fn write_keys(form: ShiftForm, file: &[u8], keys: &mut [Key])
-    requires { KeysFit form file.now (length keys.old) }
-    ensures { map number_of keys.new ≡ sorted (keys_from 0 (crossings_of (records_in form file.now))) }
+pub fn write_keys(file: &ShiftFile, keys: &mut [Key])
+    requires { length keys.old ≡ file.now.count }
+    ensures { map number_of keys.new ≡ sorted (keys_from 0 (crossings_of (records_in file.now.form file.now.bytes.now))) }
 {
     for place in 0..keys.len() {
-        let entry = shift_reader::entry_of(form, file, place);
+        let entry = file.entry(place);
         keys[place] = Key {
             crossing: entry.crossing,
             place: place as u16,

@@ -11,7 +11,7 @@ use borrow.Author.Tests.{eq-eqb, ne_eqb}
 use lib.ListN.{length, take}
 use Rattle.yuv_support.specs.Matrix.{accepted as accepted_matrix}
 use Rattle.yuv_error.specs.declared.YuvError.{YuvError}
-use Rattle.std.specs.Prelude.{Result, Ok, Err}
+use Rattle.std.specs.Prelude.{Option, None, Result, Ok, Err}
 use Rattle.yuv_error.specs.Numbers.{Numbers, numbers, numbers_of}
 use Rattle.yuv_error.specs.Rules.{Rule, rule, first_numbers, matrix_rules}
 use Rattle.yuv_error.specs.Lowest.{Lowest, in_order}
@@ -42,8 +42,9 @@ use Rattle.frame_calls.proofs.Lists.{frame_first, frame_writes_nothing, frame_ac
 use Rattle.frame_calls.proofs.Lists.{band_first, band_writes_nothing, all_met, refused_kept}
 use Rattle.frame_calls.specs.Counts.{rules_of_counts}
 use Rattle.frame_calls.proofs.Counts.{counts_first, counts_write_nothing}
-use Rattle.shift_reader.specs.Reading.{file_rules}
+use Rattle.shift_reader.specs.Reading.{read_outcome, file_rules}
 use Rattle.shift_reader.proofs.Post as reading
+use Rattle.shift_writer.specs.Output.{outcome_of}
 use Rattle.shift_writer.specs.Writing.{write_rules}
 use Rattle.shift_record.specs.Record.{record_rules}
 use Rattle.shift_move.specs.Moving.{move_rules}
@@ -56,24 +57,16 @@ use Rattle.shift_calls.proofs.Shift.{unwritten, reading_first, reading_writes_no
 use Rattle.shift_calls.proofs.Shift.{writing_first, writing_writes_nothing, record_first, record_writes_nothing, move_first, move_writes_nothing}
 use Rattle.shift_file.specs.declared.ShiftForm.{ShiftForm}
 use Rattle.shift_file.specs.declared.ShiftForm.TheVariants.{WithoutSettings, WithSettings}
-use Rattle.shift_file.specs.Read.{records_in}
-use Rattle.shift_file.specs.Check.{is_file, form_in}
-use Rattle.summary_check.specs.Check.{is_summary}
-use Rattle.summary_calls.specs.declared.FoundRecord.{FoundRecord}
-use Rattle.summary_calls.specs.declared.FoundRecord.TheVariants.{Nowhere}
-use Rattle.summary_calls.specs.declared.SummaryVerdict.{SummaryVerdict}
-use Rattle.summary_calls.specs.declared.SummaryFinding.{SummaryFinding}
-use Rattle.summary_calls.specs.Found.{found_among}
-use Rattle.summary_calls.specs.Calls.{build_rules, CheckPost, find_rules, found_told, FindPost}
+use Rattle.summary_calls.specs.Calls.{build_rules, outcome, says_yes, find_rules, found_in}
 use Rattle.summary_update.specs.Update.{update_rules}
 use Rattle.shift_calls.specs.Summary.{as_number, found_count, found_place, rules_of_build, rules_of_check, rules_of_find, rules_of_update}
 use Rattle.shift_calls.proofs.Summary.{build_first, build_writes_nothing, check_first, find_first, update_first, update_writes_nothing}
 use Rattle.y4m_reader.specs.declared.Y4mReading.{Y4mReading}
 use Rattle.y4m_reader.specs.Entry.{entries_of}
-use Rattle.y4m_reader.specs.Reading.{file_rules as y4m_file_rules, ReadPost as Y4mReadPost}
+use Rattle.y4m_reader.specs.Reading.{y4m_outcome, y4m_reading_of, file_rules as y4m_file_rules, ReadPost as Y4mReadPost}
 use Rattle.y4m_writer.specs.Writing.{write_rules as y4m_write_rules}
 use Rattle.y4m_picture.specs.Picture.{picture_rules}
-use Rattle.y4m_calls.specs.Calls.{rules_of_y4m_reading, rules_of_y4m_writing, rules_of_y4m_picture}
+use Rattle.y4m_calls.specs.Calls.{y4m_told, rules_of_y4m_reading, rules_of_y4m_writing, rules_of_y4m_picture}
 use Rattle.convoy.proofs.Answers.{convoy_Lowest, unwritten as convoy_unwritten}
 use Rattle.desk.specs.DeskCall.{open_rules as desk_open_rules, offer_rules}
 use Rattle.desk_calls.specs.Calls.{rules_of_desk_open, served_numbers, step_with}
@@ -102,37 +95,29 @@ request_writes_nothing (Ok n) p l = absurd (omega arith)
 request_writes_nothing (Err e) p l = painted_same p.written
 
 -- a check that is refused says no
-says_no : (form : ShiftForm) (file summary : List ℕ) (r : SummaryVerdict) → CheckPost form file summary r → 1 ≤ (numbers_of r.answer).number
-    → r.is_summary ≡ false
-says_no form file summary r p l = p.verdict ∙ no (is_file form file) (ap (λ (x : Numbers). x.number) p.answered)
-  where
-    no : (t : Bool) → (numbers_of r.answer).number ≡ (cond (not t) (numbers 15 0 0) (numbers 0 0 0)).number
-        → (t && is_summary form (records_in form file) summary) ≡ false
-    no true e = absurd (omega arith)
-    no false e = refl
+says_no : (r : Result Bool YuvError) → 1 ≤ (numbers_of (outcome r)).number → says_yes r ≡ false
+says_no (Ok said) l = absurd (omega arith)
+says_no (Err e) l = refl
 
 -- and a lookup finds nothing
-finds_nothing : (form : ShiftForm) (file summary : List ℕ) (crossing : ℕ) (r : SummaryFinding) → FindPost form file summary crossing r
-    → 1 ≤ (numbers_of r.answer).number → r.found ≡ Nowhere
-finds_nothing form file summary crossing r p l =
-    p.found ∙ ap (λ (a : Result Unit YuvError). found_told a (found_among crossing (records_in form file))) (refusal r.answer l).1
+finds_nothing : (r : Result (Option ℕ) YuvError) → 1 ≤ (numbers_of (outcome r)).number → found_in r ≡ None
+finds_nothing (Ok found) l = absurd (omega arith)
+finds_nothing (Err e) l = refl
 
--- reading a Y4M file that is refused leaves the entries as they were
-y4m_unread : {file : List ℕ} {first : ℕ} {before after : List ℕ} {r : Y4mReading} {e : YuvError} → Y4mReadPost file first before r after
-    → r.answer ≡ Err e → after ≡ before
+-- reading a Y4M file that is refused has no reading
+y4m_refused : {r : Result Y4mReading YuvError} → 1 ≤ (numbers_of (y4m_outcome r)).number → (e : YuvError) × (r ≡ Err e)
+y4m_refused {r = Ok reading} l = absurd (omega arith)
+y4m_refused {r = Err e} l = (e, refl)
+
+-- leaves the entries as they were
+y4m_unread : {file : List ℕ} {first : ℕ} {before after : List ℕ} {r : Result Y4mReading YuvError} {e : YuvError} → Y4mReadPost file first before r after
+    → r ≡ Err e → after ≡ before
 unfolding entries_of
-y4m_unread {r = r} p is = let none : r.told ≡ 0 = rw is at p.told in p.entries ∙ rw none
+y4m_unread {r = r} p is = p.entries ∙ rw is
 
 -- and tells 0 five times
-y4m_untold : {file : List ℕ} {first : ℕ} {before after : List ℕ} {r : Y4mReading} {e : YuvError} → Y4mReadPost file first before r after
-    → r.answer ≡ Err e → r.width ∷ r.height ∷ r.sampling ∷ r.count ∷ r.told ∷ [] ≡ 0 ∷ 0 ∷ 0 ∷ 0 ∷ 0 ∷ []
-y4m_untold {r = r} p is =
-    let width : r.width ≡ 0 = rw is at p.width in
-    let height : r.height ≡ 0 = rw is at p.height in
-    let sampling : r.sampling ≡ 0 = rw is at p.sampling in
-    let count : r.count ≡ 0 = rw is at p.count in
-    let told : r.told ≡ 0 = rw is at p.told in
-    rw (width, height, sampling, count, told)
+y4m_untold : {r : Result Y4mReading YuvError} {e : YuvError} → r ≡ Err e → y4m_told (y4m_reading_of r) ≡ 0 ∷ 0 ∷ 0 ∷ 0 ∷ 0 ∷ []
+y4m_untold is = rw is
 
 -- what the first rule that holds says is the only right answer, and `reply` goes by its number
 replied : (input bytes : List ℕ) → bytes ≡ reply input → Replied input bytes
@@ -176,27 +161,27 @@ demand_1 = record {
   };
   shift_reading = λ kind form file first before r after p. record {
     lowest = lowest (file_rules form file) refl p.answered;
-    writes_nothing = λ l. reading.refused_writes_nothing (refusal r.answer l).1 p;
+    writes_nothing = λ l. reading.refused_writes_nothing (reading.read_refused (refusal (read_outcome r) l).1) p;
   };
   shift_writing = λ form records before r after p. record {
     lowest = lowest (write_rules form records (length before)) refl p.answered;
-    writes_nothing = λ l. unwritten r.answer _ l p.written;
+    writes_nothing = λ l. unwritten (outcome_of r) _ l p.written;
   };
   shift_record = λ f y u v before r after p. record {
     lowest = lowest (record_rules f y u v (length before)) refl p.answered;
-    writes_nothing = λ l. unwritten r.answer _ l p.written;
+    writes_nothing = λ l. unwritten (outcome_of r) _ l p.written;
   };
   shift_moving = λ from file before r after p. record {
     lowest = lowest (move_rules from file (length before)) (moves_in_order from file (length before)) p.answered;
-    writes_nothing = λ l. unwritten r.answer _ l p.written;
+    writes_nothing = λ l. unwritten (outcome_of r) _ l p.written;
   };
   summary_build = λ form file before a after p. record {
     lowest = lowest (build_rules form file (length before)) refl p.answered;
     writes_nothing = λ l. unwritten a _ l p.written;
   };
-  summary_check = λ form file summary r p. (lowest (file_rules form file) refl p.answered, says_no form file summary r p);
+  summary_check = λ form file summary r p. (lowest (file_rules form file) refl p.answered, says_no r);
   summary_find = λ form file summary crossing r p.
-      (lowest (find_rules form file summary) refl p.answered, finds_nothing form file summary crossing r p);
+      (lowest (find_rules form file summary) refl p.answered, finds_nothing r);
   summary_update = λ form file added before a after p. record {
     lowest = lowest (update_rules form file added before) refl p.answered;
     writes_nothing = λ l. unwritten a _ l p.written;
@@ -206,15 +191,15 @@ demand_1 = record {
   shift_pairing = λ our_form ours their_form theirs r p. lowest (pairing_rules our_form ours their_form theirs) refl p.answered;
   y4m_reading = λ file first before r after p. record {
     lowest = lowest (y4m_file_rules file) refl p.answered;
-    writes_nothing = λ l. y4m_unread p (refusal r.answer l).1;
+    writes_nothing = λ l. y4m_unread p (y4m_refused l).1;
   };
   y4m_writing = λ code w h pictures before r after p. record {
     lowest = lowest (y4m_write_rules code w h pictures (length before)) refl p.answered;
-    writes_nothing = λ l. unwritten r.answer _ l p.written;
+    writes_nothing = λ l. unwritten (outcome_of r) _ l p.written;
   };
   y4m_picture = λ f y u v before r after p. record {
     lowest = lowest (picture_rules f y u v (length before)) refl p.answered;
-    writes_nothing = λ l. unwritten r.answer _ l p.written;
+    writes_nothing = λ l. unwritten (outcome_of r) _ l p.written;
   };
   convoy = λ k p. record { lowest = convoy_Lowest k p; writes_nothing = λ l. convoy_unwritten k p };
   request = λ input output r output' p. record { lowest = lowest (request_rules input) refl p.answered; writes_nothing = request_writes_nothing r p };
@@ -234,27 +219,26 @@ demand_1 = record {
   linked_summary_build = λ k p. record { lowest = lowest (rules_of_build k) refl (build_first p); writes_nothing = build_writes_nothing p };
   linked_summary_check = λ k p. (
     lowest (rules_of_check k) refl (check_first p),
-    λ l. p.told ∙ ap (λ (b : Bool). as_number b ∷ []) (says_no (form_in k.file) k.file k.summary p.verdict p.checked (rw p.number at l)),
+    λ l. p.told ∙ ap (λ (b : Bool). as_number b ∷ []) (says_no p.verdict (rw p.number at l)),
   );
   linked_summary_find = λ k p. (
     lowest (rules_of_find k) refl (find_first p),
-    λ l. p.told ∙ ap (λ (f : FoundRecord). found_count f ∷ found_place f ∷ [])
-        (finds_nothing (form_in k.file) k.file k.summary k.crossing p.finding p.found (rw p.number at l)),
+    λ l. p.told ∙ ap (λ (f : Option ℕ). found_count f ∷ found_place f ∷ []) (finds_nothing p.finding (rw p.number at l)),
   );
   linked_summary_update = λ k p. record { lowest = lowest (rules_of_update k) refl (update_first p); writes_nothing = update_writes_nothing p };
   linked_y4m_reading = λ k p. record {
-    lowest = lowest (rules_of_y4m_reading k) refl (alone (rules_of_y4m_reading k) p.reading.answer (refl, tt) p.number p.read.answered);
+    lowest = lowest (rules_of_y4m_reading k) refl (alone (rules_of_y4m_reading k) (y4m_outcome p.reading) (refl, tt) p.number p.read.answered);
     writes_nothing = λ l.
-        let no = (refusal p.reading.answer (rw p.number at l)).1 in
-        (y4m_unread p.read no, p.told ∙ y4m_untold p.read no);
+        let no = (y4m_refused (rw p.number at l)).1 in
+        (y4m_unread p.read no, p.told ∙ y4m_untold no);
   };
   linked_y4m_writing = λ k p. record {
-    lowest = lowest (rules_of_y4m_writing k) refl (alone (rules_of_y4m_writing k) p.written.answer (refl, (refl, tt)) p.number p.wrote.answered);
-    writes_nothing = λ l. unwritten p.written.answer _ (rw p.number at l) p.wrote.written;
+    lowest = lowest (rules_of_y4m_writing k) refl (alone (rules_of_y4m_writing k) (outcome_of p.written) (refl, (refl, tt)) p.number p.wrote.answered);
+    writes_nothing = λ l. unwritten (outcome_of p.written) _ (rw p.number at l) p.wrote.written;
   };
   linked_y4m_picture = λ k p. record {
-    lowest = lowest (rules_of_y4m_picture k) refl (alone (rules_of_y4m_picture k) p.written.answer (refl, (refl, tt)) p.number p.wrote.answered);
-    writes_nothing = λ l. unwritten p.written.answer _ (rw p.number at l) p.wrote.written;
+    lowest = lowest (rules_of_y4m_picture k) refl (alone (rules_of_y4m_picture k) (outcome_of p.written) (refl, (refl, tt)) p.number p.wrote.answered);
+    writes_nothing = λ l. unwritten (outcome_of p.written) _ (rw p.number at l) p.wrote.written;
   };
   linked_convoy = λ k p. record {
     lowest = rw (convoy_told k p) at (convoy_Lowest (as_convoy k) (convoy_met k p));

@@ -21,7 +21,8 @@ use Rattle.sharp_gamma.specs.declared.SharpYuvGammaTransfer.{SharpYuvGammaTransf
 use Rattle.sharp_gamma.specs.declared.SharpYuvGammaTransfer.TheVariants.{Srgb, Rec709, Gamma2p2, Gamma2p8}
 use Rattle.setting_codes.specs.Codes.{sampling_codes, sampling_code, range_code, matrix_code, transfer_code}
 use Rattle.yuv_support.specs.Sampling.{chroma_height}
-use Rattle.std.specs.Prelude.{Ok}
+use Rattle.std.specs.Prelude.{Result, Ok}
+use Rattle.yuv_error.specs.declared.YuvError.{YuvError}
 use Rattle.yuv_error.specs.Numbers.{Numbers, numbers, numbers_of}
 use Rattle.yuv_error.specs.Rules.{Rule, rule, first_numbers}
 use Rattle.yuv_error.proofs.Numbers.{is_finished}
@@ -43,10 +44,10 @@ use Rattle.shift_file.proofs.File.{some_list, one_list, read_back, rewritten, on
 use Rattle.shift_reader.specs.declared.ShiftReading.{ShiftReading}
 use Rattle.shift_reader.specs.declared.EntryKind.{EntryKind}
 use Rattle.shift_reader.specs.Entry.{entry_size, entries_of}
-use Rattle.shift_reader.specs.Reading.{ReadPost}
-use Rattle.shift_writer.specs.declared.ShiftWritten.{ShiftWritten}
+use Rattle.shift_reader.specs.Reading.{read_outcome, reading_of, ReadPost}
+use Rattle.shift_writer.specs.declared.NotWritten.{NotWritten}
 use Rattle.shift_writer.specs.Records.{BackToBack, are_records, records_back, file_made}
-use Rattle.shift_writer.specs.Output.{overwritten, size_told, output_rules}
+use Rattle.shift_writer.specs.Output.{outcome_of, size_of, overwritten, size_told, output_rules}
 use Rattle.shift_writer.specs.Writing.{WritePost}
 use Rattle.shift_writer.proofs.Count.{some_records, these_records}
 use Rattle.shift_record.specs.declared.RecordFrame.{RecordFrame}
@@ -74,21 +75,21 @@ short_is_not false e = omega arith
 -- ---- reading
 
 -- a call tells of the records of a file
-told : (kind : EntryKind) (form : ShiftForm) (file : List ℕ) (first : ℕ) (before : List ℕ) (r : ShiftReading) (after : List ℕ) (rs : List ShiftRecord)
+told : (kind : EntryKind) (form : ShiftForm) (file : List ℕ) (first : ℕ) (before : List ℕ) (r : Result ShiftReading YuvError) (after : List ℕ) (rs : List ShiftRecord)
     → IsFileOf form file rs → ReadPost kind form file first before r after → records_in form file ≡ rs
-    → (r.count ≡ length rs) × (after ≡ entries_of kind form rs first r.told ++ drop (entry_size kind * r.told) before)
+    → ((reading_of r).count ≡ length rs) × (after ≡ entries_of kind form rs first (reading_of r).told ++ drop (entry_size kind * (reading_of r).told) before)
 told kind form file first before r after rs f p is =
     let yes = is_checked form file rs f in
-    let done = is_finished r.answer (ap (λ (x : Numbers). x.number) p.answered ∙ rw yes) in
+    let done = is_finished (read_outcome r) (ap (λ (x : Numbers). x.number) p.answered ∙ rw yes) in
     (p.count ∙ rw (done, is), p.entries ∙ rw is)
 
 -- ---- writing
 
-module _ (form : ShiftForm) (records before : List ℕ) (r : ShiftWritten) (after : List ℕ) (p : WritePost form records before r after) where
+module _ (form : ShiftForm) (records before : List ℕ) (r : Result ℕ NotWritten) (after : List ℕ) (p : WritePost form records before r after) where
   -- the file at the front, and the rest
-  front : r.answer ≡ Ok tt → (take r.size after ≡ file_made form records) × (drop r.size after ≡ drop r.size before)
+  front : outcome_of r ≡ Ok tt → (take (size_of r) after ≡ file_made form records) × (drop (size_of r) after ≡ drop (size_of r) before)
   front is =
-      let size : r.size ≡ length (file_made form records) = rw is at p.size in
+      let size : size_of r ≡ length (file_made form records) = rw is at p.size in
       let made : after ≡ file_made form records ++ drop (length (file_made form records)) before = rw is at p.written in
       (rw (made, size) (take_at (file_made form records) _ _ refl), rw (made, size) (drop_at (file_made form records) _ _ refl))
 
@@ -96,12 +97,12 @@ module _ (form : ShiftForm) (records before : List ℕ) (r : ShiftWritten) (afte
     made_is : file_made form records ≡ file_of form rs
     made_is = ap (file_of form) (these_records form records rs b)
 
-    pub its_file : r.answer ≡ Ok tt → IsFileOf form (take r.size after) rs
+    pub its_file : outcome_of r ≡ Ok tt → IsFileOf form (take (size_of r) after) rs
     its_file is = record { has = b.has; same = sym ((front is).0 ∙ made_is) }
 
 -- ---- one record
 
-module _ (f : RecordFrame) (y u v before : List ℕ) (r : ShiftWritten) (after : List ℕ) (p : RecordPost f y u v before r after) (is : r.answer ≡ Ok tt) where
+module _ (f : RecordFrame) (y u v before : List ℕ) (r : Result ℕ NotWritten) (after : List ℕ) (p : RecordPost f y u v before r after) (is : outcome_of r ≡ Ok tt) where
   abbrev last : List Rule
   last = output_rules (length (bytes_of (record_made f y u v))) (length before)
 
@@ -113,12 +114,12 @@ module _ (f : RecordFrame) (y u v before : List ℕ) (r : ShiftWritten) (after :
   asked = passed (frame_allowed f) (first_numbers (lent_rules f y u v ++ last)) (sym (ap (λ (x : Numbers). x.number) (sym (ap numbers_of is) ∙ p.answered)))
 
   record_made_lem : Bytes y → Bytes u → Bytes v → f.crossing < 4294967296
-      → Allowed f.form (record_made f y u v) × (take r.size after ≡ bytes_of (record_made f y u v))
+      → Allowed f.form (record_made f y u v) × (take (size_of r) after ≡ bytes_of (record_made f y u v))
   record_made_lem by bu bv c =
       let width = both (is_side f.width) _ asked.0 in
       let height = both (is_side f.height) _ width.1 in
       let fit = planes_Fit f y u v (is_frame f asked.0) (append_finished (lent_rules f y u v) last refl asked.1).0 in
-      let size : r.size ≡ length (bytes_of (record_made f y u v)) = rw is at p.size in
+      let size : size_of r ≡ length (bytes_of (record_made f y u v)) = rw is at p.size in
       let made : after ≡ bytes_of (record_made f y u v) ++ drop (length (bytes_of (record_made f y u v))) before = rw is at p.written in
       (made_Allowed f y u v fit c width.0 height.0 by bu bv, rw (made, size) (take_at (bytes_of (record_made f y u v)) _ _ refl))
 
@@ -181,8 +182,8 @@ module _ (k : FrameCall) (p : FramePost k) (is : k.answer ≡ Ok tt) (form : Shi
       }
 
   -- no condition of a record holds of them
-  record_of_frame : (before : List ℕ) (r : ShiftWritten) (after : List ℕ) → codes_allowed form (settings_of f) ≡ true
-      → RecordPost f k.y' k.u' k.v' before r after → record_size f ≤ length before → r.answer ≡ Ok tt
+  record_of_frame : (before : List ℕ) (r : Result ℕ NotWritten) (after : List ℕ) → codes_allowed form (settings_of f) ≡ true
+      → RecordPost f k.y' k.u' k.v' before r after → record_size f ≤ length before → outcome_of r ≡ Ok tt
   record_of_frame before r after codes q room =
       let w = whole k p is in
       let l = lengths in
@@ -212,7 +213,7 @@ module _ (k : FrameCall) (p : FramePost k) (is : k.answer ≡ Ok tt) (form : Shi
       (also (is_side d.height) _ (side d.height w.height_least w.height_most) codes) in
       let all : first_numbers (record_rules f k.y' k.u' k.v' (length before)) ≡ numbers 0 0 0 =
       rw allowed (both_pass (lent_rules f k.y' k.u' k.v') (output_rules bytes (length before)) refl passes fits) in
-      is_finished r.answer (ap (λ (x : Numbers). x.number) (q.answered ∙ all))
+      is_finished (outcome_of r) (ap (λ (x : Numbers). x.number) (q.answered ∙ all))
 
 frame_is : (k : FrameCall) (f : RecordFrame) → OfFrame k f → frame_of k f.form f.crossing f.settings ≡ f
 frame_is k f o = λ i. record {
@@ -279,7 +280,7 @@ shift_files = record {
       sym (its_file form _ before r after p rs tail is).same ∙ f.same;
   made = λ f y u v before r after by bu bv c p is. record_made_lem f y u v before r after p is by bu bv c;
   frame_accepted = λ k f before r after p is o.
-      subst (λ (g : RecordFrame). RecordPost g k.y' k.u' k.v' before r after → record_size g ≤ length before → r.answer ≡ Ok tt)
+      subst (λ (g : RecordFrame). RecordPost g k.y' k.u' k.v' before r after → record_size g ≤ length before → outcome_of r ≡ Ok tt)
       (frame_is k f o) (record_of_frame k p is f.form f.crossing f.settings o.sampling before r after o.codes);
   frame = λ k f p is o.
       subst (λ (g : RecordFrame). RecordBytes k (record_made g k.y' k.u' k.v')) (frame_is k f o)

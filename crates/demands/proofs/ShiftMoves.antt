@@ -11,7 +11,7 @@ use lib.Dec.{ltb, eqb}
 use lib.ListN.{length, get_or, take, drop}
 use lib.Seq.{take_at, drop_at}
 use borrow.Author.Tests.{ltb-true, lt-ltb, le-ltb, eqb-true, eq-eqb}
-use Rattle.std.specs.Prelude.{Ok}
+use Rattle.std.specs.Prelude.{Result, Ok}
 use Rattle.yuv_error.specs.Numbers.{Numbers, numbers, numbers_of}
 use Rattle.yuv_error.proofs.Numbers.{is_finished}
 use Rattle.little_endian.specs.Number.{Bytes}
@@ -23,7 +23,8 @@ use Rattle.shift_file.specs.Check.{is_file}
 use Rattle.shift_file.proofs.Record.{both, also}
 use Rattle.shift_file.proofs.File.{some_list, its_records, is_checked, Checked-file, one_form}
 use Rattle.shift_reader.specs.Entry.{nth}
-use Rattle.shift_writer.specs.declared.ShiftWritten.{ShiftWritten}
+use Rattle.shift_writer.specs.declared.NotWritten.{NotWritten}
+use Rattle.shift_writer.specs.Output.{outcome_of, size_of}
 use Rattle.shift_move.specs.Move.{other_form, is_plain, are_plain, may_move, moved, moved_file}
 use Rattle.shift_move.specs.Moving.{MovePost}
 use Rattle.shift_move.proofs.Files.{moved_is_file, may_return, there_and_back, asked_in_order}
@@ -36,8 +37,8 @@ use Rattle.demands.proofs.ShiftFiles.{by_test}
 abbrev answer_by : (t m s : Bool) → Numbers
 answer_by t m s = cond (not t) (numbers 15 0 0) (cond (not m) (numbers 20 0 0) (cond s (numbers 16 0 0) (numbers 0 0 0)))
 
-answered_by : (from : ShiftForm) (file before : List ℕ) (r : ShiftWritten) (after : List ℕ) → MovePost from file before r after
-    → (numbers_of r.answer).number ≡ (answer_by (is_file from file) (may_move from (records_in from file)) (ltb (length before) (length (moved_file from file)))).number
+answered_by : (from : ShiftForm) (file before : List ℕ) (r : Result ℕ NotWritten) (after : List ℕ) → MovePost from file before r after
+    → (numbers_of (outcome_of r)).number ≡ (answer_by (is_file from file) (may_move from (records_in from file)) (ltb (length before) (length (moved_file from file)))).number
 answered_by from file before r after p = ap (λ (x : Numbers). x.number) (p.answered ∙ asked_in_order from file (length before))
 
 later_is_not : (m s : Bool) → (cond (not m) (numbers 20 0 0) (cond s (numbers 16 0 0) (numbers 0 0 0))).number ≡ 15 → ⊥
@@ -113,10 +114,10 @@ not_plain rs q = go (are_plain rs) refl
 
 -- ---- what is written
 
-module _ (from : ShiftForm) (file before : List ℕ) (r : ShiftWritten) (after : List ℕ) (p : MovePost from file before r after) (is : r.answer ≡ Ok tt) where
-  front : (take r.size after ≡ moved_file from file) × (drop r.size after ≡ drop r.size before)
+module _ (from : ShiftForm) (file before : List ℕ) (r : Result ℕ NotWritten) (after : List ℕ) (p : MovePost from file before r after) (is : outcome_of r ≡ Ok tt) where
+  front : (take (size_of r) after ≡ moved_file from file) × (drop (size_of r) after ≡ drop (size_of r) before)
   front =
-      let size : r.size ≡ length (moved_file from file) = rw is at p.size in
+      let size : size_of r ≡ length (moved_file from file) = rw is at p.size in
       let made : after ≡ moved_file from file ++ drop (length (moved_file from file)) before = rw is at p.written in
       (rw (made, size) (take_at (moved_file from file) _ _ refl), rw (made, size) (drop_at (moved_file from file) _ _ refl))
 
@@ -126,38 +127,38 @@ module _ (from : ShiftForm) (file before : List ℕ) (r : ShiftWritten) (after :
       (ap (λ (x : Numbers). x.number) (sym (ap numbers_of is)) ∙ answered_by from file before r after p)
 
   module _ (rs : List ShiftRecord) (f : IsFileOf from file rs) where
-    its_moved : IsFileOf (other_form from) (take r.size after) (moved (other_form from) rs)
+    its_moved : IsFileOf (other_form from) (take (size_of r) after) (moved (other_form from) rs)
     its_moved = rw front.0 (moved_is_file from file rs f (rw (its_records from file rs f) at tests.1))
 
 twice : (from : ShiftForm) → other_form (other_form from) ≡ from
 twice WithoutSettings = refl
 twice WithSettings = refl
 
-module _ (from : ShiftForm) (file before : List ℕ) (r : ShiftWritten) (after : List ℕ) (bytes : Bytes file) (p : MovePost from file before r after)
-    (is : r.answer ≡ Ok tt) (before₂ : List ℕ) (r₂ : ShiftWritten) (after₂ : List ℕ)
-    (q : MovePost (other_form from) (take r.size after) before₂ r₂ after₂) (room : length file ≤ length before₂) where
+module _ (from : ShiftForm) (file before : List ℕ) (r : Result ℕ NotWritten) (after : List ℕ) (bytes : Bytes file) (p : MovePost from file before r after)
+    (is : outcome_of r ≡ Ok tt) (before₂ : List ℕ) (r₂ : Result ℕ NotWritten) (after₂ : List ℕ)
+    (q : MovePost (other_form from) (take (size_of r) after) before₂ r₂ after₂) (room : length file ≤ length before₂) where
   abbrev rs : List ShiftRecord
   rs = records_in from file
 
   its_file : IsFileOf from file rs
   its_file = (Checked-file from file bytes (tests from file before r after p is).0).file
 
-  there : take r.size after ≡ moved_file from file
+  there : take (size_of r) after ≡ moved_file from file
   there = (front from file before r after p is).0
 
-  again : moved_file (other_form from) (take r.size after) ≡ file
+  again : moved_file (other_form from) (take (size_of r) after) ≡ file
   again = rw there (there_and_back from file rs its_file (tests from file before r after p is).1)
 
-  finishes : r₂.answer ≡ Ok tt
+  finishes : outcome_of r₂ ≡ Ok tt
   finishes =
       let f = its_moved from file before r after p is rs its_file in
-      let may : may_move (other_form from) (records_in (other_form from) (take r.size after)) ≡ true = rw (its_records _ _ _ f) (may_return from rs) in
-      is_finished r₂.answer
-      (answered_by (other_form from) (take r.size after) before₂ r₂ after₂ q
+      let may : may_move (other_form from) (records_in (other_form from) (take (size_of r) after)) ≡ true = rw (its_records _ _ _ f) (may_return from rs) in
+      is_finished (outcome_of r₂)
+      (answered_by (other_form from) (take (size_of r) after) before₂ r₂ after₂ q
       ∙ rw (is_checked _ _ _ f, may, again, le-ltb (length before₂) (length file) room))
 
-  returned : (r₂.answer ≡ Ok tt) × (take r₂.size after₂ ≡ file)
-  returned = (finishes, (front (other_form from) (take r.size after) before₂ r₂ after₂ q finishes).0 ∙ again)
+  returned : (outcome_of r₂ ≡ Ok tt) × (take (size_of r₂) after₂ ≡ file)
+  returned = (finishes, (front (other_form from) (take (size_of r) after) before₂ r₂ after₂ q finishes).0 ∙ again)
 
 -- ---- a file of one form is none of the other
 

@@ -10,7 +10,8 @@ use native.Mathlib.Omega.{arith}
 use lib.Dec.{ltb, leb, eqb}
 use lib.ListN.{length, take, drop, length-append, drop_of_length-le}
 use borrow.Author.Tests.{ltb-true, ltb-false, lt-ltb, leb-true, le-leb, eq-eqb}
-use Rattle.std.specs.Prelude.{Result, Ok}
+use Rattle.std.specs.Prelude.{Option, Some, None, Result, Ok}
+use Rattle.std.specs.Result.{is_ok}
 use Rattle.yuv_error.specs.declared.YuvError.{YuvError}
 use Rattle.yuv_error.specs.Numbers.{Numbers, numbers, numbers_of}
 use Rattle.little_endian.specs.Number.{Bytes}
@@ -27,11 +28,8 @@ use Rattle.shift_summary.specs.Summary.{IsSummary}
 use Rattle.shift_summary.proofs.Built.{one_summary}
 use Rattle.summary_check.specs.Check.{is_summary}
 use Rattle.summary_check.proofs.Checked.{checked}
-use Rattle.summary_calls.specs.declared.FoundRecord.{FoundRecord}
-use Rattle.summary_calls.specs.declared.FoundRecord.TheVariants.{At, Nowhere}
-use Rattle.summary_calls.specs.declared.SummaryFinding.{SummaryFinding}
 use Rattle.summary_calls.specs.Found.{found_among, IsFirst}
-use Rattle.summary_calls.specs.Calls.{FindPost}
+use Rattle.summary_calls.specs.Calls.{found_in}
 use Rattle.summary_calls.proofs.Found.{finds}
 use Rattle.summary_update.specs.Update.{is_record, may_grow, may_take, UpdatePost}
 use Rattle.summary_update.specs.Summaries.{Left}
@@ -74,7 +72,7 @@ short false room size is e = absurd (true≢false (sym is))
 -- ---- looking up
 
 module _ (crossing : ℕ) (rs : List ShiftRecord) where
-  first_found : (k : ℕ) → IsFirst crossing rs k → found_among crossing rs ≡ At k
+  first_found : (k : ℕ) → IsFirst crossing rs k → found_among crossing rs ≡ Some k
   first_found k f = go (found_among crossing rs) refl
     where
       one : (j : ℕ) → IsFirst crossing rs j → (t u : Bool) → ltb j k ≡ t → ltb k j ≡ u → j ≡ k
@@ -82,16 +80,16 @@ module _ (crossing : ℕ) (rs : List ShiftRecord) where
       one j g false true p q = absurd (g.before k (ltb-true k j q) f.has)
       one j g false false p q = omega (arith, ltb-false j k p, ltb-false k j q)
 
-      go : (x : FoundRecord) → found_among crossing rs ≡ x → x ≡ At k
-      go (At j) e = ap At (one j (finds.some crossing rs j e) (ltb j k) (ltb k j) refl refl)
-      go Nowhere e = absurd (finds.none crossing rs e k f.below f.has)
+      go : (x : Option ℕ) → found_among crossing rs ≡ x → x ≡ Some k
+      go (Some j) e = ap Some (one j (finds.some crossing rs j e) (ltb j k) (ltb k j) refl refl)
+      go None e = absurd (finds.none crossing rs e k f.below f.has)
 
-  none_found : NoRecordOf crossing rs → found_among crossing rs ≡ Nowhere
+  none_found : NoRecordOf crossing rs → found_among crossing rs ≡ None
   none_found none = go (found_among crossing rs) refl
     where
-      go : (x : FoundRecord) → found_among crossing rs ≡ x → x ≡ Nowhere
-      go (At j) e = let f = finds.some crossing rs j e in absurd (none j f.below f.has)
-      go Nowhere e = refl
+      go : (x : Option ℕ) → found_among crossing rs ≡ x → x ≡ None
+      go (Some j) e = let f = finds.some crossing rs j e in absurd (none j f.below f.has)
+      go None e = refl
 
 -- ---- a file that grows
 
@@ -182,12 +180,12 @@ shift_summaries = record {
       (rw (its_records form file rs f) at (ap (λ (x : Numbers). x.number) p.answered));
   found = λ form file summary crossing r rs f p done k.
       let is = summaries.found form file summary crossing r rs f p done in
-      (λ e. finds.some crossing rs k (sym is ∙ e), λ h. is ∙ first_found crossing rs k h);
-  found_part = λ form file summary crossing r rs k f p done e.
-      record_there form file rs k f (finds.some crossing rs k (sym (summaries.found form file summary crossing r rs f p done) ∙ e)).below;
+      (λ e. finds.some crossing rs k (ap found_in (sym is ∙ e)), λ h. is ∙ ap Ok (first_found crossing rs k h));
+  found_part = λ form file summary crossing r rs k f p e.
+      record_there form file rs k f (finds.some crossing rs k (ap found_in (sym (summaries.found form file summary crossing r rs f p (ap is_ok e)) ∙ e))).below;
   found_none = λ form file summary crossing r rs f p done.
       let is = summaries.found form file summary crossing r rs f p done in
-      (λ e. finds.none crossing rs (sym is ∙ e), λ h. is ∙ none_found crossing rs h);
+      (λ e. finds.none crossing rs (ap found_in (sym is ∙ e)), λ h. is ∙ ap Ok (none_found crossing rs h));
   update_refused = λ form file added before a after bf ba p.
       let u = not (may_take form file before) in
       let number = ap (λ (x : Numbers). x.number) p.answered in

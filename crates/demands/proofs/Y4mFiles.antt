@@ -31,8 +31,9 @@ use Rattle.y4m_file.specs.Read.{file_in}
 use Rattle.y4m_file.proofs.File.{some_file, one_file, read_back, rewritten, its_file}
 use Rattle.y4m_reader.specs.declared.Y4mReading.{Y4mReading}
 use Rattle.y4m_reader.specs.Entry.{entries_of}
-use Rattle.y4m_reader.specs.Reading.{ReadPost}
-use Rattle.y4m_writer.specs.declared.Y4mWritten.{Y4mWritten}
+use Rattle.y4m_reader.specs.Reading.{y4m_outcome, y4m_reading_of, ReadPost}
+use Rattle.shift_writer.specs.declared.NotWritten.{NotWritten}
+use Rattle.shift_writer.specs.Output.{outcome_of, size_of}
 use Rattle.y4m_writer.specs.Text.{decimal}
 use Rattle.y4m_writer.specs.Pictures.{sampling_of, is_shape, can_write, picture_from, pictures_of, file_from, file_made, planes_of}
 use Rattle.y4m_writer.specs.Writing.{in_word, WritePost}
@@ -66,25 +67,25 @@ short_is_not false e = omega arith
 
 -- ---- reading
 
-module _ (file : List ℕ) (first : ℕ) (before : List ℕ) (r : Y4mReading) (after : List ℕ) (p : ReadPost file first before r after) where
-  read_19 : ((numbers_of r.answer).number ≡ 19) ↔ NoY4m file
+module _ (file : List ℕ) (first : ℕ) (before : List ℕ) (r : Result Y4mReading YuvError) (after : List ℕ) (p : ReadPost file first before r after) where
+  read_19 : ((numbers_of (y4m_outcome r)).number ≡ 19) ↔ NoY4m file
   read_19 = each_none (by_19 (is_y4m file) (numbers 0 0 0) (some_file file) (λ z. omega arith) (ap (λ (x : Numbers). x.number) p.answered))
 
   module _ (f : Y4mFile) (i : IsFileOf file f) where
-    done : r.answer ≡ Ok tt
-    done = is_finished r.answer (ap (λ (x : Numbers). x.number) p.answered ∙ rw ((some_file file).1 (f, i)))
+    done : y4m_outcome r ≡ Ok tt
+    done = is_finished (y4m_outcome r) (ap (λ (x : Numbers). x.number) p.answered ∙ rw ((some_file file).1 (f, i)))
 
     same : file_in file ≡ f
     same = its_file file f i
 
     -- so many entries of the file, and the rest as it was
-    entries : after ≡ entries_of f first r.told ++ drop (6 * r.told) before
+    entries : after ≡ entries_of f first (y4m_reading_of r).told ++ drop (6 * (y4m_reading_of r).told) before
     entries = p.entries ∙ rw same
 
-    few : r.told ≤ length f.pictures - first
-    few = let told : r.told ≡ min (length f.pictures - first) (length before / 6) = p.told ∙ rw (done, same) in omega (arith, told)
+    few : (y4m_reading_of r).told ≤ length f.pictures - first
+    few = let told : (y4m_reading_of r).told ≡ min (length f.pictures - first) (length before / 6) = p.told ∙ rw (done, same) in omega (arith, told)
 
-    tells : Y4mTold file f first before r after
+    tells : Y4mTold file f first before (y4m_reading_of r) after
     tells = record {
       width = p.width ∙ rw (done, same);
       height = p.height ∙ rw (done, same);
@@ -92,9 +93,9 @@ module _ (file : List ℕ) (first : ℕ) (before : List ℕ) (r : Y4mReading) (a
       count = p.count ∙ rw (done, same);
       told = p.told ∙ rw (done, same);
       planes = λ j h.
-          let e = entry_at f r.told first j (drop (6 * r.told) before) h in
+          let e = entry_at f (y4m_reading_of r).told first j (drop (6 * (y4m_reading_of r).told) before) h in
           rw (entries, e.1, ← i.same) (names f (first + j) (omega (arith, few)) e.0);
-      others = rw entries (drop_at (entries_of f first r.told) _ _ (length_entries f first r.told));
+      others = rw entries (drop_at (entries_of f first (y4m_reading_of r).told) _ _ (length_entries f first (y4m_reading_of r).told));
     }
 
 -- ---- writing
@@ -179,23 +180,23 @@ at_front : (made before : List ℕ) {n : ℕ} {after : List ℕ} → n ≡ lengt
     → (take n after ≡ made) × (drop n after ≡ drop n before)
 at_front made before size is = (rw (is, size) (take_at made _ _ refl), rw (is, size) (drop_at made _ _ refl))
 
-module _ (code w h : ℕ) (b before : List ℕ) (r : Y4mWritten) (after : List ℕ) (p : WritePost code w h b before r after) where
+module _ (code w h : ℕ) (b before : List ℕ) (r : Result ℕ NotWritten) (after : List ℕ) (p : WritePost code w h b before r after) where
   abbrev made : List ℕ
   made = file_made code w h b
 
-  by_tests : (numbers_of r.answer).number ≡ (answer_by (can_write code w h (length b)) (ltb (length before) (length made))).number
+  by_tests : (numbers_of (outcome_of r)).number ≡ (answer_by (can_write code w h (length b)) (ltb (length before) (length made))).number
   by_tests = ap (λ (x : Numbers). x.number) p.answered
 
-  write_19 : ((numbers_of r.answer).number ≡ 19) ↔ NoPictures code w h b
+  write_19 : ((numbers_of (outcome_of r)).number ≡ 19) ↔ NoPictures code w h b
   write_19 =
       each_none (by_19 (can_write code w h (length b)) _ (some_pictures code w h b) (short_is_not (ltb (length before) (length made))) by_tests)
 
-  write_16 : (ps : List Y4mPicture) → PicturesIn code w h b ps → ((numbers_of r.answer).number ≡ 16) ↔ (length before < length made)
+  write_16 : (ps : List Y4mPicture) → PicturesIn code w h b ps → ((numbers_of (outcome_of r)).number ≡ 16) ↔ (length before < length made)
   write_16 ps q =
       let t = is_16 (can_write code w h (length b)) (ltb (length before) (length made)) (can_be code w h b ps q) by_tests in
       (λ z. ltb-true (length before) (length made) (t.0 z), λ l. t.1 (lt-ltb (length before) (length made) l))
 
-  module _ (most : length before < 2 ^ 64) (is : r.answer ≡ Ok tt) where
+  module _ (most : length before < 2 ^ 64) (is : outcome_of r ≡ Ok tt) where
     tests : (can_write code w h (length b) ≡ true) × (ltb (length before) (length made) ≡ false)
     tests =
         passed (can_write code w h (length b)) (ltb (length before) (length made)) (ap (λ (a : Result Unit YuvError). (numbers_of a).number) (sym is) ∙ by_tests)
@@ -203,13 +204,13 @@ module _ (code w h : ℕ) (b before : List ℕ) (r : Y4mWritten) (after : List �
     short : length made < 2 ^ 64
     short = omega (arith, ltb-false (length before) (length made) tests.1)
 
-    front : (take r.size after ≡ made) × (drop r.size after ≡ drop r.size before)
+    front : (take (size_of r) after ≡ made) × (drop (size_of r) after ≡ drop (size_of r) before)
     front =
-        let size : r.size ≡ in_word (length made) = rw is at p.size in
+        let size : size_of r ≡ in_word (length made) = rw is at p.size in
         let out : after ≡ made ++ drop (length made) before = rw is at p.written in
         at_front made before (size ∙ rw (lt-ltb (length made) (2 ^ 64) short)) out
 
-    written_is : Y4mOf code w h b (take r.size after) (file_from code w h b)
+    written_is : Y4mOf code w h b (take (size_of r) after) (file_from code w h b)
     written_is = rw front.0 (its_planes code w h b tests.0)
 
 -- ---- one picture
@@ -237,32 +238,32 @@ module _ (f : PictureFrame) (y u v : List ℕ) where
         v_rows = record { row = k.v_row; size = k.v_size };
       }
 
-  module _ (before : List ℕ) (r : Y4mWritten) (after : List ℕ) (p : PicturePost f y u v before r after) where
+  module _ (before : List ℕ) (r : Result ℕ NotWritten) (after : List ℕ) (p : PicturePost f y u v before r after) where
     abbrev picture : List ℕ
     picture = picture_bytes (picture_made f y u v)
 
-    by_both : (numbers_of r.answer).number
+    by_both : (numbers_of (outcome_of r)).number
         ≡ (answer_by (picture_allowed f (length y) (length u) (length v)) (ltb (length before) (length picture))).number
     by_both = ap (λ (x : Numbers). x.number) p.answered
 
-    picture_19 : ((numbers_of r.answer).number ≡ 19) ↔ (WholePicture f y u v → ⊥)
+    picture_19 : ((numbers_of (outcome_of r)).number ≡ 19) ↔ (WholePicture f y u v → ⊥)
     picture_19 =
         by_19 (picture_allowed f (length y) (length u) (length v)) _ (whole, allowed) (short_is_not (ltb (length before) (length picture))) by_both
 
-    picture_16 : WholePicture f y u v → ((numbers_of r.answer).number ≡ 16) ↔ (length before < length picture)
+    picture_16 : WholePicture f y u v → ((numbers_of (outcome_of r)).number ≡ 16) ↔ (length before < length picture)
     picture_16 k =
         let t = is_16 (picture_allowed f (length y) (length u) (length v)) (ltb (length before) (length picture)) (allowed k) by_both in
         (λ z. ltb-true (length before) (length picture) (t.0 z), λ l. t.1 (lt-ltb (length before) (length picture) l))
 
-    module _ (is : r.answer ≡ Ok tt) where
+    module _ (is : outcome_of r ≡ Ok tt) where
       picture_tests : picture_allowed f (length y) (length u) (length v) ≡ true
       picture_tests =
           (passed (picture_allowed f (length y) (length u) (length v)) (ltb (length before) (length picture))
           (ap (λ (a : Result Unit YuvError). (numbers_of a).number) (sym is) ∙ by_both)).0
 
-      picture_front : (take r.size after ≡ picture) × (drop r.size after ≡ drop r.size before)
+      picture_front : (take (size_of r) after ≡ picture) × (drop (size_of r) after ≡ drop (size_of r) before)
       picture_front =
-          let size : r.size ≡ length picture = rw is at p.size in
+          let size : size_of r ≡ length picture = rw is at p.size in
           let out : after ≡ picture ++ drop (length picture) before = rw is at p.written in
           at_front picture before size out
 
@@ -272,7 +273,7 @@ module _ (code w h : ℕ) where
   -- one more picture after a file
   one_more : (b : List ℕ) → can_write code w h (length b) ≡ true → (k : PictureCall) → PictureWritten code w h k
       → (can_write code w h (length (b ++ planes_made k.frame k.y k.u k.v)) ≡ true)
-      × (file_made code w h b ++ take k.result.size k.output' ≡ file_made code w h (b ++ planes_made k.frame k.y k.u k.v))
+      × (file_made code w h b ++ take (size_of k.result) k.output' ≡ file_made code w h (b ++ planes_made k.frame k.y k.u k.v))
   one_more b can k q =
       let allowed = picture_tests k.frame k.y k.u k.v k.output k.result k.output' q.met q.finished in
       let out = (picture_front k.frame k.y k.u k.v k.output k.result k.output' q.met q.finished).0 in
@@ -289,7 +290,7 @@ module _ (code w h : ℕ) where
         rw (← append_assoc b planes (planes_given ks)) later.0,
         rw (
           ← append_assoc b planes (planes_given ks),
-          ← append_assoc (file_made code w h b) (take k.result.size k.output') (bytes_written ks),
+          ← append_assoc (file_made code w h b) (take (size_of k.result) k.output') (bytes_written ks),
           one.1,
         ) later.1,
       )
@@ -419,7 +420,7 @@ y4m_files = record {
       let finished = done k.file k.first k.entries p.reading k.entries' p.read f i in
       (p.number ∙ rw finished, p.told ∙ rw (t.width, t.height, t.sampling, t.count), t);
   linked_write_refused = λ k p. same_19 p.number (write_19 _ _ _ k.pictures k.output p.written k.output' p.wrote);
-  linked_written = λ k p z. (is_finished p.written.answer (sym p.number ∙ z), p.told);
+  linked_written = λ k p z. (is_finished (outcome_of p.written) (sym p.number ∙ z), p.told);
   linked_picture_refused = λ k p. same_19 p.number (picture_19 _ k.y k.u k.v k.output p.written k.output' p.wrote);
-  linked_picture_written = λ k p z. (is_finished p.written.answer (sym p.number ∙ z), p.told);
+  linked_picture_written = λ k p z. (is_finished (outcome_of p.written) (sym p.number ∙ z), p.told);
 }

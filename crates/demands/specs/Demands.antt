@@ -6,7 +6,7 @@
 -- Counts.antt, `shift_files` of ShiftFiles.antt, `shift_moves` of ShiftMoves.antt, `shift_summaries` of ShiftSummaries.antt, `shift_pairs` of
 -- ShiftPairs.antt, `y4m_files` of Y4mFiles.antt, `convoys` of Convoys.antt and `desks` of Desks.antt.
 -- Assumes nothing.
-use Rattle.std.specs.Prelude.{ℕ, ◌+◌, ◌*◌, ◌-◌, ◌/◌, ◌^◌, ◌≤◌, ◌<◌, min, ◌≡◌, true, false, List, [], ◌∷◌, ◌++◌, ◌↔◌, ◌⊎◌, T, length, get_or, take, drop, Result, Ok, Option, None, Some}
+use Rattle.std.specs.Prelude.{ℕ, ◌+◌, ◌*◌, ◌-◌, ◌/◌, ◌^◌, ◌≤◌, ◌<◌, min, ◌≡◌, true, false, List, [], ◌∷◌, ◌++◌, ◌↔◌, ◌⊎◌, T, length, get_or, take, drop, Bool, Result, Ok, Err, IsOk, Option, None, Some}
 use Rattle.yuv_support.specs.declared.YuvRange.{YuvRange}
 use Rattle.yuv_support.specs.declared.YuvRange.TheVariants.{Limited}
 use Rattle.yuv_support.specs.declared.YuvStandardMatrix.{YuvStandardMatrix}
@@ -52,8 +52,9 @@ use Rattle.shift_reader.specs.declared.ShiftReading.{ShiftReading}
 use Rattle.shift_reader.specs.declared.EntryKind.{EntryKind}
 use Rattle.shift_reader.specs.declared.EntryKind.TheVariants.{PlacesAndSettings}
 use Rattle.shift_reader.specs.Entry.{nth, offset_of, entry_size, entries_of}
-use Rattle.shift_reader.specs.Reading.{file_rules, ReadPost}
-use Rattle.shift_writer.specs.declared.ShiftWritten.{ShiftWritten}
+use Rattle.shift_reader.specs.Reading.{read_outcome, reading_of, file_rules, ReadPost}
+use Rattle.shift_writer.specs.declared.NotWritten.{NotWritten}
+use Rattle.shift_writer.specs.Output.{outcome_of, size_of}
 use Rattle.shift_writer.specs.Records.{BackToBack}
 use Rattle.shift_writer.specs.Writing.{write_rules, WritePost}
 use Rattle.shift_record.specs.declared.RecordFrame.{RecordFrame}
@@ -66,20 +67,19 @@ use Rattle.shift_calls.specs.Shift.{ExportedWriting, rules_of_writing, WritingKe
 use Rattle.shift_calls.specs.Shift.{ExportedRecord, rules_of_record, RecordKept}
 use Rattle.shift_calls.specs.Shift.{ExportedMove, rules_of_move, MoveKept}
 use Rattle.shift_summary.specs.Summary.{IsSummary, OneSummary}
-use Rattle.summary_calls.specs.declared.FoundRecord.TheVariants.{At, Nowhere}
-use Rattle.summary_calls.specs.declared.SummaryVerdict.{SummaryVerdict}
-use Rattle.summary_calls.specs.declared.SummaryFinding.{SummaryFinding}
 use Rattle.summary_calls.specs.Found.{IsFirst}
-use Rattle.summary_calls.specs.Calls.{build_rules, BuildPost, CheckPost, find_rules, FindPost}
+use Rattle.summary_calls.specs.Calls.{build_rules, BuildPost, outcome, says_yes, CheckPost, find_rules, found_in, FindPost}
 use Rattle.summary_update.specs.Update.{update_rules, UpdatePost}
 use Rattle.summary_update.specs.Summaries.{Left}
 use Rattle.shift_calls.specs.Summary.{ExportedBuild, rules_of_build, BuildKept, ExportedCheck, rules_of_check, CheckKept}
 use Rattle.shift_calls.specs.Summary.{ExportedFind, rules_of_find, FindKept, ExportedUpdate, rules_of_update, UpdateKept}
 use Rattle.record_difference.specs.Record.{SameIsEqual, PlaceIsFirst, SizesAreTold}
-use Rattle.shift_pairs.specs.declared.Pairing.{Pairing}
+use Rattle.shift_pairs.specs.declared.PairReport.{PairReport}
+use Rattle.shift_pairs.specs.declared.BrokenFile.{BrokenFile}
+use Rattle.shift_pairs.specs.declared.BrokenFile.TheVariants.{Ours, Theirs}
 use Rattle.shift_pairs.specs.Report.{report_of}
 use Rattle.shift_pairs.specs.Means.{OneOrNone, CountsAddUp, FirstOrNone}
-use Rattle.shift_pairs.specs.Pairing.{pairing_rules, PairingPost}
+use Rattle.shift_pairs.specs.Pairing.{pairing_rules, pairing_outcome, PairingPost}
 use Rattle.report_numbers.specs.Numbers.{report_numbers}
 use Rattle.shift_calls.specs.Pairs.{ExportedPairing, rules_of_pairing, PairingKept}
 use Rattle.yuv_support.specs.Sampling.{chroma_width}
@@ -87,8 +87,7 @@ use Rattle.y4m_file.specs.File.{Y4mPicture, Y4mFile, EachAllowed, luma_bytes, ch
 use Rattle.y4m_file.specs.Means.{SomeFile, OneFile, ReadBack as Y4mReadBack, Rewritten as Y4mRewritten}
 use Rattle.y4m_reader.specs.declared.Y4mReading.{Y4mReading}
 use Rattle.y4m_reader.specs.Entry.{picture_of, entry_of, offset_of as y4m_offset}
-use Rattle.y4m_reader.specs.Reading.{file_rules as y4m_file_rules, ReadPost as Y4mReadPost}
-use Rattle.y4m_writer.specs.declared.Y4mWritten.{Y4mWritten}
+use Rattle.y4m_reader.specs.Reading.{y4m_outcome, y4m_reading_of, file_rules as y4m_file_rules, ReadPost as Y4mReadPost}
 use Rattle.y4m_writer.specs.Pictures.{sampling_of as y4m_sampling, file_made as y4m_made, planes_of}
 use Rattle.y4m_writer.specs.Writing.{in_word, write_rules as y4m_write_rules, WritePost as Y4mWritePost}
 use Rattle.y4m_picture.specs.declared.PictureFrame.{PictureFrame}
@@ -162,31 +161,31 @@ pub record Demand1 : Type 0 where
   pub band : (k : BandCall) → BandPost k → Answered (band_rules k) (numbers_of k.result.answer) (Untouched k)
   pub counts : (range : YuvRange) (matrix : YuvStandardMatrix) (before : List ℕ) (a : Result Unit YuvError) (after : List ℕ) → CountsPost range matrix before a after
       → Answered (matrix_rules matrix) (numbers_of a) (after ≡ before)
-  pub shift_reading : (kind : EntryKind) (form : ShiftForm) (file : List ℕ) (first : ℕ) (before : List ℕ) (r : ShiftReading) (after : List ℕ)
-      → ReadPost kind form file first before r after → Answered (file_rules form file) (numbers_of r.answer) (after ≡ before)
-  pub shift_writing : (form : ShiftForm) (records before : List ℕ) (r : ShiftWritten) (after : List ℕ) → WritePost form records before r after
-      → Answered (write_rules form records (length before)) (numbers_of r.answer) (after ≡ before)
-  pub shift_record : (f : RecordFrame) (y u v before : List ℕ) (r : ShiftWritten) (after : List ℕ) → RecordPost f y u v before r after
-      → Answered (record_rules f y u v (length before)) (numbers_of r.answer) (after ≡ before)
-  pub shift_moving : (from : ShiftForm) (file before : List ℕ) (r : ShiftWritten) (after : List ℕ) → MovePost from file before r after
-      → Answered (move_rules from file (length before)) (numbers_of r.answer) (after ≡ before)
+  pub shift_reading : (kind : EntryKind) (form : ShiftForm) (file : List ℕ) (first : ℕ) (before : List ℕ) (r : Result ShiftReading YuvError) (after : List ℕ)
+      → ReadPost kind form file first before r after → Answered (file_rules form file) (numbers_of (read_outcome r)) (after ≡ before)
+  pub shift_writing : (form : ShiftForm) (records before : List ℕ) (r : Result ℕ NotWritten) (after : List ℕ) → WritePost form records before r after
+      → Answered (write_rules form records (length before)) (numbers_of (outcome_of r)) (after ≡ before)
+  pub shift_record : (f : RecordFrame) (y u v before : List ℕ) (r : Result ℕ NotWritten) (after : List ℕ) → RecordPost f y u v before r after
+      → Answered (record_rules f y u v (length before)) (numbers_of (outcome_of r)) (after ≡ before)
+  pub shift_moving : (from : ShiftForm) (file before : List ℕ) (r : Result ℕ NotWritten) (after : List ℕ) → MovePost from file before r after
+      → Answered (move_rules from file (length before)) (numbers_of (outcome_of r)) (after ≡ before)
   pub summary_build : (form : ShiftForm) (file before : List ℕ) (a : Result Unit YuvError) (after : List ℕ) → BuildPost form file before a after
       → Answered (build_rules form file (length before)) (numbers_of a) (after ≡ before)
   -- these two are lent nothing to write in: refused, the one says no and the other finds nothing
-  pub summary_check : (form : ShiftForm) (file summary : List ℕ) (r : SummaryVerdict) → CheckPost form file summary r
-      → Lowest (file_rules form file) (numbers_of r.answer) × (1 ≤ (numbers_of r.answer).number → r.is_summary ≡ false)
-  pub summary_find : (form : ShiftForm) (file summary : List ℕ) (crossing : ℕ) (r : SummaryFinding) → FindPost form file summary crossing r
-      → Lowest (find_rules form file summary) (numbers_of r.answer) × (1 ≤ (numbers_of r.answer).number → r.found ≡ Nowhere)
+  pub summary_check : (form : ShiftForm) (file summary : List ℕ) (r : Result Bool YuvError) → CheckPost form file summary r
+      → Lowest (file_rules form file) (numbers_of (outcome r)) × (1 ≤ (numbers_of (outcome r)).number → says_yes r ≡ false)
+  pub summary_find : (form : ShiftForm) (file summary : List ℕ) (crossing : ℕ) (r : Result (Option ℕ) YuvError) → FindPost form file summary crossing r
+      → Lowest (find_rules form file summary) (numbers_of (outcome r)) × (1 ≤ (numbers_of (outcome r)).number → found_in r ≡ None)
   pub summary_update : (form : ShiftForm) (file added before : List ℕ) (a : Result Unit YuvError) (after : List ℕ) → UpdatePost form file added before a after
       → Answered (update_rules form file added before) (numbers_of a) (after ≡ before)
-  pub shift_pairing : (our_form : ShiftForm) (ours : List ℕ) (their_form : ShiftForm) (theirs : List ℕ) (r : Pairing)
-      → PairingPost our_form ours their_form theirs r → Lowest (pairing_rules our_form ours their_form theirs) (numbers_of r.answer)
-  pub y4m_reading : (file : List ℕ) (first : ℕ) (before : List ℕ) (r : Y4mReading) (after : List ℕ) → Y4mReadPost file first before r after
-      → Answered (y4m_file_rules file) (numbers_of r.answer) (after ≡ before)
-  pub y4m_writing : (code w h : ℕ) (pictures before : List ℕ) (r : Y4mWritten) (after : List ℕ) → Y4mWritePost code w h pictures before r after
-      → Answered (y4m_write_rules code w h pictures (length before)) (numbers_of r.answer) (after ≡ before)
-  pub y4m_picture : (f : PictureFrame) (y u v before : List ℕ) (r : Y4mWritten) (after : List ℕ) → PicturePost f y u v before r after
-      → Answered (picture_rules f y u v (length before)) (numbers_of r.answer) (after ≡ before)
+  pub shift_pairing : (our_form : ShiftForm) (ours : List ℕ) (their_form : ShiftForm) (theirs : List ℕ) (r : Result PairReport BrokenFile)
+      → PairingPost our_form ours their_form theirs r → Lowest (pairing_rules our_form ours their_form theirs) (numbers_of (pairing_outcome r))
+  pub y4m_reading : (file : List ℕ) (first : ℕ) (before : List ℕ) (r : Result Y4mReading YuvError) (after : List ℕ) → Y4mReadPost file first before r after
+      → Answered (y4m_file_rules file) (numbers_of (y4m_outcome r)) (after ≡ before)
+  pub y4m_writing : (code w h : ℕ) (pictures before : List ℕ) (r : Result ℕ NotWritten) (after : List ℕ) → Y4mWritePost code w h pictures before r after
+      → Answered (y4m_write_rules code w h pictures (length before)) (numbers_of (outcome_of r)) (after ≡ before)
+  pub y4m_picture : (f : PictureFrame) (y u v before : List ℕ) (r : Result ℕ NotWritten) (after : List ℕ) → PicturePost f y u v before r after
+      → Answered (picture_rules f y u v (length before)) (numbers_of (outcome_of r)) (after ≡ before)
   -- a convoy that is refused keeps the bytes of the refused frame and of later ones, and every other byte but those of finished frames; its rules are
   -- those of the frame at the place that is told, which `Convoys` says is the first that is refused
   pub convoy : (k : ConvoyCall) → ConvoyPost k → Answered (convoy_rules k) (numbers_of k.result.answer) (ConvoyUnwritten k)
@@ -415,29 +414,29 @@ pub record ShiftFiles : Type 0 where
   -- so bytes that are no file of the form that they tell are no file
   pub either_form : (file : List ℕ) → NoFile (form_in file) file → (form : ShiftForm) → NoFile form file
   -- of the calls: 15, and otherwise the records
-  pub refused : (kind : EntryKind) (form : ShiftForm) (file : List ℕ) (first : ℕ) (before : List ℕ) (r : ShiftReading) (after : List ℕ) → Bytes file
-      → ReadPost kind form file first before r after → ((numbers_of r.answer).number ≡ 15) ↔ NoFile form file
-  pub read : (kind : EntryKind) (form : ShiftForm) (file : List ℕ) (first : ℕ) (before : List ℕ) (r : ShiftReading) (after : List ℕ) (rs : List ShiftRecord)
+  pub refused : (kind : EntryKind) (form : ShiftForm) (file : List ℕ) (first : ℕ) (before : List ℕ) (r : Result ShiftReading YuvError) (after : List ℕ) → Bytes file
+      → ReadPost kind form file first before r after → ((numbers_of (read_outcome r)).number ≡ 15) ↔ NoFile form file
+  pub read : (kind : EntryKind) (form : ShiftForm) (file : List ℕ) (first : ℕ) (before : List ℕ) (r : Result ShiftReading YuvError) (after : List ℕ) (rs : List ShiftRecord)
       → IsFileOf form file rs → ReadPost kind form file first before r after
-      → (r.count ≡ length rs) × (after ≡ entries_of kind form rs first r.told ++ drop (entry_size kind * r.told) before)
+      → ((reading_of r).count ≡ length rs) × (after ≡ entries_of kind form rs first (reading_of r).told ++ drop (entry_size kind * (reading_of r).told) before)
   -- for who links the library: the reader of either form reads in the one that the file has
   pub linked_reading : (k : ExportedReading) (p : ReadingAnyKept k) (form : ShiftForm) (rs : List ShiftRecord) → IsFileOf form k.file rs
       → ReadPost PlacesAndSettings form k.file k.first k.entries p.reading k.entries'
-  pub write_refused : (form : ShiftForm) (records before : List ℕ) (r : ShiftWritten) (after : List ℕ) → Bytes records
-      → WritePost form records before r after → ((numbers_of r.answer).number ≡ 15) ↔ NoRecords form records
-  pub written : (form : ShiftForm) (records before : List ℕ) (r : ShiftWritten) (after : List ℕ) (rs : List ShiftRecord)
-      → BackToBack form records rs → WritePost form records before r after → r.answer ≡ Ok tt
-      → IsFileOf form (take r.size after) rs × (drop r.size after ≡ drop r.size before)
+  pub write_refused : (form : ShiftForm) (records before : List ℕ) (r : Result ℕ NotWritten) (after : List ℕ) → Bytes records
+      → WritePost form records before r after → ((numbers_of (outcome_of r)).number ≡ 15) ↔ NoRecords form records
+  pub written : (form : ShiftForm) (records before : List ℕ) (r : Result ℕ NotWritten) (after : List ℕ) (rs : List ShiftRecord)
+      → BackToBack form records rs → WritePost form records before r after → outcome_of r ≡ Ok tt
+      → IsFileOf form (take (size_of r) after) rs × (drop (size_of r) after ≡ drop (size_of r) before)
   -- what follows a file's pairs, written, is the file
-  pub written_again : (form : ShiftForm) (file before : List ℕ) (r : ShiftWritten) (after : List ℕ) (rs : List ShiftRecord)
-      → IsFileOf form file rs → WritePost form (drop (records_at form (length rs)) file) before r after → r.answer ≡ Ok tt → take r.size after ≡ file
+  pub written_again : (form : ShiftForm) (file before : List ℕ) (r : Result ℕ NotWritten) (after : List ℕ) (rs : List ShiftRecord)
+      → IsFileOf form file rs → WritePost form (drop (records_at form (length rs)) file) before r after → outcome_of r ≡ Ok tt → take (size_of r) after ≡ file
   -- a record from planes, which has its place in a file
-  pub made : (f : RecordFrame) (y u v before : List ℕ) (r : ShiftWritten) (after : List ℕ) → Bytes y → Bytes u → Bytes v → f.crossing < 4294967296
-      → RecordPost f y u v before r after → r.answer ≡ Ok tt
-      → Allowed f.form (record_made f y u v) × (take r.size after ≡ bytes_of (record_made f y u v))
+  pub made : (f : RecordFrame) (y u v before : List ℕ) (r : Result ℕ NotWritten) (after : List ℕ) → Bytes y → Bytes u → Bytes v → f.crossing < 4294967296
+      → RecordPost f y u v before r after → outcome_of r ≡ Ok tt
+      → Allowed f.form (record_made f y u v) × (take (size_of r) after ≡ bytes_of (record_made f y u v))
   -- of the planes of a frame: it is made wherever it has room, and its planes are the frame's without padding
-  pub frame_accepted : (k : FrameCall) (f : RecordFrame) (before : List ℕ) (r : ShiftWritten) (after : List ℕ) → FramePost k → k.answer ≡ Ok tt
-      → OfFrame k f → RecordPost f k.y' k.u' k.v' before r after → record_size f ≤ length before → r.answer ≡ Ok tt
+  pub frame_accepted : (k : FrameCall) (f : RecordFrame) (before : List ℕ) (r : Result ℕ NotWritten) (after : List ℕ) → FramePost k → k.answer ≡ Ok tt
+      → OfFrame k f → RecordPost f k.y' k.u' k.v' before r after → record_size f ≤ length before → outcome_of r ≡ Ok tt
   pub frame : (k : FrameCall) (f : RecordFrame) → FramePost k → k.answer ≡ Ok tt → OfFrame k f → RecordBytes k (record_made f k.y' k.u' k.v')
   -- any settings of a frame may be recorded as they are, and say its sampling
   pub frame_codes : (s : YuvSettings) → (codes_allowed WithSettings (codes_of s) ≡ true) × (sampling_of WithSettings (codes_of s) ≡ s.sampling)
@@ -459,29 +458,29 @@ pub record ShiftMoves : Type 0 where
   pub may_return : MayReturn
   pub there_and_back : ThereAndBack
   -- of the calls: 15
-  pub refused : (from : ShiftForm) (file before : List ℕ) (r : ShiftWritten) (after : List ℕ) → Bytes file → MovePost from file before r after
-      → ((numbers_of r.answer).number ≡ 15) ↔ NoFile from file
+  pub refused : (from : ShiftForm) (file before : List ℕ) (r : Result ℕ NotWritten) (after : List ℕ) → Bytes file → MovePost from file before r after
+      → ((numbers_of (outcome_of r)).number ≡ 15) ↔ NoFile from file
   -- 20, where a record to be moved back has 4:2:2 or a recorded setting; and forward never
-  pub recorded : (file before : List ℕ) (r : ShiftWritten) (after : List ℕ) (rs : List ShiftRecord) → IsFileOf WithSettings file rs
+  pub recorded : (file before : List ℕ) (r : Result ℕ NotWritten) (after : List ℕ) (rs : List ShiftRecord) → IsFileOf WithSettings file rs
       → MovePost WithSettings file before r after
-      → ((numbers_of r.answer).number ≡ 20) ↔ ((i : ℕ) × (i < length rs) × (NothingRecorded (nth rs i) → ⊥))
-  pub none_forward : (file before : List ℕ) (r : ShiftWritten) (after : List ℕ) → MovePost WithoutSettings file before r after
-      → (numbers_of r.answer).number ≡ 20 → ⊥
+      → ((numbers_of (outcome_of r)).number ≡ 20) ↔ ((i : ℕ) × (i < length rs) × (NothingRecorded (nth rs i) → ⊥))
+  pub none_forward : (file before : List ℕ) (r : Result ℕ NotWritten) (after : List ℕ) → MovePost WithoutSettings file before r after
+      → (numbers_of (outcome_of r)).number ≡ 20 → ⊥
   -- 16
-  pub short : (from : ShiftForm) (file before : List ℕ) (r : ShiftWritten) (after : List ℕ) (rs : List ShiftRecord) → IsFileOf from file rs
-      → may_move from rs ≡ true → MovePost from file before r after → ((numbers_of r.answer).number ≡ 16) ↔ (length before < length (moved_file from file))
+  pub short : (from : ShiftForm) (file before : List ℕ) (r : Result ℕ NotWritten) (after : List ℕ) (rs : List ShiftRecord) → IsFileOf from file rs
+      → may_move from rs ≡ true → MovePost from file before r after → ((numbers_of (outcome_of r)).number ≡ 16) ↔ (length before < length (moved_file from file))
   -- and otherwise the file of the moved records
-  pub moved_there : (from : ShiftForm) (file before : List ℕ) (r : ShiftWritten) (after : List ℕ) (rs : List ShiftRecord) → IsFileOf from file rs
-      → MovePost from file before r after → r.answer ≡ Ok tt
-      → IsFileOf (other_form from) (take r.size after) (moved (other_form from) rs) × (drop r.size after ≡ drop r.size before)
+  pub moved_there : (from : ShiftForm) (file before : List ℕ) (r : Result ℕ NotWritten) (after : List ℕ) (rs : List ShiftRecord) → IsFileOf from file rs
+      → MovePost from file before r after → outcome_of r ≡ Ok tt
+      → IsFileOf (other_form from) (take (size_of r) after) (moved (other_form from) rs) × (drop (size_of r) after ≡ drop (size_of r) before)
   -- which moved back, wherever there is room, is the same file
-  pub moved_back : (from : ShiftForm) (file before : List ℕ) (r : ShiftWritten) (after : List ℕ) → Bytes file → MovePost from file before r after
-      → r.answer ≡ Ok tt → (before₂ : List ℕ) (r₂ : ShiftWritten) (after₂ : List ℕ) → MovePost (other_form from) (take r.size after) before₂ r₂ after₂
-      → length file ≤ length before₂ → (r₂.answer ≡ Ok tt) × (take r₂.size after₂ ≡ file)
+  pub moved_back : (from : ShiftForm) (file before : List ℕ) (r : Result ℕ NotWritten) (after : List ℕ) → Bytes file → MovePost from file before r after
+      → outcome_of r ≡ Ok tt → (before₂ : List ℕ) (r₂ : Result ℕ NotWritten) (after₂ : List ℕ) → MovePost (other_form from) (take (size_of r) after) before₂ r₂ after₂
+      → length file ≤ length before₂ → (outcome_of r₂ ≡ Ok tt) × (take (size_of r₂) after₂ ≡ file)
   -- a reader of one form answers 15 to a file of the other
   pub other_reader : (kind : EntryKind) (form : ShiftForm) (file : List ℕ) (rs : List ShiftRecord) → IsFileOf form file rs
-      → (first : ℕ) (before : List ℕ) (r : ShiftReading) (after : List ℕ) → ReadPost kind (other_form form) file first before r after
-      → (numbers_of r.answer).number ≡ 15
+      → (first : ℕ) (before : List ℕ) (r : Result ShiftReading YuvError) (after : List ℕ) → ReadPost kind (other_form form) file first before r after
+      → (numbers_of (read_outcome r)).number ≡ 15
 
 -- ---- The summary of a shift file: a file has one, byte for byte; what is built is the summary, the check says yes exactly where it is there, a lookup finds
 -- the first record of a crossing, or none exactly where there is none, and an update leaves the bytes that are built afresh of the grown file, which is the
@@ -513,23 +512,23 @@ pub record ShiftSummaries : Type 0 where
   pub built : (form : ShiftForm) (file before : List ℕ) (a : Result Unit YuvError) (after : List ℕ) (rs : List ShiftRecord) → IsFileOf form file rs
       → BuildPost form file before a after → a ≡ Ok tt → Left form rs (13 * length rs) before after
   -- checking
-  pub check_refused : (form : ShiftForm) (file summary : List ℕ) (r : SummaryVerdict) → Bytes file → CheckPost form file summary r
-      → ((numbers_of r.answer).number ≡ 15) ↔ NoFile form file
-  pub checked : (form : ShiftForm) (file summary : List ℕ) (r : SummaryVerdict) (rs : List ShiftRecord) → IsFileOf form file rs → Bytes summary
-      → CheckPost form file summary r → (r.is_summary ≡ true) ↔ HasSummary form rs summary
+  pub check_refused : (form : ShiftForm) (file summary : List ℕ) (r : Result Bool YuvError) → Bytes file → CheckPost form file summary r
+      → ((numbers_of (outcome r)).number ≡ 15) ↔ NoFile form file
+  pub checked : (form : ShiftForm) (file summary : List ℕ) (r : Result Bool YuvError) (rs : List ShiftRecord) → IsFileOf form file rs → Bytes summary
+      → CheckPost form file summary r → (r ≡ Ok true) ↔ HasSummary form rs summary
   -- looking up
-  pub find_refused : (form : ShiftForm) (file summary : List ℕ) (crossing : ℕ) (r : SummaryFinding) → Bytes file → FindPost form file summary crossing r
-      → ((numbers_of r.answer).number ≡ 15) ↔ NoFile form file
-  pub find_mismatch : (form : ShiftForm) (file summary : List ℕ) (crossing : ℕ) (r : SummaryFinding) (rs : List ShiftRecord) → IsFileOf form file rs
-      → Bytes summary → FindPost form file summary crossing r → ((numbers_of r.answer).number ≡ 17) ↔ (HasSummary form rs summary → ⊥)
-  pub found : (form : ShiftForm) (file summary : List ℕ) (crossing : ℕ) (r : SummaryFinding) (rs : List ShiftRecord) → IsFileOf form file rs
-      → FindPost form file summary crossing r → r.answer ≡ Ok tt → (k : ℕ) → (r.found ≡ At k) ↔ IsFirst crossing rs k
+  pub find_refused : (form : ShiftForm) (file summary : List ℕ) (crossing : ℕ) (r : Result (Option ℕ) YuvError) → Bytes file
+      → FindPost form file summary crossing r → ((numbers_of (outcome r)).number ≡ 15) ↔ NoFile form file
+  pub find_mismatch : (form : ShiftForm) (file summary : List ℕ) (crossing : ℕ) (r : Result (Option ℕ) YuvError) (rs : List ShiftRecord) → IsFileOf form file rs
+      → Bytes summary → FindPost form file summary crossing r → ((numbers_of (outcome r)).number ≡ 17) ↔ (HasSummary form rs summary → ⊥)
+  pub found : (form : ShiftForm) (file summary : List ℕ) (crossing : ℕ) (r : Result (Option ℕ) YuvError) (rs : List ShiftRecord) → IsFileOf form file rs
+      → FindPost form file summary crossing r → IsOk r → (k : ℕ) → (r ≡ Ok (Some k)) ↔ IsFirst crossing rs k
   -- and it is a part of the file, where the reader tells that it stands
-  pub found_part : (form : ShiftForm) (file summary : List ℕ) (crossing : ℕ) (r : SummaryFinding) (rs : List ShiftRecord) (k : ℕ) → IsFileOf form file rs
-      → FindPost form file summary crossing r → r.answer ≡ Ok tt → r.found ≡ At k
+  pub found_part : (form : ShiftForm) (file summary : List ℕ) (crossing : ℕ) (r : Result (Option ℕ) YuvError) (rs : List ShiftRecord) (k : ℕ)
+      → IsFileOf form file rs → FindPost form file summary crossing r → r ≡ Ok (Some k)
       → take (length (bytes_of (nth rs k))) (drop (offset_of form rs k) file) ≡ bytes_of (nth rs k)
-  pub found_none : (form : ShiftForm) (file summary : List ℕ) (crossing : ℕ) (r : SummaryFinding) (rs : List ShiftRecord) → IsFileOf form file rs
-      → FindPost form file summary crossing r → r.answer ≡ Ok tt → (r.found ≡ Nowhere) ↔ NoRecordOf crossing rs
+  pub found_none : (form : ShiftForm) (file summary : List ℕ) (crossing : ℕ) (r : Result (Option ℕ) YuvError) (rs : List ShiftRecord) → IsFileOf form file rs
+      → FindPost form file summary crossing r → IsOk r → (r ≡ Ok None) ↔ NoRecordOf crossing rs
   -- updating
   pub update_refused : (form : ShiftForm) (file added before : List ℕ) (a : Result Unit YuvError) (after : List ℕ) → Bytes file → Bytes added
       → UpdatePost form file added before a after
@@ -541,9 +540,9 @@ pub record ShiftSummaries : Type 0 where
       → Grows form file added rs r → Bytes file → Bytes added → UpdatePost form file added before a after → a ≡ Ok tt
       → Left form (rs ++ r ∷ []) (13 * (length rs + 1)) before after
   -- and the file that the writer makes of the old records and the new one is that of the records that it is a summary of
-  pub grown : (form : ShiftForm) (file added before : List ℕ) (w : ShiftWritten) (after : List ℕ) (rs : List ShiftRecord) (r : ShiftRecord)
-      → Grows form file added rs r → WritePost form (drop (records_at form (length rs)) file ++ added) before w after → w.answer ≡ Ok tt
-      → IsFileOf form (take w.size after) (rs ++ r ∷ [])
+  pub grown : (form : ShiftForm) (file added before : List ℕ) (w : Result ℕ NotWritten) (after : List ℕ) (rs : List ShiftRecord) (r : ShiftRecord)
+      → Grows form file added rs r → WritePost form (drop (records_at form (length rs)) file ++ added) before w after → outcome_of w ≡ Ok tt
+      → IsFileOf form (take (size_of w) after) (rs ++ r ∷ [])
   -- of which a summary built afresh has the same bytes
   pub afresh : (form : ShiftForm) (file added before : List ℕ) (a : Result Unit YuvError) (after : List ℕ) (rs : List ShiftRecord) (r : ShiftRecord)
       → Grows form file added rs r → Bytes file → Bytes added → UpdatePost form file added before a after → a ≡ Ok tt
@@ -573,15 +572,15 @@ pub record ShiftPairs : Type 0 where
   pub counts_add_up : CountsAddUp
   pub first_or_none : FirstOrNone
   -- of the call: 15 exactly where no list of records has the bytes of the one or of the other, and ours, else theirs, is told
-  pub refused : (our_form : ShiftForm) (ours : List ℕ) (their_form : ShiftForm) (theirs : List ℕ) (r : Pairing) → Bytes ours → Bytes theirs
-      → PairingPost our_form ours their_form theirs r → ((numbers_of r.answer).number ≡ 15) ↔ (NoFile our_form ours ⊎ NoFile their_form theirs)
-  pub ours_broken : (our_form : ShiftForm) (ours : List ℕ) (their_form : ShiftForm) (theirs : List ℕ) (r : Pairing) → Bytes ours
-      → PairingPost our_form ours their_form theirs r → (r.broken ≡ 1) ↔ NoFile our_form ours
-  pub theirs_broken : (our_form : ShiftForm) (ours : List ℕ) (their_form : ShiftForm) (theirs : List ℕ) (r : Pairing) → Bytes ours → Bytes theirs
-      → PairingPost our_form ours their_form theirs r → (r.broken ≡ 2) ↔ (((rs : List ShiftRecord) × IsFileOf our_form ours rs) × NoFile their_form theirs)
-  pub reported : (our_form : ShiftForm) (ours : List ℕ) (their_form : ShiftForm) (theirs : List ℕ) (r : Pairing) (rs ss : List ShiftRecord)
+  pub refused : (our_form : ShiftForm) (ours : List ℕ) (their_form : ShiftForm) (theirs : List ℕ) (r : Result PairReport BrokenFile) → Bytes ours → Bytes theirs
+      → PairingPost our_form ours their_form theirs r → ((numbers_of (pairing_outcome r)).number ≡ 15) ↔ (NoFile our_form ours ⊎ NoFile their_form theirs)
+  pub ours_broken : (our_form : ShiftForm) (ours : List ℕ) (their_form : ShiftForm) (theirs : List ℕ) (r : Result PairReport BrokenFile) → Bytes ours
+      → PairingPost our_form ours their_form theirs r → (r ≡ Err Ours) ↔ NoFile our_form ours
+  pub theirs_broken : (our_form : ShiftForm) (ours : List ℕ) (their_form : ShiftForm) (theirs : List ℕ) (r : Result PairReport BrokenFile) → Bytes ours → Bytes theirs
+      → PairingPost our_form ours their_form theirs r → (r ≡ Err Theirs) ↔ (((rs : List ShiftRecord) × IsFileOf our_form ours rs) × NoFile their_form theirs)
+  pub reported : (our_form : ShiftForm) (ours : List ℕ) (their_form : ShiftForm) (theirs : List ℕ) (r : Result PairReport BrokenFile) (rs ss : List ShiftRecord)
       → IsFileOf our_form ours rs → IsFileOf their_form theirs ss → PairingPost our_form ours their_form theirs r
-      → (r.answer ≡ Ok tt) × (r.report ≡ report_of (record { our_form = our_form; ours = rs; their_form = their_form; theirs = ss }))
+      → r ≡ Ok (report_of (record { our_form = our_form; ours = rs; their_form = their_form; theirs = ss }))
   -- for who links the library: the same, and then the report is as it was
   pub linked_refused : (k : ExportedPairing) → Bytes k.ours → Bytes k.theirs → PairingKept k
       → (k.number ≡ 15) ↔ (NoFile (form_in k.ours) k.ours ⊎ NoFile (form_in k.theirs) k.theirs)
@@ -662,7 +661,7 @@ pub record PictureCall : Type 0 where
   pub u : List ℕ
   pub v : List ℕ
   pub output : List ℕ
-  pub result : Y4mWritten
+  pub result : Result ℕ NotWritten
   pub output' : List ℕ
 
 -- RULES 14.7: of these sides and this sampling, and finished
@@ -671,7 +670,7 @@ pub record PictureWritten (code w h : ℕ) (k : PictureCall) : Type 0 where
   pub width : k.frame.width ≡ w
   pub height : k.frame.height ≡ h
   pub met : PicturePost k.frame k.y k.u k.v k.output k.result k.output'
-  pub finished : k.result.answer ≡ Ok tt
+  pub finished : outcome_of k.result ≡ Ok tt
 
 -- RULES 14.7
 abbrev pub AllWritten : (code w h : ℕ) → List PictureCall → Type 0
@@ -681,7 +680,7 @@ AllWritten code w h (k ∷ ks) = PictureWritten code w h k × AllWritten code w 
 -- RULES 14.7: what calls wrote, one after the other
 abbrev pub bytes_written : List PictureCall → List ℕ
 bytes_written [] = []
-bytes_written (k ∷ ks) = take k.result.size k.output' ++ bytes_written ks
+bytes_written (k ∷ ks) = take (size_of k.result) k.output' ++ bytes_written ks
 
 -- RULES 14.7: the planes that they were given, without padding
 abbrev pub planes_given : List PictureCall → List ℕ
@@ -713,44 +712,44 @@ pub record Y4mFiles : Type 0 where
       ≡ 89 ∷ 85 ∷ 86 ∷ 52 ∷ 77 ∷ 80 ∷ 69 ∷ 71 ∷ 50 ∷ 32 ∷ 87 ∷ 49 ∷ 32 ∷ 72 ∷ 49 ∷ 32 ∷ 70 ∷ 50 ∷ 53 ∷ 58 ∷ 49 ∷ 32 ∷ 73 ∷ 112 ∷ 32 ∷ 67 ∷ 52 ∷ 50
       ∷ 50 ∷ 10 ∷ 70 ∷ 82 ∷ 65 ∷ 77 ∷ 69 ∷ 10 ∷ 7 ∷ 8 ∷ 9 ∷ []
   -- of reading: 19, and otherwise everything that is told
-  pub refused : (file : List ℕ) (first : ℕ) (before : List ℕ) (r : Y4mReading) (after : List ℕ) → Y4mReadPost file first before r after
-      → ((numbers_of r.answer).number ≡ 19) ↔ NoY4m file
-  pub read : (file : List ℕ) (first : ℕ) (before : List ℕ) (r : Y4mReading) (after : List ℕ) → Y4mReadPost file first before r after
-      → (f : Y4mFile) → IsY4mOf file f → (r.answer ≡ Ok tt) × Y4mTold file f first before r after
+  pub refused : (file : List ℕ) (first : ℕ) (before : List ℕ) (r : Result Y4mReading YuvError) (after : List ℕ) → Y4mReadPost file first before r after
+      → ((numbers_of (y4m_outcome r)).number ≡ 19) ↔ NoY4m file
+  pub read : (file : List ℕ) (first : ℕ) (before : List ℕ) (r : Result Y4mReading YuvError) (after : List ℕ) → Y4mReadPost file first before r after
+      → (f : Y4mFile) → IsY4mOf file f → (y4m_outcome r ≡ Ok tt) × Y4mTold file f first before (y4m_reading_of r) after
   -- of writing: 19, then 16, which tells the size, and otherwise the file of these planes. No buffer has 2^64 bytes.
-  pub write_refused : (code w h : ℕ) (pictures before : List ℕ) (r : Y4mWritten) (after : List ℕ) → Y4mWritePost code w h pictures before r after
-      → ((numbers_of r.answer).number ≡ 19) ↔ NoPictures code w h pictures
-  pub write_short : (code w h : ℕ) (pictures before : List ℕ) (r : Y4mWritten) (after : List ℕ) → Y4mWritePost code w h pictures before r after
+  pub write_refused : (code w h : ℕ) (pictures before : List ℕ) (r : Result ℕ NotWritten) (after : List ℕ) → Y4mWritePost code w h pictures before r after
+      → ((numbers_of (outcome_of r)).number ≡ 19) ↔ NoPictures code w h pictures
+  pub write_short : (code w h : ℕ) (pictures before : List ℕ) (r : Result ℕ NotWritten) (after : List ℕ) → Y4mWritePost code w h pictures before r after
       → (ps : List Y4mPicture) → PicturesIn code w h pictures ps
-      → ((numbers_of r.answer).number ≡ 16) ↔ (length before < length (y4m_made code w h pictures))
-  pub write_size : (code w h : ℕ) (pictures before : List ℕ) (r : Y4mWritten) (after : List ℕ) → Y4mWritePost code w h pictures before r after
-      → ((numbers_of r.answer).number ≡ 16 → r.size ≡ in_word (length (y4m_made code w h pictures)))
-      × ((numbers_of r.answer).number ≡ 19 → r.size ≡ 0)
-  pub written : (code w h : ℕ) (pictures before : List ℕ) (r : Y4mWritten) (after : List ℕ) → Y4mWritePost code w h pictures before r after
-      → length before < 2 ^ 64 → r.answer ≡ Ok tt
-      → (take r.size after ≡ y4m_made code w h pictures) × ((f : Y4mFile) × Y4mOf code w h pictures (take r.size after) f)
-      × (drop r.size after ≡ drop r.size before)
+      → ((numbers_of (outcome_of r)).number ≡ 16) ↔ (length before < length (y4m_made code w h pictures))
+  pub write_size : (code w h : ℕ) (pictures before : List ℕ) (r : Result ℕ NotWritten) (after : List ℕ) → Y4mWritePost code w h pictures before r after
+      → ((numbers_of (outcome_of r)).number ≡ 16 → size_of r ≡ in_word (length (y4m_made code w h pictures)))
+      × ((numbers_of (outcome_of r)).number ≡ 19 → size_of r ≡ 0)
+  pub written : (code w h : ℕ) (pictures before : List ℕ) (r : Result ℕ NotWritten) (after : List ℕ) → Y4mWritePost code w h pictures before r after
+      → length before < 2 ^ 64 → outcome_of r ≡ Ok tt
+      → (take (size_of r) after ≡ y4m_made code w h pictures) × ((f : Y4mFile) × Y4mOf code w h pictures (take (size_of r) after) f)
+      × (drop (size_of r) after ≡ drop (size_of r) before)
   -- read back, it tells the sides, the sampling and the planes that were given
-  pub written_read : (code w h : ℕ) (pictures before : List ℕ) (r : Y4mWritten) (after : List ℕ) → Y4mWritePost code w h pictures before r after
-      → length before < 2 ^ 64 → r.answer ≡ Ok tt
-      → (first : ℕ) (before₂ : List ℕ) (r₂ : Y4mReading) (after₂ : List ℕ) → Y4mReadPost (take r.size after) first before₂ r₂ after₂
-      → (r₂.answer ≡ Ok tt)
-      × ((f : Y4mFile) × Y4mOf code w h pictures (take r.size after) f × Y4mTold (take r.size after) f first before₂ r₂ after₂)
+  pub written_read : (code w h : ℕ) (pictures before : List ℕ) (r : Result ℕ NotWritten) (after : List ℕ) → Y4mWritePost code w h pictures before r after
+      → length before < 2 ^ 64 → outcome_of r ≡ Ok tt
+      → (first : ℕ) (before₂ : List ℕ) (r₂ : Result Y4mReading YuvError) (after₂ : List ℕ) → Y4mReadPost (take (size_of r) after) first before₂ r₂ after₂
+      → (y4m_outcome r₂ ≡ Ok tt)
+      × ((f : Y4mFile) × Y4mOf code w h pictures (take (size_of r) after) f × Y4mTold (take (size_of r) after) f first before₂ (y4m_reading_of r₂) after₂)
   -- of one picture: the same
-  pub picture_refused : (f : PictureFrame) (y u v before : List ℕ) (r : Y4mWritten) (after : List ℕ) → PicturePost f y u v before r after
-      → ((numbers_of r.answer).number ≡ 19) ↔ (WholePicture f y u v → ⊥)
-  pub picture_short : (f : PictureFrame) (y u v before : List ℕ) (r : Y4mWritten) (after : List ℕ) → PicturePost f y u v before r after
-      → WholePicture f y u v → ((numbers_of r.answer).number ≡ 16) ↔ (length before < length (picture_bytes (picture_made f y u v)))
-  pub picture_size : (f : PictureFrame) (y u v before : List ℕ) (r : Y4mWritten) (after : List ℕ) → PicturePost f y u v before r after
-      → ((numbers_of r.answer).number ≡ 16 → r.size ≡ length (picture_bytes (picture_made f y u v)))
-      × ((numbers_of r.answer).number ≡ 19 → r.size ≡ 0)
-  pub picture_written : (f : PictureFrame) (y u v before : List ℕ) (r : Y4mWritten) (after : List ℕ) → PicturePost f y u v before r after
-      → r.answer ≡ Ok tt
-      → (take r.size after ≡ picture_bytes (picture_made f y u v)) × (drop r.size after ≡ drop r.size before)
+  pub picture_refused : (f : PictureFrame) (y u v before : List ℕ) (r : Result ℕ NotWritten) (after : List ℕ) → PicturePost f y u v before r after
+      → ((numbers_of (outcome_of r)).number ≡ 19) ↔ (WholePicture f y u v → ⊥)
+  pub picture_short : (f : PictureFrame) (y u v before : List ℕ) (r : Result ℕ NotWritten) (after : List ℕ) → PicturePost f y u v before r after
+      → WholePicture f y u v → ((numbers_of (outcome_of r)).number ≡ 16) ↔ (length before < length (picture_bytes (picture_made f y u v)))
+  pub picture_size : (f : PictureFrame) (y u v before : List ℕ) (r : Result ℕ NotWritten) (after : List ℕ) → PicturePost f y u v before r after
+      → ((numbers_of (outcome_of r)).number ≡ 16 → size_of r ≡ length (picture_bytes (picture_made f y u v)))
+      × ((numbers_of (outcome_of r)).number ≡ 19 → size_of r ≡ 0)
+  pub picture_written : (f : PictureFrame) (y u v before : List ℕ) (r : Result ℕ NotWritten) (after : List ℕ) → PicturePost f y u v before r after
+      → outcome_of r ≡ Ok tt
+      → (take (size_of r) after ≡ picture_bytes (picture_made f y u v)) × (drop (size_of r) after ≡ drop (size_of r) before)
   -- a file, of no picture too, and pictures written after it one by one
-  pub one_by_one : (code w h : ℕ) (pictures before : List ℕ) (r : Y4mWritten) (after : List ℕ) → Y4mWritePost code w h pictures before r after
-      → length before < 2 ^ 64 → r.answer ≡ Ok tt → (ks : List PictureCall) → AllWritten code w h ks
-      → (f : Y4mFile) × Y4mOf code w h (pictures ++ planes_given ks) (take r.size after ++ bytes_written ks) f
+  pub one_by_one : (code w h : ℕ) (pictures before : List ℕ) (r : Result ℕ NotWritten) (after : List ℕ) → Y4mWritePost code w h pictures before r after
+      → length before < 2 ^ 64 → outcome_of r ≡ Ok tt → (ks : List PictureCall) → AllWritten code w h ks
+      → (f : Y4mFile) × Y4mOf code w h (pictures ++ planes_given ks) (take (size_of r) after ++ bytes_written ks) f
   -- of the planes of a frame: a picture is made wherever it has room, and its planes are the frame's without padding
   pub frame_whole : (k : FrameCall) (f : PictureFrame) → FramePost k → k.answer ≡ Ok tt → PictureOfFrame k f
       → WholePicture f k.y' k.u' k.v'
@@ -759,16 +758,16 @@ pub record Y4mFiles : Type 0 where
   -- for who links the library: the number and what is told say the same
   pub linked_refused : (k : ExportedY4mReading) → Y4mReadingKept k → (k.number ≡ 19) ↔ NoY4m k.file
   pub linked_read : (k : ExportedY4mReading) (p : Y4mReadingKept k) (f : Y4mFile) → IsY4mOf k.file f
-      → (k.number ≡ 0) × (k.told ≡ f.width ∷ f.height ∷ sampling_code f.sampling ∷ length f.pictures ∷ p.reading.told ∷ [])
-      × Y4mTold k.file f k.first k.entries p.reading k.entries'
+      → (k.number ≡ 0) × (k.told ≡ f.width ∷ f.height ∷ sampling_code f.sampling ∷ length f.pictures ∷ (y4m_reading_of p.reading).told ∷ [])
+      × Y4mTold k.file f k.first k.entries (y4m_reading_of p.reading) k.entries'
   pub linked_write_refused : (k : ExportedY4mWriting) → Y4mWritingKept k
       → (k.number ≡ 19) ↔ NoPictures (sampling_given k.numbers) (width_given k.numbers) (height_given k.numbers) k.pictures
   pub linked_written : (k : ExportedY4mWriting) (p : Y4mWritingKept k) → k.number ≡ 0
-      → (p.written.answer ≡ Ok tt) × (k.told ≡ p.written.size ∷ [])
+      → (outcome_of p.written ≡ Ok tt) × (k.told ≡ size_of p.written ∷ [])
   pub linked_picture_refused : (k : ExportedY4mPicture) → Y4mPictureKept k
       → (k.number ≡ 19) ↔ (WholePicture (frame_of_picture k.numbers) k.y k.u k.v → ⊥)
   pub linked_picture_written : (k : ExportedY4mPicture) (p : Y4mPictureKept k) → k.number ≡ 0
-      → (p.written.answer ≡ Ok tt) × (k.told ≡ p.written.size ∷ [])
+      → (outcome_of p.written ≡ Ok tt) × (k.told ≡ size_of p.written ∷ [])
 
 -- ---- A convoy: up to 64 frames in one call. 18 is answered, before any frame is begun, exactly where there are more, a part reaches outside its
 -- buffer, or plane parts of two frames overlap. Otherwise the effect is that of single calls in order, up to the first that is refused: its place

@@ -1,5 +1,7 @@
 // The front desk (RULES 16): 32 cameras share one converter and five buffers. A camera opens a frame and offers its bands; a step serves one.
 // A call changes the desk in place. It is taken as it comes, also one that no call left.
+// The buffers of a step come as slices of their own, as C lends them: each contract speaks of y, u and v one by one, so a struct of
+// them would be made for a call and taken apart in it.
 #![tactic(auto)]
 
 ghost use Rattle.std.specs.Prelude.{◌≡◌, ◌<◌, OnOk};
@@ -21,14 +23,15 @@ pub struct Desk {
     pub from: usize,
 }
 
-// Whose band a step served, and what became of it.
+// Whose band a step served, and what became of it: both are told whenever a band was served. That none was is the `Option` round it.
 #[derive(Clone, Copy, Debug, PartialEq, Eq)]
 pub struct Served {
     pub camera: usize,
     pub answer: Result<(), YuvError>,
 }
 
-// Refusals 21 and 23 of an opening. This and the next are public for callers that have a refusal of their own before 2.
+// Refusals 21 and 23 of an opening. This and the next are public for callers that have a refusal of their own before 2. A check and no conversion:
+// the match asks what stands at a number.
 pub fn check_number(places: [Slot; 32], camera: u32) -> Result<(), YuvError>
     ensures numbers { numbers_of result ≡ first_numbers (number_rules places camera) }
     ensures below { OnOk result (camera < 32) }

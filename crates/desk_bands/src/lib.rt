@@ -1,4 +1,6 @@
 // A band served at the front desk (RULES 16.4): the band call on the frame's parts of the shared buffers.
+// The buffers come as slices of their own, as C lends them: each contract speaks of y, u and v one by one, so a struct of
+// them would be made for a call and taken apart in it.
 #![tactic(auto)]
 
 ghost use Rattle.desk_bands.specs.Buffers.{buffers_of, AllInside, Converted, ServePost};
@@ -7,7 +9,7 @@ use band_calls::FrameAnswer;
 use desk_places::{BufferLengths, OpenFrame, WaitingBand};
 use yuv_error::YuvError;
 
-// The band call on the frame's parts of the buffers, all of which lie inside.
+// The band call on the frame's parts of the buffers, all of which lie inside. They are sliced here, as crate `convoy` does and says why.
 fn band_in_parts(
     frame: OpenFrame,
     band: WaitingBand,

@@ -1,35 +1,29 @@
 // An opening and an offer at the front desk from numbers, for callers without enums and structs (RULES 10.10): the desk stands in three lent arrays, in
-// which a call writes the place of one camera anew. `desk_steps` has the step.
+// which a call writes the place of one camera anew. `desk_steps` has the step. The calls have C's parameters.
 #![tactic(auto)]
 
 ghost use Rattle.std.specs.Prelude.{◌≡◌, ◌<◌, OnOk};
 ghost use Rattle.desk.specs.DeskCall.{desk_answer};
 ghost use Rattle.desk_numbers.specs.Numbers.{desk_numbers};
+ghost use Rattle.desk_numbers.specs.Lent.{numbers_in, Leaves};
 ghost use Rattle.desk_calls.specs.Calls.{place_left, parts_of, lengths_of, DescribedOpen, exported_desk_open, DeskOpenKept};
 ghost use Rattle.desk_calls.specs.Calls.{exported_desk_offer, DeskOfferKept};
 
 use desk::Desk;
+use desk_numbers::LentDesk;
 use desk_places::{BufferLengths, FrameParts, WaitingBand};
 use yuv_error::YuvError;
 
 // Writes what an opening or an offer made of the camera's place; a refused one made nothing of it.
-fn put_answer(
-    camera: u32,
-    desk: Desk,
-    answer: Result<(), YuvError>,
-    numbers: &mut [u32; 609],
-    customs: &mut [f32; 64],
-    parts: &mut [u64; 320],
-)
+fn put_answer(camera: u32, desk: Desk, answer: Result<(), YuvError>, lent: &mut LentDesk)
     requires { OnOk answer (camera < 32) }
-    ensures { desk_numbers numbers.new customs.new parts.new
-        ≡ place_left (desk_numbers numbers.old customs.old parts.old) camera (desk_answer desk answer) }
+    ensures { Leaves (place_left (numbers_in lent.old) camera (desk_answer desk answer)) lent.old lent.new }
 {
     match answer {
         Err(_) => {}
         Ok(()) => {
             let c = camera as usize;
-            desk_numbers::put_place(c, desk.places[c], numbers, customs, parts);
+            lent.put_place(c, desk.places[c]);
         }
     }
 }
@@ -69,13 +63,14 @@ fn open_described(
 ) -> Result<(), YuvError>
     ensures { DescribedOpen desk.old camera described.now custom.now parts lens (desk_answer desk.new result) }
 {
-    if call_numbers::is_malformed(0, described) {
-        desk::check_number(desk.places, camera)?;
-        desk::check_parts(desk.places, parts, lens)?;
-        return Err(YuvError::MalformedRequest);
+    match call_numbers::described(0, described, custom) {
+        Ok(frame) => desk.open(camera, frame, parts, lens),
+        Err(refusal) => {
+            desk::check_number(desk.places, camera)?;
+            desk::check_parts(desk.places, parts, lens)?;
+            Err(refusal)
+        }
     }
-    let frame = call_numbers::describe_after(0, described, custom);
-    desk.open(camera, frame, parts, lens)
 }
 
 // Opens a frame for a camera (0), or answers the number of one refusal and leaves the desk's numbers as they are: 21, 23, 18, 1 for numbers without a
@@ -95,7 +90,12 @@ pub fn call_desk_open(
         (desk_numbers numbers.old customs.old parts.old) result told.new
         (desk_numbers numbers.new customs.new parts.new)) }
 {
-    let mut desk = desk_numbers::desk_of(numbers, customs, parts);
+    let mut lent = LentDesk {
+        numbers,
+        customs,
+        parts,
+    };
+    let mut desk = lent.desk();
     let answer = open_described(
         &mut desk,
         camera,
@@ -104,7 +104,7 @@ pub fn call_desk_open(
         parts_of(frame_parts),
         lengths_of(lengths),
     );
-    put_answer(camera, desk, answer, numbers, customs, parts);
+    put_answer(camera, desk, answer, &mut lent);
     call_numbers::tell_answer(answer, told)
 }
 
@@ -122,13 +122,18 @@ pub fn call_desk_offer(
         (desk_numbers numbers.old customs.old parts.old) result
         (desk_numbers numbers.new customs.new parts.new)) }
 {
-    let mut desk = desk_numbers::desk_of(numbers, customs, parts);
+    let mut lent = LentDesk {
+        numbers,
+        customs,
+        parts,
+    };
+    let mut desk = lent.desk();
     let waiting = WaitingBand {
         rows: band[0],
         stride: band[1],
         source: convoy_calls::part_at(place, 0),
     };
     let answer = desk.offer(camera, waiting, convoy_calls::as_place(place[2]));
-    put_answer(camera, desk, answer, numbers, customs, parts);
+    put_answer(camera, desk, answer, &mut lent);
     error_numbers::answer_numbers(answer).number
 }

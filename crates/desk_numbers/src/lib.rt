@@ -2,8 +2,9 @@
 #![tactic(auto)]
 
 ghost use Rattle.std.specs.Prelude.{◌≡◌, ◌+◌, ◌*◌, ◌≤◌, ◌<◌, length};
-ghost use Rattle.desk_numbers.specs.Numbers.{desk_numbers, of_camera, with_camera, frame_of, band_of, slot_of, place_of, desk_of, state_numbers};
-ghost use Rattle.desk_numbers.specs.Numbers.{slot_numbers, matrix_customs, slot_customs, part_numbers, slot_parts, put_place};
+ghost use Rattle.desk_numbers.specs.Numbers.{of_camera, with_camera, frame_of, band_of, place_of, desk_of, state_numbers};
+ghost use Rattle.desk_numbers.specs.Numbers.{matrix_customs, part_numbers, put_place, ask_first};
+ghost use Rattle.desk_numbers.specs.Lent.{numbers_in, Leaves};
 
 use band_calls::FrameState;
 use buffer_parts::BufferPart;
@@ -41,69 +42,89 @@ fn put_camera<T: Copy, const N: usize>(numbers: &mut [T], k: usize, values: [T; 
     numbers[at..at + N].copy_from_slice(&values);
 }
 
-// ---- a desk from its numbers
+// ---- a camera's place, as numbers and as a slot
 
-fn frame_of(numbers: &[u32; 19], custom: &[f32; 2], parts: &[u64; 10]) -> OpenFrame
-    ensures { result ≡ frame_of numbers.now custom.now parts.now }
-{
-    OpenFrame {
-        state: FrameState {
-            frame: call_numbers::describe(&numbers[OF_PLACE..], custom),
-            done: numbers[1],
-        },
-        parts: FrameParts {
-            y: convoy_calls::part_at(parts, 2),
-            u: convoy_calls::part_at(parts, 4),
-            v: convoy_calls::part_at(parts, 6),
-            carried: convoy_calls::part_at(parts, 8),
-        },
+// A camera's part of each of the three arrays.
+#[derive(Clone, Copy, Debug, PartialEq)]
+struct PlaceNumbers {
+    numbers: [u32; 19],
+    customs: [f32; 2],
+    parts: [u64; 10],
+}
+
+impl PlaceNumbers {
+    fn frame(self) -> OpenFrame
+        ensures { result ≡ frame_of self.numbers self.customs self.parts }
+    {
+        OpenFrame {
+            state: FrameState {
+                frame: call_numbers::describe(&self.numbers[OF_PLACE..], &self.customs),
+                done: self.numbers[1],
+            },
+            parts: FrameParts {
+                y: convoy_calls::part_at(&self.parts, 2),
+                u: convoy_calls::part_at(&self.parts, 4),
+                v: convoy_calls::part_at(&self.parts, 6),
+                carried: convoy_calls::part_at(&self.parts, 8),
+            },
+        }
+    }
+
+    fn band(self) -> WaitingBand
+        ensures { result ≡ band_of self.numbers self.parts }
+    {
+        WaitingBand {
+            rows: self.numbers[2],
+            stride: self.numbers[3],
+            source: convoy_calls::part_at(&self.parts, 0),
+        }
     }
 }
 
-fn band_of(numbers: &[u32; 19], parts: &[u64; 10]) -> WaitingBand
-    ensures { result ≡ band_of numbers.now parts.now }
-{
-    WaitingBand {
-        rows: numbers[2],
-        stride: numbers[3],
-        source: convoy_calls::part_at(parts, 0),
+// C gives any number for a kind: the match is all that reads it, and an enum between the two would say no more.
+impl From<PlaceNumbers> for Slot {
+    ghost use Rattle.desk_numbers.specs.Numbers.{slot_of};
+
+    ghost from_gives = { λ n slot. slot ≡ slot_of n.numbers n.customs n.parts };
+
+    fn from(n: PlaceNumbers) -> Slot {
+        match n.numbers[0] {
+            IDLE => Slot::Idle(n.frame()),
+            WAITING => Slot::Waiting(n.frame(), n.band()),
+            _ => Slot::Free,
+        }
     }
 }
 
-// C gives any number for a kind: this match is all that reads it, and an enum between the two would say no more.
-fn slot_of(numbers: &[u32; 19], custom: &[f32; 2], parts: &[u64; 10]) -> Slot
-    ensures { result ≡ slot_of numbers.now custom.now parts.now }
-{
-    match numbers[0] {
-        IDLE => Slot::Idle(frame_of(numbers, custom, parts)),
-        WAITING => Slot::Waiting(frame_of(numbers, custom, parts), band_of(numbers, parts)),
-        _ => Slot::Free,
+impl From<Slot> for PlaceNumbers {
+    ghost use Rattle.desk_numbers.specs.Numbers.{slot_numbers, slot_customs, slot_parts};
+
+    ghost from_gives = { λ slot n. (n.numbers ≡ slot_numbers slot) × (n.customs ≡ slot_customs slot) × (n.parts ≡ slot_parts slot) };
+
+    fn from(slot: Slot) -> PlaceNumbers {
+        let none = BufferPart {
+            offset: 0,
+            length: 0,
+        };
+        match slot {
+            Slot::Free => PlaceNumbers {
+                numbers: [0; 19],
+                customs: [0.0, 0.0],
+                parts: [0; 10],
+            },
+            Slot::Idle(frame) => PlaceNumbers {
+                numbers: state_numbers(IDLE, 0, 0, frame.state),
+                customs: matrix_customs(frame.state.frame.settings.matrix),
+                parts: part_numbers(none, frame.parts),
+            },
+            Slot::Waiting(frame, band) => PlaceNumbers {
+                numbers: state_numbers(WAITING, band.rows, band.stride, frame.state),
+                customs: matrix_customs(frame.state.frame.settings.matrix),
+                parts: part_numbers(band.source, frame.parts),
+            },
+        }
     }
 }
-
-#[tactic(auto, unfolding(crate::specs::Numbers::place_of))]
-fn place_of(k: usize, numbers: &[u32; 609], customs: &[f32; 64], parts: &[u64; 320]) -> Slot
-    requires { k < 32 }
-    ensures { result ≡ place_of (desk_numbers numbers.now customs.now parts.now) k }
-{
-    slot_of(
-        &of_camera(numbers, k),
-        &of_camera(customs, k),
-        &of_camera(parts, k),
-    )
-}
-
-// The desk that the numbers are.
-pub fn desk_of(numbers: &[u32; 609], customs: &[f32; 64], parts: &[u64; 320]) -> Desk
-    ensures { result ≡ desk_of (desk_numbers numbers.now customs.now parts.now) }
-{
-    Desk {
-        places: std::array::from_fn(|k| place_of(k, numbers, customs, parts)),
-        from: numbers[ASKED_FIRST] as usize,
-    }
-}
-
-// ---- and the other way round
 
 fn state_numbers(kind: u32, rows: u32, stride: u32, state: FrameState) -> [u32; 19]
     ensures { result ≡ state_numbers kind rows stride state }
@@ -134,35 +155,12 @@ fn state_numbers(kind: u32, rows: u32, stride: u32, state: FrameState) -> [u32; 
     ]
 }
 
-fn slot_numbers(slot: Slot) -> [u32; 19]
-    ensures { result ≡ slot_numbers slot }
-{
-    match slot {
-        Slot::Free => [0; 19],
-        Slot::Idle(frame) => state_numbers(IDLE, 0, 0, frame.state),
-        Slot::Waiting(frame, band) => {
-            state_numbers(WAITING, band.rows, band.stride, frame.state)
-        }
-    }
-}
-
 fn matrix_customs(matrix: YuvStandardMatrix) -> [f32; 2]
     ensures { result ≡ matrix_customs matrix }
 {
     match matrix {
         YuvStandardMatrix::Custom(kr, kb) => [kr, kb],
         _ => [0.0, 0.0],
-    }
-}
-
-fn slot_customs(slot: Slot) -> [f32; 2]
-    ensures { result ≡ slot_customs slot }
-{
-    match slot {
-        Slot::Free => [0.0, 0.0],
-        Slot::Idle(frame) | Slot::Waiting(frame, _) => {
-            matrix_customs(frame.state.frame.settings.matrix)
-        }
     }
 }
 
@@ -183,34 +181,57 @@ fn part_numbers(source: BufferPart, parts: FrameParts) -> [u64; 10]
     ]
 }
 
-fn slot_parts(slot: Slot) -> [u64; 10]
-    ensures { result ≡ slot_parts slot }
-{
-    let none = BufferPart {
-        offset: 0,
-        length: 0,
-    };
-    match slot {
-        Slot::Free => [0; 10],
-        Slot::Idle(frame) => part_numbers(none, frame.parts),
-        Slot::Waiting(frame, band) => part_numbers(band.source, frame.parts),
-    }
+// ---- the desk in the three arrays
+
+// The three arrays that are a desk, as C lends them.
+#[derive(Drop)]
+pub struct LentDesk<'a> {
+    pub numbers: &'a mut [u32; 609],
+    pub customs: &'a mut [f32; 64],
+    pub parts: &'a mut [u64; 320],
 }
 
-// Writes the place of camera c anew.
-#[tactic(auto, unfolding(crate::specs::Numbers::put_place))]
-pub fn put_place(
-    c: usize,
-    slot: Slot,
-    numbers: &mut [u32; 609],
-    customs: &mut [f32; 64],
-    parts: &mut [u64; 320],
-)
-    requires { c < 32 }
-    ensures { desk_numbers numbers.new customs.new parts.new
-        ≡ put_place (desk_numbers numbers.old customs.old parts.old) c slot }
-{
-    put_camera(numbers, c, slot_numbers(slot));
-    put_camera(customs, c, slot_customs(slot));
-    put_camera(parts, c, slot_parts(slot));
+impl LentDesk<'_> {
+    #[tactic(auto, unfolding(crate::specs::Numbers::place_of))]
+    fn place(&self, k: usize) -> Slot
+        requires { k < 32 }
+        ensures { result ≡ place_of (numbers_in self.now) k }
+    {
+        let place = PlaceNumbers {
+            numbers: of_camera(self.numbers, k),
+            customs: of_camera(self.customs, k),
+            parts: of_camera(self.parts, k),
+        };
+        place.into()
+    }
+
+    // The desk that the numbers are.
+    pub fn desk(&self) -> Desk
+        ensures { result ≡ desk_of (numbers_in self.now) }
+    {
+        Desk {
+            places: std::array::from_fn(|k| self.place(k)),
+            from: call_numbers::number_at(self.numbers, ASKED_FIRST) as usize,
+        }
+    }
+
+    // Writes the place of camera c anew.
+    #[tactic(auto, unfolding(crate::specs::Numbers::put_place))]
+    pub fn put_place(&mut self, c: usize, slot: Slot)
+        requires { c < 32 }
+        ensures { Leaves (put_place (numbers_in self.old) c slot) self.old self.new }
+    {
+        let place = PlaceNumbers::from(slot);
+        put_camera(self.numbers, c, place.numbers);
+        put_camera(self.customs, c, place.customs);
+        put_camera(self.parts, c, place.parts);
+    }
+
+    // Writes who is asked first.
+    pub fn put_asked_first(&mut self, from: usize)
+        requires { from < 32 }
+        ensures { Leaves (ask_first (numbers_in self.old) from) self.old self.new }
+    {
+        self.numbers[ASKED_FIRST] = from as u32;
+    }
 }

@@ -9,7 +9,7 @@ ghost use Rattle.desk_places.specs.Places.{are_inside, overlap_parts, overlaps_s
 use band_calls::FrameState;
 use buffer_parts::BufferPart;
 
-// Where a frame's planes and its carried row stand in the shared buffers.
+// Where a frame's planes and its carried row stand in the shared buffers. A frame of a convoy has a part of the source and no carried row.
 #[derive(Clone, Copy, Debug, PartialEq, Eq)]
 pub struct FrameParts {
     pub y: BufferPart,
@@ -18,7 +18,7 @@ pub struct FrameParts {
     pub carried: BufferPart,
 }
 
-// How long the buffers of the planes and of the carried rows are.
+// How long the buffers of the planes and of the carried rows are. `Lengths` of `yuv_error` has the source in place of the carried rows, for other rules.
 #[derive(Clone, Copy, Debug, PartialEq, Eq)]
 pub struct BufferLengths {
     pub y: usize,
@@ -42,7 +42,8 @@ pub struct WaitingBand {
     pub source: BufferPart,
 }
 
-// What stands at a camera's number: no frame, a frame with no band waiting, or a frame with one.
+// What stands at a camera's number: no frame, a frame with no band waiting, or a frame with one. Three states, none of which says that something is
+// missing: so this is no `Option`, and the functions that answer one, here and in `desk_numbers`, answer what a camera's number comes to.
 #[derive(Clone, Copy, Debug, PartialEq)]
 pub enum Slot {
     Free,

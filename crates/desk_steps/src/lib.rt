@@ -1,40 +1,26 @@
 // A step at the front desk from numbers, for callers without enums and structs (RULES 10.10): it writes the place of the camera that it served anew in the
-// three arrays that are the desk, and who is asked first.
+// three arrays that are the desk, and who is asked first. The call has C's parameters.
 #![tactic(auto)]
 
 ghost use Rattle.std.specs.Prelude.{◌≡◌, ◌∷◌};
 ghost use Rattle.desk_bands.specs.Buffers.{buffers_of};
 ghost use Rattle.desk_numbers.specs.Numbers.{desk_numbers};
+ghost use Rattle.desk_numbers.specs.Lent.{numbers_in, Leaves};
 ghost use Rattle.desk_calls.specs.Calls.{served_numbers, served_told, ServedBelow, step_left, exported_desk_step, DeskStepKept};
 
 use desk::{Desk, Served};
-
-// Where the camera stands that is asked first.
-const ASKED_FIRST: usize = 608;
+use desk_numbers::LentDesk;
 
 // Writes what a step made of the place of the camera that it served, and who is asked first.
-fn put_served(
-    desk: Desk,
-    served: Option<Served>,
-    numbers: &mut [u32; 609],
-    customs: &mut [f32; 64],
-    parts: &mut [u64; 320],
-)
+fn put_served(desk: Desk, served: Option<Served>, lent: &mut LentDesk)
     requires { ServedBelow served desk }
-    ensures { desk_numbers numbers.new customs.new parts.new
-        ≡ step_left (desk_numbers numbers.old customs.old parts.old) served desk }
+    ensures { Leaves (step_left (numbers_in lent.old) served desk) lent.old lent.new }
 {
     match served {
         None => {}
         Some(turn) => {
-            desk_numbers::put_place(
-                turn.camera,
-                desk.places[turn.camera],
-                numbers,
-                customs,
-                parts,
-            );
-            numbers[ASKED_FIRST] = desk.from as u32;
+            lent.put_place(turn.camera, desk.places[turn.camera]);
+            lent.put_asked_first(desk.from);
         }
     }
 }
@@ -78,8 +64,13 @@ pub fn call_desk_step(
         (desk_numbers numbers.new customs.new parts.new)
         (buffers_of source.now y.new u.new v.new carried.new)) }
 {
-    let mut desk = desk_numbers::desk_of(numbers, customs, parts);
+    let mut lent = LentDesk {
+        numbers,
+        customs,
+        parts,
+    };
+    let mut desk = lent.desk();
     let served = desk.step(source, y, u, v, carried);
-    put_served(desk, served, numbers, customs, parts);
+    put_served(desk, served, &mut lent);
     tell_served(served, told)
 }

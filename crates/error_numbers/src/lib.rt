@@ -55,7 +55,7 @@ impl From<YuvError> for AnswerNumbers {
     }
 }
 
-// The same as a function, for proofs that name it.
+// The same as a function, a public name of one line: what is written of it in contracts and proofs names it.
 pub fn error_numbers(e: YuvError) -> AnswerNumbers
     ensures { sized result.number result.size ≡ error_numbers e }
 {

@@ -6,31 +6,11 @@ ghost use Rattle.std.specs.Prelude.{◌≡◌, ℕ, length, take, IfSome, OnOk, 
 ghost use Rattle.std.specs.Io.KnownBytes.{Appends, Keeps};
 ghost use Rattle.frame_request.specs.Reply.{reply};
 
-use standard_streams::Stopped;
-use std::error::Error;
-use std::fmt;
+use standard_streams::{Failure, Stopped};
 use std::io::{Read, Write};
 
-// What fails beside a request that is refused.
-#[derive(Clone, Copy, Debug, PartialEq, Eq)]
-enum Failure {
-    CannotRead,
-    CannotWrite,
-}
-
-impl fmt::Display for Failure {
-    fn fmt<W: fmt::Write>(&self, f: &mut fmt::Formatter<W>) -> fmt::Result {
-        match self {
-            Failure::CannotRead => write!(f, "cannot read standard input"),
-            Failure::CannotWrite => write!(f, "cannot write standard output"),
-        }
-    }
-}
-
-impl Error for Failure {}
-
 // One byte past the largest request, 9 + 4 × 16,384 bytes. What stands further on changes no byte of the
-// reply (`reply_enough` of frame_request).
+// reply (`reply_enough` of frame_request). The program's memory is fixed, so what it reads fills part of this, and what it writes part of the output.
 fn input_buffer() -> [u8; 65546]
     ensures { 65546 ≡ length result }
 {
@@ -56,7 +36,8 @@ fn write_reply<W: Write>(writer: &mut W, input: &[u8], bytes: &[u8]) -> Result<(
 
 // Reads a request to its end, and writes the reply to it: all of it, or the start of it where a write fails. Where a read fails
 // nothing is written.
-// The program luma_counts has this over its own reply: the clauses name the reply, so one function for both needs a trait of replies.
+// The program luma_counts has this over its own reply. One function for both would take a trait of programs, with the reply as its ghost member, the three
+// clauses as its laws and two impls: longer than the two, for two programs.
 fn answer<R: Read, W: Write>(reader: &mut R, writer: &mut W) -> Result<(), Failure>
     ensures answered { OnOk result (IfSome (R.remaining reader.old) (λ input.
         Appends (W.contents writer.old) (W.contents writer.new) (reply input))) }
@@ -76,6 +57,7 @@ fn answer<R: Read, W: Write>(reader: &mut R, writer: &mut W) -> Result<(), Failu
     }
 }
 
+// The program luma_counts has such a main too, over its own `answer` and under its own name.
 fn main(rt: HostRuntime) {
     if let Err(failure) = answer(&mut rt.stdin(), &mut rt.stdout()) {
         let _ = eprintln!(rt; "frame: {failure}");

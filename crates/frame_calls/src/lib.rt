@@ -1,5 +1,6 @@
 // The frame call, the opening and the band call, and the counts of colours, from numbers, for callers without enums and structs: refusal 1 for numbers
-// without a meaning, then the call itself; and what is told of it.
+// without a meaning, then the call itself; and what is told of it. This is the interface of C: each call has the parameters that C passes, numbers beside
+// kr and kb and buffers one by one.
 #![tactic(auto)]
 
 ghost use Rattle.std.specs.Prelude.{◌≡◌, []};

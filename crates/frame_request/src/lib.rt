@@ -1,16 +1,16 @@
 // A request of the program `frame`, from its bytes to those that answer it.
 #![tactic(auto)]
 
-ghost use Rattle.std.specs.Prelude.{◌≡◌, ◌++◌, ◌+◌, ◌*◌, ◌≤◌, ◌<◌, length, take, drop, OnOk};
+ghost use Rattle.std.specs.Prelude.{◌≡◌, ◌++◌, ◌+◌, ◌*◌, ◌≤◌, ◌<◌, length, get_or};
 ghost use Rattle.definitions.specs.Painted.{Painted};
 ghost use Rattle.yuv_error.specs.Numbers.{numbers_of};
 ghost use Rattle.yuv_error.specs.Rules.{first_numbers, size_rules};
 ghost use Rattle.definitions.specs.Image.{frame_image};
 ghost use Rattle.yuv_error.specs.Lent.{taken};
-ghost use Rattle.sharp_rgba_to_yuv.specs.FrameCall.{frame_call, frame_rules};
+ghost use Rattle.sharp_rgba_to_yuv.specs.FrameCall.{frame_rules};
 ghost use Rattle.frame_request.specs.Request.{settings_of, frame_of, source_stride, luma_size, chroma_size, packed_lengths};
 ghost use Rattle.frame_request.specs.Request.{has_unknown, header_rules, area_rules, opening_rules, output_at, output_size, RequestPost};
-ghost use Rattle.frame_request.specs.Packed.{Packed, PlanesPost};
+ghost use Rattle.frame_request.specs.Packed.{Packed};
 ghost use Rattle.frame_request.specs.Reply.{refusal_line, reply, Begins};
 
 use definitions::{FrameDescription, Window, YuvSettings};
@@ -23,6 +23,13 @@ const HEADER: usize = 9;
 // The most pixels of a side, and of the frame (RULES 7.3, 9.2).
 const MOST_PIXELS: u32 = 16384;
 
+// Byte i, or 0 where the input is shorter.
+fn byte_at(input: &[u8], i: usize) -> u8
+    ensures { result ≡ get_or input.now i 0 }
+{
+    input.get(i).copied().unwrap_or(0)
+}
+
 // A u16 of two bytes.
 fn word(low: u8, high: u8) -> u32
     ensures { result ≡ low + 256 * high }
@@ -32,26 +39,24 @@ fn word(low: u8, high: u8) -> u32
 
 #[tactic(auto, unfolding(crate::specs::Request::settings_of))]
 fn settings_of(input: &[u8]) -> YuvSettings
-    requires { 9 ≤ length input.now }
     ensures { result ≡ settings_of input.now }
 {
     YuvSettings {
-        channels: setting_codes::channels_of(input[4] as u32),
-        sampling: setting_codes::sampling_of(input[5] as u32),
-        range: setting_codes::range_of(input[6] as u32),
-        matrix: setting_codes::matrix_of(input[7] as u32),
-        transfer: setting_codes::transfer_of(input[8] as u32),
+        channels: setting_codes::channels_of(byte_at(input, 4) as u32),
+        sampling: setting_codes::sampling_of(byte_at(input, 5) as u32),
+        range: setting_codes::range_of(byte_at(input, 6) as u32),
+        matrix: setting_codes::matrix_of(byte_at(input, 7) as u32),
+        transfer: setting_codes::transfer_of(byte_at(input, 8) as u32),
         rounding: TableRounding::Truncated, // the program has no code for it
     }
 }
 
 #[tactic(auto, unfolding(crate::specs::Request::frame_of))]
 fn frame_of(input: &[u8]) -> FrameDescription
-    requires { 9 ≤ length input.now }
     ensures { result ≡ frame_of input.now }
 {
-    let width = word(input[0], input[1]);
-    let height = word(input[2], input[3]);
+    let width = word(byte_at(input, 0), byte_at(input, 1));
+    let height = word(byte_at(input, 2), byte_at(input, 3));
     let chroma_width = yuv_support::chroma_width(width as usize) as u32;
     FrameDescription {
         width,
@@ -69,18 +74,20 @@ fn frame_of(input: &[u8]) -> FrameDescription
     }
 }
 
-// Whether one of the codes has no meaning.
+// Whether one of the codes has no meaning. A test of bytes, in the order of the rules, before a setting is made of any.
 fn has_unknown(input: &[u8]) -> bool
-    requires { 9 ≤ length input.now }
     ensures { result ≡ has_unknown input.now }
 {
-    input[4] >= 4 || input[5] >= 2 || input[6] >= 2 || input[7] >= 6 || input[8] >= 4
+    byte_at(input, 4) >= 4
+        || byte_at(input, 5) >= 2
+        || byte_at(input, 6) >= 2
+        || byte_at(input, 7) >= 6
+        || byte_at(input, 8) >= 4
 }
 
 #[tactic(auto, unfolding(crate::specs::Request::malformed))]
 fn check_header(input: &[u8]) -> Result<(), YuvError>
-    ensures numbers { numbers_of result ≡ first_numbers (header_rules input.now) }
-    ensures long { OnOk result (9 ≤ length input.now) }
+    ensures { numbers_of result ≡ first_numbers (header_rules input.now) }
 {
     if input.len() < HEADER || has_unknown(input) {
         return Err(YuvError::MalformedRequest);
@@ -119,7 +126,8 @@ fn source_stride(frame: FrameDescription) -> u32
     frame.width * frame.settings.channels.get_channels_count() as u32
 }
 
-// The bytes of a frame's planes without padding: of Y, and of U or V.
+// The bytes of a frame's planes without padding: of Y, and of U or V. `y4m_reader` has a type of the same name for a picture's planes, whose sides may be
+// of any size.
 #[derive(Clone, Copy, Debug, PartialEq, Eq)]
 struct PlaneSizes {
     luma: usize,
@@ -138,72 +146,28 @@ fn plane_sizes(frame: FrameDescription) -> PlaneSizes
     }
 }
 
-// Puts the first `size` bytes of a plane into the output, from byte `at` on.
-fn put(plane: &[u8], size: usize, output: &mut [u8], at: usize)
-    requires size_in_bounds { size ≤ length plane.now }
-    requires size_in_bounds_2 { at + size ≤ length output.old }
-    ensures { output.new ≡ take at output.old ++ (take size plane.now ++ drop size (drop at output.old)) }
-{
-    output[at..at + size].copy_from_slice(&plane[..size]);
-}
-
-// A chroma plane of the largest frame.
-fn plane() -> [u8; 16384]
-    ensures { 16384 ≡ length result }
-{
-    [0; 16384]
-}
-
-// The frame call, with its planes in the first bytes of three buffers.
-fn convert_planes(
-    frame: FrameDescription,
-    source: &[u8],
-    stride: u32,
-    sizes: PlaneSizes,
-    y: &mut [u8],
-    u: &mut [u8],
-    v: &mut [u8],
-) -> Result<(), YuvError>
-    requires { (sizes.luma ≤ length y.old) × (sizes.chroma ≤ length u.old) × (sizes.chroma ≤ length v.old) }
-    ensures { PlanesPost sizes (frame_call frame stride source.now y.old u.old v.old
-        result y.new u.new v.new) }
-{
-    sharp_rgba_to_yuv::rgbx_to_sharp_yuv(
-        frame,
-        source,
-        stride,
-        &mut y[..sizes.luma],
-        &mut u[..sizes.chroma],
-        &mut v[..sizes.chroma],
-    )
-}
-
-// The frame call, with Y at the start of the output and U and V after it.
+// The frame call, in the output itself: Y at its start, U behind it, and V behind that.
 fn convert_into(
     frame: FrameDescription,
     source: &[u8],
     stride: u32,
     sizes: PlaneSizes,
-    output: &mut [u8],
+    output: &mut [u8; 49152],
 ) -> Result<(), YuvError>
-    requires packed { Packed frame sizes }
-    requires in_bounds { 49152 ≤ length output.old }
+    requires { Packed frame sizes }
     ensures result_value { numbers_of result ≡ first_numbers (frame_rules frame stride (packed_lengths frame (length source.now))) }
     ensures painted { Painted (taken result (output_size frame)) (output_at frame (frame_image frame stride source.now))
         output.old output.new }
 {
-    let mut u = plane();
-    let mut v = plane();
-    convert_planes(frame, source, stride, sizes, output, &mut u, &mut v)?;
-    put(&u, sizes.chroma, output, sizes.luma);
-    put(&v, sizes.chroma, output, sizes.luma + sizes.chroma);
-    Ok(())
+    let (y, chroma) = output.split_at_mut(sizes.luma);
+    let (u, rest) = chroma.split_at_mut(sizes.chroma);
+    let v = &mut rest[..sizes.chroma];
+    sharp_rgba_to_yuv::rgbx_to_sharp_yuv(frame, source, stride, y, u, v)
 }
 
 // Answers a request that was not refused for its header or size.
-fn convert(input: &[u8], output: &mut [u8]) -> Result<usize, YuvError>
-    requires input_value { (first_numbers (opening_rules input.now)).number ≡ 0 }
-    requires in_bounds { 49152 ≤ length output.old }
+fn convert(input: &[u8], output: &mut [u8; 49152]) -> Result<usize, YuvError>
+    requires { (first_numbers (opening_rules input.now)).number ≡ 0 }
     ensures { RequestPost input.now output.old result output.new }
 {
     let frame = frame_of(input);
@@ -213,19 +177,12 @@ fn convert(input: &[u8], output: &mut [u8]) -> Result<usize, YuvError>
     Ok(sizes.luma + 2 * sizes.chroma)
 }
 
-fn answer_into(input: &[u8], output: &mut [u8]) -> Result<usize, YuvError>
-    requires { 49152 ≤ length output.old }
-    ensures { RequestPost input.now output.old result output.new }
-{
-    check_request(input)?;
-    convert(input, output)
-}
-
 // Answers a request: its planes in the first bytes of the output, so many, or a refusal and no byte written.
 pub fn answer_request(input: &[u8], output: &mut [u8; 49152]) -> Result<usize, YuvError>
     ensures { RequestPost input.now output.old result output.new }
 {
-    answer_into(input, output)
+    check_request(input)?;
+    convert(input, output)
 }
 
 // A digit in ASCII.
@@ -236,31 +193,21 @@ fn digit(value: u32) -> u8
     b'0' + value as u8
 }
 
-// Puts the line of a refusal at the start of the output, and answers how many bytes it has.
-fn put_refusal(number: u32, output: &mut [u8]) -> usize
-    requires number_bound { number < 100 }
-    requires in_bounds { 49152 ≤ length output.old }
+// Puts the line of a refusal at the start of the output, and answers how many bytes it has. By hand, as std's writer into a slice does not say which bytes
+// it leaves.
+fn put_refusal(number: u32, output: &mut [u8; 49152]) -> usize
+    requires { number < 100 }
     ensures { Begins (refusal_line number) output.old result output.new }
 {
-    put(b"refused ", 8, output, 0);
+    output[..8].copy_from_slice(b"refused ");
     if number < 10 {
         let end = [digit(number), b'\n'];
-        put(&end, 2, output, 8);
+        output[8..10].copy_from_slice(&end);
         return 10;
     }
     let end = [digit(number / 10), digit(number % 10), b'\n'];
-    put(&end, 3, output, 8);
+    output[8..11].copy_from_slice(&end);
     11
-}
-
-fn reply_into(input: &[u8], output: &mut [u8]) -> usize
-    requires { 49152 ≤ length output.old }
-    ensures { Begins (reply input.now) output.old result output.new }
-{
-    match answer_into(input, output) {
-        Ok(bytes) => bytes,
-        Err(e) => put_refusal(error_numbers::error_numbers(e).number, output),
-    }
 }
 
 // Puts all that the program writes for an input at the start of the output: the planes, or the line of the refusal. Answers how
@@ -268,5 +215,8 @@ fn reply_into(input: &[u8], output: &mut [u8]) -> usize
 pub fn reply_to(input: &[u8], output: &mut [u8; 49152]) -> usize
     ensures { Begins (reply input.now) output.old result output.new }
 {
-    reply_into(input, output)
+    match answer_request(input, output) {
+        Ok(bytes) => bytes,
+        Err(e) => put_refusal(error_numbers::error_numbers(e).number, output),
+    }
 }

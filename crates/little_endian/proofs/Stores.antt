@@ -5,8 +5,8 @@ use mathlib.Core.Path.{◌≡◌, refl, sym, ap, ◌∙◌}
 use mathlib.Core.List.{List, [], ◌∷◌, ◌++◌, append_assoc, append-nil}
 use native.Mathlib.Nat.{zero-add, add-zero, add-suc, suc-add, div-one, div-div-eq-div-mul, pow-suc, pow-succ'}
 use native.Mathlib.Omega.{arith}
-use lib.ListN.{length, take, set, replicate, length-replicate}
-use lib.Seq.{sets, sets-eq, length-sets, drop-drop}
+use lib.ListN.{length, take, drop, set, replicate, length-replicate, length-drop, take-append-drop}
+use lib.Seq.{sets, sets-eq, length-sets, drop-drop, drop-append-le, length-take-le}
 use borrow.Rule.Slice.PartMut.{put_mid}
 use Rattle.std.specs.Int.{byte_at, bytes_low_first}
 use Rattle.little_endian.specs.Number.{low_bytes}
@@ -20,6 +20,21 @@ sets-append (x ∷ s) t d p = rw (add-suc, ← suc-add) (sets-append s t (set d 
 -- a run copied over a part
 pub put_sets : {X : Type 0} (d s : List X) (at k : ℕ) → at + length s ≤ length d → k ≡ length s → put_mid at k d s ≡ sets d at s
 put_sets d s at k h e = rw (e, drop-drop, ← append_assoc) (sym (sets-eq s d at h))
+
+-- what is behind the first n elements, in a front part and past it
+part_rest : {X : Type 0} (l : List X) (n k : ℕ) → n ≤ k → k ≤ length l → drop n (take k l) ++ drop k l ≡ drop n l
+part_rest l n k h m =
+    sym (drop-append-le n (take k l) (drop k l) (omega (arith, length-take-le k l m))) ∙ ap (drop n) (take-append-drop k l)
+
+-- a run stored at the front of a part
+pub sets_part : {X : Type 0} (d s : List X) (at k : ℕ) → at + k ≤ length d → length s ≤ k → put_mid at k d (sets (take k (drop at d)) 0 s) ≡ sets d at s
+sets_part d s at k h m =
+    let long : k ≤ length (drop at d) = rw length-drop (omega arith) in
+    let front : sets (take k (drop at d)) 0 s ≡ s ++ drop (length s) (take k (drop at d)) =
+    sets-eq s (take k (drop at d)) 0 (rw (zero-add (length s), length-take-le k (drop at d) long) m) ∙ rw (zero-add (length s)) in
+    let rest : drop (length s) (take k (drop at d)) ++ drop k (drop at d) ≡ drop (at + length s) d =
+    part_rest (drop at d) (length s) k m long ∙ drop-drop (length s) at d in
+    rw (front, append_assoc, rest, ← append_assoc) (sym (sets-eq s d at (omega arith)))
 
 -- ---- a number's eight bytes, and 0 past them
 

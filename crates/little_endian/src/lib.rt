@@ -13,6 +13,7 @@ pub fn array_at<const N: usize>(bytes: &[u8], at: usize) -> [u8; N]
     <[u8; N]>::try_from(&bytes[at..at + N]).unwrap()
 }
 
+// A number of two, four or eight bytes: public names, a line each over the type's own `from_le_bytes`.
 #[tactic(auto, unfolding(crate::specs::Number::number_in))]
 pub fn read_u16(bytes: &[u8], at: usize) -> u16
     requires { at + 2 ≤ length bytes.now }
@@ -37,12 +38,15 @@ pub fn read_u64(bytes: &[u8], at: usize) -> u64
     u64::from_le_bytes(array_at(bytes, at))
 }
 
-// Writes a run of items from a place on.
+// Writes a run of items from a place on. By a loop: of std's `copy_from_slice` the library would ask libc for memmove, where this is memcpy.
+// The place is a parameter here and in `write_number`: which items of the output change is what they say.
 pub fn put<T: Copy>(output: &mut [T], at: usize, items: &[T])
     requires { at + length items.now ≤ length output.old }
     ensures { output.new ≡ sets output.old at items.now }
 {
-    output[at..at + items.len()].copy_from_slice(items);
+    for (i, &item) in items.iter().enumerate() {
+        output[at + i] = item;
+    }
 }
 
 // Writes the `size` low bytes of a number; past its eight bytes stands 0.

@@ -6,30 +6,10 @@ ghost use Rattle.std.specs.Prelude.{◌≡◌, ℕ, length, take, IfSome, OnOk, 
 ghost use Rattle.std.specs.Io.KnownBytes.{Appends, Keeps};
 ghost use Rattle.counts_request.specs.Reply.{reply};
 
-use standard_streams::Stopped;
-use std::error::Error;
-use std::fmt;
+use standard_streams::{Failure, Stopped};
 use std::io::{Read, Write};
 
-// What fails beside a request that is refused.
-#[derive(Clone, Copy, Debug, PartialEq, Eq)]
-enum Failure {
-    CannotRead,
-    CannotWrite,
-}
-
-impl fmt::Display for Failure {
-    fn fmt<W: fmt::Write>(&self, f: &mut fmt::Formatter<W>) -> fmt::Result {
-        match self {
-            Failure::CannotRead => write!(f, "cannot read standard input"),
-            Failure::CannotWrite => write!(f, "cannot write standard output"),
-        }
-    }
-}
-
-impl Error for Failure {}
-
-// The largest output: 256 lines of 3 digits, a space, 8 digits and a newline.
+// The largest output: 256 lines of 3 digits, a space, 8 digits and a newline. The program's memory is fixed, so what it writes fills part of this.
 fn output_buffer() -> [u8; 3328]
     ensures { 3328 ≡ length result }
 {
@@ -48,7 +28,8 @@ fn write_reply<W: Write>(writer: &mut W, input: &[u8], bytes: &[u8]) -> Result<(
 
 // Reads a request to its end, and writes the reply to it: all of it, or the start of it where a write fails. Where a read fails
 // nothing is written.
-// The program frame has this over its own reply: the clauses name the reply, so one function for both needs a trait of replies.
+// The program frame has this over its own reply. One function for both would take a trait of programs, with the reply as its ghost member, the three
+// clauses as its laws and two impls: longer than the two, for two programs.
 fn answer<R: Read, W: Write>(reader: &mut R, writer: &mut W) -> Result<(), Failure>
     ensures answered { OnOk result (IfSome (R.remaining reader.old) (λ input.
         Appends (W.contents writer.old) (W.contents writer.new) (reply input))) }
@@ -68,6 +49,7 @@ fn answer<R: Read, W: Write>(reader: &mut R, writer: &mut W) -> Result<(), Failu
     }
 }
 
+// The program frame has such a main too, over its own `answer` and under its own name.
 fn main(rt: HostRuntime) {
     if let Err(failure) = answer(&mut rt.stdin(), &mut rt.stdout()) {
         let _ = eprintln!(rt; "luma_counts: {failure}");

@@ -9,18 +9,7 @@ fn sum_bytes(luma: &[u8]) -> u64
     requires { length luma.now ≤ 16384 * 16384 }
     ensures { (result ≡ sum luma.now) × (result ≤ 255 * length luma.now) }
 {
-    let mut total = 0;
-    for &byte in luma {
-        total += u64::from(byte);
-    }
-    total
-}
-
-fn rounded_down(total: u64, count: u64) -> u64
-    requires { (1 ≤ count) × (total ≤ 255 * count) }
-    ensures { result ≡ total / count }
-{
-    total / count
+    luma.iter().map(|&byte| u64::from(byte)).sum()
 }
 
 // The mean of a plane's bytes, rounded down.
@@ -28,5 +17,6 @@ pub fn mean_luma(luma: &[u8]) -> u8
     requires { (1 ≤ length luma.now) × (length luma.now ≤ 16384 * 16384) }
     ensures { result ≡ sum luma.now / length luma.now }
 {
-    rounded_down(sum_bytes(luma), luma.len() as u64) as u8
+    let total = sum_bytes(luma);
+    (total / luma.len() as u64) as u8
 }

@@ -1,15 +1,14 @@
 -- What a row function owes to `pair` and `put_luma`, and what it gets of them; and one block more of what is begun.
 -- Assumes nothing.
 use mathlib.Core.Path.{◌≡◌, refl, ◌∙◌}
-use mathlib.Core.Bool.{true}
 use mathlib.Core.List.{List}
 use Prim.Native.Nat.{ℕ, ◌+◌, ◌*◌, ◌-◌, ◌<◌, min}
 use native.Mathlib.Omega.{arith}
 use lib.ListN.{length, set, length-set}
-use Rattle.yuv_support.specs.Matrix.{accepted}
+use Rattle.forward_transform.specs.Shape.{Shape}
 use Rattle.sharp_gamma.specs.Entry.{TableOf}
 use Rattle.definitions.specs.declared.FrameDescription.{FrameDescription}
-use Rattle.definitions.specs.Pixel.{cb_of, cr_of}
+use Rattle.definitions.specs.Pixel.{weights_of, cb_of, cr_of}
 use Rattle.definitions.specs.Row.{Pixels, gamma_of, of_colour, luma_row, cb_row, cr_row, input420, input422}
 use Rattle.definitions.specs.Image.{chroma_size}
 use Rattle.pixel_pairs.specs.declared.tables.Conversion.{Conversion}
@@ -17,39 +16,31 @@ use Rattle.pixel_pairs.specs.declared.Sums.{Sums}
 use Rattle.pixel_pairs.specs.declared.Bytes.{Bytes}
 use Rattle.pixel_pairs.specs.declared.Block.{Block}
 use Rattle.pixel_pairs.specs.Weights.{conversion_of}
-use Rattle.pixel_pairs.specs.Tables.{SumTables, Summed, Prepared}
-use Rattle.pixel_pairs.specs.Pixels.{Paired, total, left_luma, right_luma, first_three, byte_at, sixteenths_of, quarters_of, corrected_by, Over}
+use Rattle.pixel_pairs.specs.Tables.{SumTables, Summed}
+use Rattle.pixel_pairs.specs.Pixels.{Paired, Light, total, left_luma, right_luma, first_three, byte_at, sixteenths_of, quarters_of, corrected_by, Over}
 use Rattle.pixel_pairs.specs.Pixels.{Linears, ColourAt}
-use Rattle.pixel_pairs.specs.Rows.{lumas, inputs420, inputs422, RowOf, InRow, ChromaRoom, Rows420, Row422, Lent420, Lent422, put_pair}
+use Rattle.pixel_pairs.specs.Rows.{lumas, inputs420, inputs422, RowOf, InRow, ChromaRoom, Rows420, Row422, put_pair}
 use Rattle.pixel_pairs.specs.Rows.{put_block422, block_at}
-use Rattle.pixel_pairs.specs.Rows.{LumaWritten, LumasPainted, LumasWritten, Lumas422, ChromaPainted, ChromaWritten}
+use Rattle.pixel_pairs.specs.Rows.{LumaWritten, LumasPainted, LumasWritten, Lumas422, ChromaWritten}
 use Rattle.pixel_pairs.specs.Rows.{LumaMore, ChromaMore, Begun, Begun420, Begun422, Stepped}
-use Rattle.definitions.proofs.Painted.{Painted-none, Painted-more}
-use Rattle.pixel_pairs.proofs.TwoRows.{two_none, two_to, two_pairs, Painted-to, Painted-pair, length_as}
-use Rattle.pixel_pairs.proofs.Weights.{shape_of, colour_same, three_same, colour_read}
-use Rattle.pixel_pairs.proofs.TableSums.{in_row, total_fits, lumas_are, over, linears420, mixed420, linears422, mixed422}
+use Rattle.definitions.proofs.Painted.{Painted-more}
+use Rattle.pixel_pairs.proofs.TwoRows.{two_to, two_pairs, Painted-to, Painted-pair, length_as}
+use Rattle.pixel_pairs.proofs.Weights.{shaped, shape_of, colour_same, three_same, colour_read}
+use Rattle.pixel_pairs.proofs.TableSums.{in_row, light, total_fits, lumas_are, over, linears420, mixed420, linears422, mixed422}
 
--- what a call has worked out, as its rows ask for it
-pub prepared : (d : FrameDescription) {rows : Conversion} {sums gamma : List ℕ} → accepted d.settings.matrix ≡ true → rows ≡ conversion_of d
-    → SumTables d.settings sums → TableOf 65536 (gamma_of d.settings) gamma → Prepared rows sums gamma
-prepared d matrix e tables corrects =
-    rw e (record {
-      summed = record {
-        converts = record {
-          cb = refl;
-          cr = refl;
-          matrix = matrix;
-        };
-        tables = tables;
-      };
-      corrects = corrects;
-    })
+-- the tables of a frame, as its luma asks for them
+pub summed_of : (d : FrameDescription) {rows : Conversion} {sums : List ℕ} → Shape d.settings.range (weights_of d.settings) → rows ≡ conversion_of d
+    → SumTables d.settings sums → Summed rows sums
+summed_of d shape e tables = rw e (record { converts = record { cb = refl; cr = refl; shape = shaped shape }; tables = tables })
 
 pub pair_inside : {d : FrameDescription} {count : ℕ} {row : List ℕ} → RowOf d count row → (x next : ℕ) → x < d.width → next < d.width
     → (x * count + 2 < length row) × (next * count + 2 < length row)
 pair_inside r x next hx hn = (in_row r x hx, in_row r next hn)
 
 module _ {rows : Conversion} {sums : List ℕ} (summed : Summed rows sums) where
+  pub light_ready : Light sums
+  light_ready = light rows.frame.settings (shape_of summed.converts) summed.tables
+
   module _ (row : Pixels) (x next : ℕ) {t : Sums} (q : Paired sums (row x) (row next) t) where
     pub fits_ready : total t < 18446744073709551616
     fits_ready = total_fits rows.frame.settings (shape_of summed.converts) summed.tables q
@@ -60,34 +51,31 @@ module _ {rows : Conversion} {sums : List ℕ} (summed : Summed rows sums) where
 
 -- ---- chroma
 
-module _ {rows : Conversion} {sums gamma : List ℕ} (p : Prepared rows sums gamma) (j next : ℕ) (inside : 2 * j < rows.frame.width)
-    (is : next ≡ min (2 * j + 1) (rows.frame.width - 1)) where
+module _ {rows : Conversion} {sums gamma : List ℕ} (summed : Summed rows sums) (corrects : TableOf 65536 (gamma_of rows.frame.settings) gamma)
+    (j next : ℕ) (inside : 2 * j < rows.frame.width) (is : next ≡ min (2 * j + 1) (rows.frame.width - 1)) where
   -- of a pair over another
   module _ (row below : Pixels) {a b : Sums} (q : Paired sums (row (2 * j)) (row next) a) (r : Paired sums (below (2 * j)) (below next) b) where
     pub Over-ready : Over a b
-    Over-ready = over rows.frame (shape_of p.summed.converts) p.summed.tables p.corrects j next inside is row below q r
+    Over-ready = over rows.frame (shape_of summed.converts) summed.tables corrects j next inside is row below q r
 
     pub linears420_ready : {l : Sums} → l ≡ sixteenths_of a b → Linears l
-    linears420_ready e = rw e (linears420 rows.frame (shape_of p.summed.converts) p.summed.tables p.corrects j next inside is row below q r)
+    linears420_ready e = rw e (linears420 rows.frame (shape_of summed.converts) summed.tables corrects j next inside is row below q r)
 
     pub colour420_is : {l : Sums} {c : Bytes} → l ≡ sixteenths_of a b → c ≡ first_three (corrected_by gamma l)
         → c ≡ first_three (input420 rows.frame row below j)
     colour420_is e f =
-        rw e at f ∙ three_same (mixed420 rows.frame (shape_of p.summed.converts) p.summed.tables p.corrects j next inside is row below q r)
+        rw e at f ∙ three_same (mixed420 rows.frame (shape_of summed.converts) summed.tables corrects j next inside is row below q r)
 
   -- of a pair alone
   module _ (row : Pixels) {a : Sums} (q : Paired sums (row (2 * j)) (row next) a) (right : next ≡ 2 * j + 1) where
     pub linears422_ready : {l : Sums} → l ≡ quarters_of a → Linears l
-    linears422_ready e = rw e (linears422 rows.frame (shape_of p.summed.converts) p.summed.tables p.corrects j next inside is row q right)
+    linears422_ready e = rw e (linears422 rows.frame (shape_of summed.converts) summed.tables corrects j next inside is row q right)
 
     pub colour422_is : {l : Sums} {c : Bytes} → l ≡ quarters_of a → c ≡ first_three (corrected_by gamma l) → c ≡ first_three (input422 rows.frame row j)
     colour422_is e f =
-        rw e at f ∙ three_same (mixed422 rows.frame (shape_of p.summed.converts) p.summed.tables p.corrects j next inside is row q right)
+        rw e at f ∙ three_same (mixed422 rows.frame (shape_of summed.converts) summed.tables corrects j next inside is row q right)
 
 -- ---- chroma rows
-
-pub chroma_none : (d : FrameDescription) (input : ℕ → ℕ → ℕ) (u v : List ℕ) → ChromaPainted d input 0 u v u v
-chroma_none d input u v = record { cb = Painted-none (cb_row d input) u; cr = Painted-none (cr_row d input) v }
 
 -- a byte more of each
 pub chroma_more : (d : FrameDescription) (b : Bytes) (j : ℕ) {u v : List ℕ} {cb cr : ℕ} → j < length u → j < length v
@@ -173,19 +161,9 @@ pub four_InRow : (d : FrameDescription) (j : ℕ) → 2 * j + 3 < d.width
     → InRow d (record { j = j; next = 2 * j + 1 }) × InRow d (record { j = j + 1; next = 2 * (j + 1) + 1 })
 four_InRow d j h = (record { inside = omega arith; next = omega arith }, record { inside = omega arith; next = omega arith })
 
-module _ (d : FrameDescription) (count : ℕ) where
-  pub Begun420-none : (this below y u v : List ℕ) → Begun420 d count this below 0 y u v y u v
-  Begun420-none this below y u v = record { luma = two_to (omega arith) (two_none _ _ _ _ _); chroma = chroma_none _ _ _ _ }
-
-  pub Begun422-none : (this y u v : List ℕ) → Begun422 d count this 0 y u v y u v
-  Begun422-none this y u v = record { luma = Painted-to (omega arith) (Painted-none _ _); chroma = chroma_none _ _ _ _ }
-
 module _ (L : ℕ → List ℕ → List ℕ → Type 0) (d : FrameDescription) (input : ℕ → ℕ → ℕ) where
   pub begun_to : {i j : ℕ} {y₀ u₀ v₀ y u v : List ℕ} → i ≡ j → Begun L d input i y₀ u₀ v₀ y u v → Begun L d input j y₀ u₀ v₀ y u v
   begun_to e p = rw e at p
-
-  pub Stepped-none : (i : ℕ) (y u v : List ℕ) → Stepped (Begun L d input) i i y u v y u v
-  Stepped-none i y u v = record { in_y = refl; in_u = refl; in_v = refl; further = λ _ _ _ p. p }
 
   module _ {Is : (ℕ → ℕ → ℕ) → Type 0} {j k : ℕ} {y u v y' u' v' : List ℕ} (luma : LumaMore L d j k y y') (chroma : ChromaMore d Is j k u v u' v')
       (is : Is input) where
@@ -200,18 +178,8 @@ module _ (L : ℕ → List ℕ → List ℕ → Type 0) (d : FrameDescription) (
       further = λ _ _ _ p. begun_more (s.further _ _ _ p);
     }
 
--- ---- what is lent
+-- ---- all of it
 
--- room stays room
-module _ {d : FrameDescription} {count : ℕ} {this : List ℕ} (y₀ u₀ v₀ : List ℕ) {y u v : List ℕ} (in_y : length y ≡ length y₀) (in_u : length u ≡ length u₀)
-    (in_v : length v ≡ length v₀) where
-  pub Lent420-kept : {below : List ℕ} → Lent420 d count this below y₀ u₀ v₀ → Lent420 d count this below y u v
-  Lent420-kept p = record { rows = rows_room y₀ in_y p.rows; chroma = chroma_room u₀ v₀ in_u in_v p.chroma }
-
-  pub Lent422-kept : Lent422 d count this y₀ u₀ v₀ → Lent422 d count this y u v
-  Lent422-kept p = record { row = row_room y₀ in_y p.row; chroma = chroma_room u₀ v₀ in_u in_v p.chroma }
-
--- all of it
 module _ {d : FrameDescription} {y u v y' u' v' : List ℕ} where
   pub written420 : (count : ℕ) (this below : List ℕ) → Begun420 d count this below (chroma_size d) y u v y' u' v'
       → LumasWritten d count this below y y' × ChromaWritten d (inputs420 d count this below) u v u' v'

@@ -16,7 +16,7 @@ use Rattle.definitions.specs.Pixel.{weights_of, luma_of}
 use Rattle.definitions.specs.Row.{Pixels, linear, gamma_of, corrected, of_colour, input420, input422}
 use Rattle.pixel_pairs.specs.declared.Sums.{Sums}
 use Rattle.pixel_pairs.specs.Tables.{luma_part, Places, SumTables, left_entry, right_entry}
-use Rattle.pixel_pairs.specs.Pixels.{AreBytes, sum_at, entries_at, Paired, total, left_luma, right_luma, sixteenths_of, quarters_of, corrected_by, Over}
+use Rattle.pixel_pairs.specs.Pixels.{AreBytes, sum_at, entries_at, Paired, Light, total, left_luma, right_luma, sixteenths_of, quarters_of, corrected_by, Over}
 use Rattle.pixel_pairs.specs.Pixels.{Linears}
 use Rattle.pixel_pairs.specs.Rows.{TwoPainted, RowOf}
 use Rattle.definitions.proofs.Painted.{by_place}
@@ -82,7 +82,7 @@ module _ (s : YuvSettings) (p : Shape s.range (weights_of s)) where
     right_light i x h l = omega (arith, tables.right i x h l, linear_entry-le s.transfer s.rounding x, part_small {f = λ _. x} (λ _ _. l) i h)
 
     -- two entries do not wrap
-    pub light : (k : ℕ) → k < 1536 → get_or sums k 0 < 9223372036854775808
+    pub light : Light sums
     light k h =
         by_place k 768
         (λ l. let e : 256 * (k / 256) + k % 256 ≡ k = omega arith in rw e at (left_light (k / 256) (k % 256) (omega arith) (omega arith)))

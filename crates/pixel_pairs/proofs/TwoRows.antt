@@ -11,10 +11,6 @@ use Rattle.definitions.specs.Painted.{Painted}
 use Rattle.pixel_pairs.specs.Rows.{TwoPainted, put_pair}
 use Rattle.definitions.proofs.Painted.{by_place, Painted-more}
 
-pub two_none : (upper lower : ℕ) (f g : ℕ → ℕ) (d : List ℕ) → TwoPainted upper lower 0 f g d d
-two_none upper lower f g d =
-    record { size = refl; in_upper = λ k h. absurd (omega arith); in_lower = λ k h. absurd (omega arith); other = λ p _ _. refl }
-
 -- a byte more of each
 pub two_more : {upper lower n : ℕ} {f g : ℕ → ℕ} {d e : List ℕ} (a b : ℕ) → upper + n < lower → lower + n < length e → a ≡ f n → b ≡ g n
     → TwoPainted upper lower n f g d e
@@ -56,9 +52,6 @@ Painted-to {f = f} {d = d} {e = e} h p = subst (λ (n : ℕ). Painted n f d e) h
 -- a byte that is written twice
 set_twice : (l : List ℕ) (i v : ℕ) → i < length l → set (set l i v) i v ≡ set l i v
 set_twice l i v h = ap (λ (x : ℕ). set (set l i v) i x) (sym (get_or-set_same l i v 0 h)) ∙ set-get_or (set l i v) i 0
-
-pub length_pair : (start x next : ℕ) (f : ℕ → ℕ) (y : List ℕ) → length (put_pair start x next f y) ≡ length y
-length_pair start x next f y = length-set (set y (start + x) (f x)) (start + next) (f next) ∙ length-set y (start + x) (f x)
 
 pub length_as : (y : List ℕ) {y' l : List ℕ} → y' ≡ l → length l ≡ length y → length y' ≡ length y
 length_as y e h = ap length e ∙ h

@@ -5,8 +5,7 @@
 use mathlib.Core.Path.{◌≡◌, refl, sym, ap, ◌∙◌}
 use Prim.Native.Nat.{ℕ, zero, suc, ◌+◌, ◌*◌, ◌/◌, ◌≤◌, ◌<◌}
 use native.Mathlib.Omega.{arith}
-use mathlib.Core.Bool.{Bool, true, false}
-use lib.Dec.{T, lit<, lit≤}
+use lib.Dec.{lit<, lit≤}
 use lib.IntN.{ℤ, pos, neg_ℤ, nat_abs, ◌+ℤ◌, ◌*ℤ◌, +ℤ_assoc, +ℤ_comm}
 use Rattle.yuv_support.specs.declared.YuvSourceChannels.{YuvSourceChannels}
 use Rattle.yuv_support.specs.declared.YuvSourceChannels.TheVariants.{Rgb, Rgba, Bgra, Bgr}
@@ -18,13 +17,12 @@ use Rattle.forward_transform.specs.declared.CbCrForwardTransform.{CbCrForwardTra
 use Rattle.forward_transform.specs.Shape.{Shape, luma_most, chroma_top}
 use Rattle.forward_transform.proofs.Signed.{size_neg}
 use Rattle.forward_transform.proofs.Sums.{Floored, luma_sum, cb_sum, cr_sum, luma_bias}
-use Rattle.built_coefficients.proofs.Shapes.{forward_Shape}
 use Rattle.definitions.specs.declared.YuvSettings.{YuvSettings}
 use Rattle.definitions.specs.Pixel.{floor_div, weigh, held_between, weights_of, bias_y, cap_uv, luma_of, cb_of, cr_of}
 use Rattle.definitions.specs.Row.{of_colour}
 use Rattle.definitions.proofs.Pixel.{at_most_is, held_is}
 use Rattle.pixel_pairs.specs.declared.tables.Conversion.{Conversion}
-use Rattle.pixel_pairs.specs.Weights.{by_place, cb_weights, cr_weights, Converts, InByte, ByteWeights}
+use Rattle.pixel_pairs.specs.Weights.{by_place, cb_weights, cr_weights, Shaped, Converts, InByte, ByteWeights}
 use Rattle.pixel_pairs.specs.Tables.{part_of, luma_part}
 use Rattle.pixel_pairs.specs.declared.Bytes.{Bytes}
 use Rattle.pixel_pairs.specs.Pixels.{AreBytes, first_three, byte_at}
@@ -90,14 +88,63 @@ parts_placed Rgba wr wg wb start f = omega arith
 parts_placed Bgra wr wg wb start f = omega arith
 parts_placed Bgr wr wg wb start f = omega arith
 
--- ---- the weights of an accepted matrix
+-- ---- a shape, with its numbers and without
 
-pub true_of : (b : Bool) → T b → b ≡ true
-true_of true h = refl
-true_of false h = absurd h
+pub shaped : {range : YuvRange} {t : CbCrForwardTransform ℤ} → Shape range t → Shaped range t
+shaped s =
+    let yr = ap nat_abs s.yr in
+    let yg = ap nat_abs s.yg in
+    let yb = ap nat_abs s.yb in
+    let cb_r = ap nat_abs s.cb_r ∙ size_neg s.cb_r_size in
+    let cb_g = ap nat_abs s.cb_g ∙ size_neg s.cb_g_size in
+    let cr_g = ap nat_abs s.cr_g ∙ size_neg s.cr_g_size in
+    let cr_b = ap nat_abs s.cr_b ∙ size_neg s.cr_b_size in
+    record {
+      yr = s.yr ∙ ap pos (sym yr);
+      yg = s.yg ∙ ap pos (sym yg);
+      yb = s.yb ∙ ap pos (sym yb);
+      cb_r = s.cb_r ∙ ap (λ n. neg_ℤ (pos n)) (sym cb_r);
+      cb_g = s.cb_g ∙ ap (λ n. neg_ℤ (pos n)) (sym cb_g);
+      cb_b = s.cb_b;
+      cr_r = s.cr_r;
+      cr_g = s.cr_g ∙ ap (λ n. neg_ℤ (pos n)) (sym cr_g);
+      cr_b = s.cr_b ∙ ap (λ n. neg_ℤ (pos n)) (sym cr_b);
+      luma_least_lem = omega (arith, yr, yg, yb, s.luma_least_lem);
+      luma_most_lem = omega (arith, yr, yg, yb, s.luma_most_lem);
+      cb_least = omega (arith, cb_r, cb_g, s.cb_least);
+      cb_most = omega (arith, cb_r, cb_g, s.cb_most);
+      cr_least = omega (arith, cr_g, cr_b, s.cr_least);
+      cr_most = omega (arith, cr_g, cr_b, s.cr_most);
+    }
 
 pub shape_of : {rows : Conversion} → Converts rows → Shape rows.frame.settings.range (weights_of rows.frame.settings)
-shape_of {rows} c = forward_Shape rows.frame.settings.range rows.frame.settings.matrix (rw c.matrix tt)
+shape_of {rows} c =
+    let s = c.shape in
+    let t = weights_of rows.frame.settings in
+    record {
+      luma_r = nat_abs t.yr;
+      luma_g = nat_abs t.yg;
+      luma_b = nat_abs t.yb;
+      cb_r_size = nat_abs t.cb_r;
+      cb_g_size = nat_abs t.cb_g;
+      cr_g_size = nat_abs t.cr_g;
+      cr_b_size = nat_abs t.cr_b;
+      yr = s.yr;
+      yg = s.yg;
+      yb = s.yb;
+      cb_r = s.cb_r;
+      cb_g = s.cb_g;
+      cb_b = s.cb_b;
+      cr_r = s.cr_r;
+      cr_g = s.cr_g;
+      cr_b = s.cr_b;
+      luma_least_lem = s.luma_least_lem;
+      luma_most_lem = s.luma_most_lem;
+      cb_least = s.cb_least;
+      cb_most = s.cb_most;
+      cr_least = s.cr_least;
+      cr_most = s.cr_most;
+    }
 
 -- ---- small weights
 

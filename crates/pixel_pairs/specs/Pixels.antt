@@ -36,6 +36,10 @@ pub record Paired (sums : List ℕ) (f g : ℕ → ℕ) (s : Sums) : Type 0 wher
   pub e1 : s.e1 ≡ entries_at sums f g 1
   pub e2 : s.e2 ≡ entries_at sums f g 2
 
+-- entries of which two do not wrap
+abbrev pub Light : List ℕ → Type 0
+Light sums = (k : ℕ) → k < 1536 → get_or sums k 0 < 9223372036854775808
+
 -- the three sums of a pair, added: the left pixel's luma in 21 bits, then the right one's
 abbrev pub total : Sums → ℕ
 total s = s.e0 + s.e1 + s.e2

@@ -1,10 +1,9 @@
 -- The tables of sums, which are made once a call and lent to its rows. This serves contracts: no meaning stands here.
 -- Assumes nothing.
 use Rattle.std.specs.Prelude.{◌≡◌, List, ℕ, zero, suc, ◌+◌, ◌*◌, ◌<◌, nat_abs, length, get_or}
-use Rattle.sharp_gamma.specs.Entry.{TableOf}
 use Rattle.definitions.specs.declared.YuvSettings.{YuvSettings}
 use Rattle.definitions.specs.Pixel.{bias_y}
-use Rattle.definitions.specs.Row.{linear, gamma_of}
+use Rattle.definitions.specs.Row.{linear}
 use Rattle.pixel_pairs.specs.declared.tables.Conversion.{Conversion}
 use Rattle.pixel_pairs.specs.declared.tables.Weights.{Weights}
 use Rattle.pixel_pairs.specs.Weights.{luma_weights, Converts}
@@ -35,11 +34,7 @@ pub record Places (n : ℕ) (s : YuvSettings) (sums : List ℕ) : Type 0 where
 abbrev pub SumTables : YuvSettings → List ℕ → Type 0
 SumTables s sums = Places 3 s sums
 
--- what is worked out once a call: all that luma needs, and all that chroma needs
+-- what is worked out once a call for luma: the conversion is the frame's, and so are the tables of sums
 pub record Summed (rows : Conversion) (sums : List ℕ) : Type 0 where
   pub converts : Converts rows
   pub tables : SumTables rows.frame.settings sums
-
-pub record Prepared (rows : Conversion) (sums gamma : List ℕ) : Type 0 where
-  pub summed : Summed rows sums
-  pub corrects : TableOf 65536 (gamma_of rows.frame.settings) gamma

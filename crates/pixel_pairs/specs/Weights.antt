@@ -1,11 +1,11 @@
 -- The weights of a pixel's bytes. This serves contracts: no meaning stands here.
 -- Assumes nothing.
-use Rattle.std.specs.Prelude.{◌≡◌, true, ℕ, ◌≤◌, ◌<◌, ℤ, pos, nat_abs}
+use Rattle.std.specs.Prelude.{◌≡◌, ℕ, ◌+◌, ◌≤◌, ◌<◌, ℤ, pos, neg_ℤ, nat_abs}
 use Rattle.yuv_support.specs.declared.YuvSourceChannels.{YuvSourceChannels}
 use Rattle.yuv_support.specs.declared.YuvSourceChannels.TheVariants.{Rgb, Rgba, Bgra, Bgr}
-use Rattle.yuv_support.specs.Matrix.{accepted}
+use Rattle.yuv_support.specs.declared.YuvRange.{YuvRange}
 use Rattle.forward_transform.specs.declared.CbCrForwardTransform.{CbCrForwardTransform}
-use Rattle.forward_transform.specs.Shape.{Shape}
+use Rattle.forward_transform.specs.Shape.{Shape, luma_least, luma_most, chroma_top}
 use Rattle.definitions.specs.declared.YuvSettings.{YuvSettings}
 use Rattle.definitions.specs.declared.FrameDescription.{FrameDescription}
 use Rattle.definitions.specs.Pixel.{weigh, weights_of}
@@ -31,16 +31,34 @@ cr_weights s = by_place s.channels (weights_of s).cr_r (weights_of s).cr_g (weig
 abbrev pub conversion_of : FrameDescription → Conversion
 conversion_of d = record { frame = d; cb = cb_weights d.settings; cr = cr_weights d.settings }
 
--- t has the weights of the settings, and their matrix is an accepted one
+-- t has the weights of the settings, and their shape
 pub record Weighed (s : YuvSettings) (t : CbCrForwardTransform ℤ) : Type 0 where
   pub weights : t ≡ weights_of s
   pub shape : Shape s.range t
 
--- so have the rows, and their matrix is an accepted one
+-- the shape by the sizes of the weights: it says what Shape says and holds no number, so that a type can have it as an invariant
+pub record Shaped (range : YuvRange) (t : CbCrForwardTransform ℤ) : Type 0 where
+  pub yr : t.yr ≡ pos (nat_abs t.yr)
+  pub yg : t.yg ≡ pos (nat_abs t.yg)
+  pub yb : t.yb ≡ pos (nat_abs t.yb)
+  pub cb_r : t.cb_r ≡ neg_ℤ (pos (nat_abs t.cb_r))
+  pub cb_g : t.cb_g ≡ neg_ℤ (pos (nat_abs t.cb_g))
+  pub cb_b : t.cb_b ≡ pos (chroma_top range)
+  pub cr_r : t.cr_r ≡ pos (chroma_top range)
+  pub cr_g : t.cr_g ≡ neg_ℤ (pos (nat_abs t.cr_g))
+  pub cr_b : t.cr_b ≡ neg_ℤ (pos (nat_abs t.cr_b))
+  pub luma_least_lem : luma_least range ≤ nat_abs t.yr + nat_abs t.yg + nat_abs t.yb
+  pub luma_most_lem : nat_abs t.yr + nat_abs t.yg + nat_abs t.yb ≤ luma_most range
+  pub cb_least : chroma_top range ≤ nat_abs t.cb_r + nat_abs t.cb_g + 1
+  pub cb_most : nat_abs t.cb_r + nat_abs t.cb_g ≤ chroma_top range + 1
+  pub cr_least : chroma_top range ≤ nat_abs t.cr_g + nat_abs t.cr_b + 1
+  pub cr_most : nat_abs t.cr_g + nat_abs t.cr_b ≤ chroma_top range + 1
+
+-- the rows have the weights of their settings, and these have their shape
 pub record Converts (rows : Conversion) : Type 0 where
   pub cb : rows.cb ≡ cb_weights rows.frame.settings
   pub cr : rows.cr ≡ cr_weights rows.frame.settings
-  pub matrix : accepted rows.frame.settings.matrix ≡ true
+  pub shape : Shaped rows.frame.settings.range (weights_of rows.frame.settings)
 
 -- a number that is a byte
 pub record InByte (z : ℤ) : Type 0 where

@@ -7,22 +7,25 @@
 //
 // Bounds: luma is below 2^21 before it is divided, so the two of a pair are below 2^42, and four pairs' below 2^44; 16 * 65,535 + 8 is below 2^20,
 // so no sum reaches 2^64. No accepted matrix takes luma or chroma out of the range that the definition holds them in, so nothing is held here.
+//
+// The six tables of sums are one array, so that a byte's place in its pixel is an offset and one function serves all places. Chroma rows are lent one by
+// one (band_planes says why).
 #![tactic(auto)]
 
-pub mod frame_tables; // the tables of a frame, and that they are its own
+pub mod frame_tables; // what a frame's luma and chroma need, and that it is the frame's own
 pub mod tables; // weights and tables
 
 ghost use Rattle.std.specs.Prelude.{◌≡◌, ◌+◌, ◌*◌, ◌≤◌, ◌<◌, pos, get_or, length, set};
 ghost use Rattle.definitions.specs.Pixel.{weigh};
 ghost use Rattle.definitions.specs.Row.{pixels_of};
-ghost use Rattle.pixel_pairs.specs.Weights.{ByteWeights};
-ghost use Rattle.pixel_pairs.specs.Pixels.{first_three, Paired, total, left_luma, right_luma};
+ghost use Rattle.pixel_pairs.specs.Weights.{Converts, ByteWeights};
+ghost use Rattle.pixel_pairs.specs.Pixels.{first_three, Paired, Light, total, left_luma, right_luma};
 ghost use Rattle.pixel_pairs.specs.Pixels.{sixteenths_of, quarters_of, corrected_by, Over, Linears, ColourAt, ColoursAt, cb_byte, cr_byte};
 ghost use Rattle.pixel_pairs.specs.Rows.{lumas, inputs420, inputs422, RowOf, Rows420, Row422, InRow, put_pair};
 ghost use Rattle.pixel_pairs.specs.Rows.{LumasPainted, Lumas422, LumaMore, ChromaMore, put_block420, put_block422, block_at};
 
-use frame_tables::FrameTables;
-use tables::Weights;
+use frame_tables::{FrameTables, LumaTables};
+use tables::{Conversion, Weights};
 
 // Weights are in units of 1 / 8,192, which is 13 bits.
 const PRECISION: i32 = 13;
@@ -45,7 +48,8 @@ pub struct Colours {
     pub second: Bytes,
 }
 
-// For each byte of a colour the entries of a pair of pixels, added.
+// For each byte of a colour the entries of a pair of pixels, added. This, `Bytes` and `Weights` stay three types: no function takes either for another,
+// and one type over the kind of number would say no more than their names do.
 #[derive(Clone, Copy, Debug, PartialEq, Eq)]
 pub struct Sums {
     pub e0: u64,
@@ -60,7 +64,7 @@ pub struct Block {
     pub next: usize,
 }
 
-// Pixel x of a row.
+// Pixel x of a row. A part of three bytes would first be cut out of the row, and then be read byte by byte all the same.
 fn at<const N: usize>(row: &[u8], x: usize) -> Bytes
     requires { x * N + 2 < length row.now }
     ensures { result ≡ first_three (pixels_of N row.now x) }
@@ -73,7 +77,33 @@ fn at<const N: usize>(row: &[u8], x: usize) -> Bytes
     }
 }
 
-// Both lumas of a pair, into the luma row that begins at `start`.
+// The entries of a left and of a right byte at one place of their pixels.
+fn entries(sums: &[u64; 1536], place: usize, left: u8, right: u8) -> u64
+    requires place_bound { place ≤ 512 }
+    requires light { Light sums.now }
+    ensures { result ≡ get_or sums.now (place + left) 0 + get_or sums.now (768 + place + right) 0 }
+{
+    let l = place + left as usize;
+    let r = 768 + place + right as usize;
+    sums[l] + sums[r]
+}
+
+// The sums of pixels x and next of a row.
+pub fn pair<const N: usize>(sums: &[u64; 1536], row: &[u8], x: usize, next: usize) -> Sums
+    requires in_row { (x * N + 2 < length row.now) × (next * N + 2 < length row.now) }
+    requires light { Light sums.now }
+    ensures { Paired sums.now (pixels_of N row.now x) (pixels_of N row.now next) result }
+{
+    let a = at::<N>(row, x);
+    let b = at::<N>(row, next);
+    Sums {
+        e0: entries(sums, 0, a.b0, b.b0),
+        e1: entries(sums, 256, a.b1, b.b1),
+        e2: entries(sums, 512, a.b2, b.b2),
+    }
+}
+
+// Both lumas of a pair, into the luma row that begins at `start`: two luma rows are one lent slice, of which each contract says what it has after.
 fn put_luma(y: &mut [u8], start: usize, x: usize, next: usize, s: Sums)
     requires in_row { (start + x < length y.old) × (start + next < length y.old) }
     requires total_fits { total s < 18446744073709551616 }
@@ -116,31 +146,52 @@ fn quarters(a: Sums) -> Sums
     }
 }
 
-impl FrameTables<'_> {
-    // The entries of a left and of a right byte at one place of their pixels.
-    fn entries(&self, place: usize, left: u8, right: u8) -> u64
-        requires { place ≤ 512 }
-        ensures { result ≡ get_or self.now.sums.now (place + left) 0 + get_or self.now.sums.now (768 + place + right) 0 }
+fn corrected(gamma: &[u8; 65536], linear: u64) -> u8
+    requires { linear < 65536 }
+    ensures { result ≡ get_or gamma.now linear 0 }
+{
+    gamma[linear as usize]
+}
+
+// The colour of linear values.
+pub fn mixed(gamma: &[u8; 65536], linear: Sums) -> Bytes
+    requires { Linears linear }
+    ensures { result ≡ first_three (corrected_by gamma.now linear) }
+{
+    Bytes {
+        b0: corrected(gamma, linear.e0),
+        b1: corrected(gamma, linear.e1),
+        b2: corrected(gamma, linear.e2),
+    }
+}
+
+impl Conversion {
+    // The chroma of a colour, at place j of both chroma rows. No accepted matrix takes it out of the range that the definition holds it in.
+    pub fn put_chroma(&self, b: Bytes, j: usize, u: &mut [u8], v: &mut [u8])
+        requires converts { Converts self.now }
+        requires room { (j < length u.old) × (j < length v.old) }
+        ensures chroma_more { ChromaMore self.now.frame (λ input. ColourAt input j b) j (j + 1) u.old v.old u.new v.new }
+        ensures u_after { u.new ≡ set u.old j (cb_byte self.now.frame b) }
+        ensures v_after { v.new ≡ set v.old j (cr_byte self.now.frame b) }
     {
-        let l = place + left as usize;
-        let r = 768 + place + right as usize;
-        self.sums[l] + self.sums[r]
+        u[j] = weigh(self.cb, b);
+        v[j] = weigh(self.cr, b);
     }
 
-    // The sums of pixels x and next of a row.
-    pub fn pair<const N: usize>(&self, row: &[u8], x: usize, next: usize) -> Sums
-        requires { (x * N + 2 < length row.now) × (next * N + 2 < length row.now) }
-        ensures { Paired self.now.sums.now (pixels_of N row.now x) (pixels_of N row.now next) result }
+    // Of two colours, at place j and the next.
+    pub fn put_chromas(&self, c: Colours, j: usize, u: &mut [u8], v: &mut [u8])
+        requires converts { Converts self.now }
+        requires room { (j + 1 < length u.old) × (j + 1 < length v.old) }
+        ensures chroma_more { ChromaMore self.now.frame (λ input. ColoursAt input j c) j (j + 2) u.old v.old u.new v.new }
+        ensures u_after { u.new ≡ set (set u.old j (cb_byte self.now.frame c.first)) (j + 1) (cb_byte self.now.frame c.second) }
+        ensures v_after { v.new ≡ set (set v.old j (cr_byte self.now.frame c.first)) (j + 1) (cr_byte self.now.frame c.second) }
     {
-        let a = at::<N>(row, x);
-        let b = at::<N>(row, next);
-        Sums {
-            e0: self.entries(0, a.b0, b.b0),
-            e1: self.entries(256, a.b1, b.b1),
-            e2: self.entries(512, a.b2, b.b2),
-        }
+        self.put_chroma(c.first, j, u, v);
+        self.put_chroma(c.second, j + 1, u, v);
     }
+}
 
+impl LumaTables<'_> {
     // Pixels x and next of a row: their lumas, into the luma row that begins at `start`, and their sums.
     pub fn luma_pair<const N: usize>(
         &self,
@@ -156,52 +207,13 @@ impl FrameTables<'_> {
         ensures paired { Paired self.now.sums.now (pixels_of N row.now x) (pixels_of N row.now next) result }
         ensures y_after { y.new ≡ put_pair start x next (lumas self.now.rows.frame N row.now) y.old }
     {
-        let s = self.pair::<N>(row, x, next);
+        let s = pair::<N>(self.sums, row, x, next);
         put_luma(y, start, x, next, s);
         s
     }
+}
 
-    // The chroma of a colour, at place j of both chroma rows. No accepted matrix takes it out of the range that the definition holds it in.
-    pub fn put_chroma(&self, b: Bytes, j: usize, u: &mut [u8], v: &mut [u8])
-        requires { (j < length u.old) × (j < length v.old) }
-        ensures chroma_more { ChromaMore self.now.rows.frame (λ input. ColourAt input j b) j (j + 1) u.old v.old u.new v.new }
-        ensures u_after { u.new ≡ set u.old j (cb_byte self.now.rows.frame b) }
-        ensures v_after { v.new ≡ set v.old j (cr_byte self.now.rows.frame b) }
-    {
-        u[j] = weigh(self.rows.cb, b);
-        v[j] = weigh(self.rows.cr, b);
-    }
-
-    // Of two colours, at place j and the next.
-    pub fn put_chromas(&self, c: Colours, j: usize, u: &mut [u8], v: &mut [u8])
-        requires { (j + 1 < length u.old) × (j + 1 < length v.old) }
-        ensures chroma_more { ChromaMore self.now.rows.frame (λ input. ColoursAt input j c) j (j + 2) u.old v.old u.new v.new }
-        ensures u_after { u.new ≡ set (set u.old j (cb_byte self.now.rows.frame c.first)) (j + 1) (cb_byte self.now.rows.frame c.second) }
-        ensures v_after { v.new ≡ set (set v.old j (cr_byte self.now.rows.frame c.first)) (j + 1) (cr_byte self.now.rows.frame c.second) }
-    {
-        self.put_chroma(c.first, j, u, v);
-        self.put_chroma(c.second, j + 1, u, v);
-    }
-
-    fn corrected(&self, linear: u64) -> u8
-        requires { linear < 65536 }
-        ensures { result ≡ get_or self.now.gamma.now linear 0 }
-    {
-        self.gamma[linear as usize]
-    }
-
-    // The colour of linear values.
-    pub fn mixed(&self, linear: Sums) -> Bytes
-        requires { Linears linear }
-        ensures { result ≡ first_three (corrected_by self.now.gamma.now linear) }
-    {
-        Bytes {
-            b0: self.corrected(linear.e0),
-            b1: self.corrected(linear.e1),
-            b2: self.corrected(linear.e2),
-        }
-    }
-
+impl FrameTables<'_, '_> {
     // The colour of 4:2:0 chroma, and the lumas of its pixels, in two rows. An odd last pixel is its own neighbour to the right: 9 + 3 is 12, and
     // 3 + 1 is 4.
     pub fn block420<const N: usize>(
@@ -211,34 +223,40 @@ impl FrameTables<'_> {
         block: Block,
         y: &mut [u8],
     ) -> Bytes
-        requires rows420 { Rows420 self.now.rows.frame N this.now below.now y.old }
-        requires in_row { InRow self.now.rows.frame block }
-        ensures colour_at { ColourAt (inputs420 self.now.rows.frame N this.now below.now) block.j result }
-        ensures luma_more { LumaMore (LumasPainted self.now.rows.frame N this.now below.now) self.now.rows.frame block.j (block.j + 1)
+        requires rows420 { Rows420 self.now.luma.rows.frame N this.now below.now y.old }
+        requires in_row { InRow self.now.luma.rows.frame block }
+        ensures colour_at { ColourAt (inputs420 self.now.luma.rows.frame N this.now below.now) block.j result }
+        ensures luma_more { LumaMore (LumasPainted self.now.luma.rows.frame N this.now below.now) self.now.luma.rows.frame block.j (block.j + 1)
             y.old y.new }
-        ensures y_after { y.new ≡ put_block420 self.now.rows.frame N this.now below.now block y.old }
+        ensures y_after { y.new ≡ put_block420 self.now.luma.rows.frame N this.now below.now block y.old }
     {
         let x = 2 * block.j;
-        let a = self.luma_pair::<N>(this, x, block.next, y, 0);
-        let b = self.luma_pair::<N>(below, x, block.next, y, self.rows.frame.y_stride as usize);
-        self.mixed(sixteenths(a, b))
+        let a = self.luma.luma_pair::<N>(this, x, block.next, y, 0);
+        let b = self.luma.luma_pair::<N>(
+            below,
+            x,
+            block.next,
+            y,
+            self.luma.rows.frame.y_stride as usize,
+        );
+        mixed(self.gamma, sixteenths(a, b))
     }
 
     // The colour of 4:2:2 chroma, and the lumas of its pixels. An odd last pixel's own bytes go through no table.
     pub fn block422<const N: usize>(&self, this: &[u8], block: Block, y: &mut [u8]) -> Bytes
-        requires row422 { Row422 self.now.rows.frame N this.now y.old }
-        requires in_row { InRow self.now.rows.frame block }
-        ensures colour_at { ColourAt (inputs422 self.now.rows.frame N this.now) block.j result }
-        ensures luma_more { LumaMore (Lumas422 self.now.rows.frame N this.now) self.now.rows.frame block.j (block.j + 1) y.old y.new }
-        ensures y_after { y.new ≡ put_block422 self.now.rows.frame N this.now block y.old }
+        requires row422 { Row422 self.now.luma.rows.frame N this.now y.old }
+        requires in_row { InRow self.now.luma.rows.frame block }
+        ensures colour_at { ColourAt (inputs422 self.now.luma.rows.frame N this.now) block.j result }
+        ensures luma_more { LumaMore (Lumas422 self.now.luma.rows.frame N this.now) self.now.luma.rows.frame block.j (block.j + 1) y.old y.new }
+        ensures y_after { y.new ≡ put_block422 self.now.luma.rows.frame N this.now block y.old }
     {
         let x = 2 * block.j;
         let next = block.next;
-        let a = self.luma_pair::<N>(this, x, next, y, 0);
+        let a = self.luma.luma_pair::<N>(this, x, next, y, 0);
         if next == x {
             at::<N>(this, x)
         } else {
-            self.mixed(quarters(a))
+            mixed(self.gamma, quarters(a))
         }
     }
 
@@ -250,12 +268,12 @@ impl FrameTables<'_> {
         j: usize,
         y: &mut [u8],
     ) -> Colours
-        requires rows420 { Rows420 self.now.rows.frame N this.now below.now y.old }
-        requires inside { 2 * j + 3 < self.now.rows.frame.width }
-        ensures colours_at { ColoursAt (inputs420 self.now.rows.frame N this.now below.now) j result }
-        ensures luma_more { LumaMore (LumasPainted self.now.rows.frame N this.now below.now) self.now.rows.frame j (j + 2) y.old y.new }
-        ensures y_after { y.new ≡ put_block420 self.now.rows.frame N this.now below.now (block_at (j + 1))
-            (put_block420 self.now.rows.frame N this.now below.now (block_at j) y.old) }
+        requires rows420 { Rows420 self.now.luma.rows.frame N this.now below.now y.old }
+        requires inside { 2 * j + 3 < self.now.luma.rows.frame.width }
+        ensures colours_at { ColoursAt (inputs420 self.now.luma.rows.frame N this.now below.now) j result }
+        ensures luma_more { LumaMore (LumasPainted self.now.luma.rows.frame N this.now below.now) self.now.luma.rows.frame j (j + 2) y.old y.new }
+        ensures y_after { y.new ≡ put_block420 self.now.luma.rows.frame N this.now below.now (block_at (j + 1))
+            (put_block420 self.now.luma.rows.frame N this.now below.now (block_at j) y.old) }
     {
         let k = j + 1;
         let here = Block { j, next: 2 * j + 1 };
@@ -270,21 +288,21 @@ impl FrameTables<'_> {
 
     // Two blocks of 4:2:2. Both pairs are read, and both colours looked up, before a luma is written: a tenth faster.
     pub fn four422<const N: usize>(&self, this: &[u8], j: usize, y: &mut [u8]) -> Colours
-        requires row422 { Row422 self.now.rows.frame N this.now y.old }
-        requires inside { 2 * j + 3 < self.now.rows.frame.width }
-        ensures colours_at { ColoursAt (inputs422 self.now.rows.frame N this.now) j result }
-        ensures luma_more { LumaMore (Lumas422 self.now.rows.frame N this.now) self.now.rows.frame j (j + 2) y.old y.new }
-        ensures y_after { y.new ≡ put_block422 self.now.rows.frame N this.now (block_at (j + 1))
-            (put_block422 self.now.rows.frame N this.now (block_at j) y.old) }
+        requires row422 { Row422 self.now.luma.rows.frame N this.now y.old }
+        requires inside { 2 * j + 3 < self.now.luma.rows.frame.width }
+        ensures colours_at { ColoursAt (inputs422 self.now.luma.rows.frame N this.now) j result }
+        ensures luma_more { LumaMore (Lumas422 self.now.luma.rows.frame N this.now) self.now.luma.rows.frame j (j + 2) y.old y.new }
+        ensures y_after { y.new ≡ put_block422 self.now.luma.rows.frame N this.now (block_at (j + 1))
+            (put_block422 self.now.luma.rows.frame N this.now (block_at j) y.old) }
     {
         let x = 2 * j;
         let right = x + 1;
         let z = 2 * (j + 1);
         let last = z + 1;
-        let a = self.pair::<N>(this, x, right);
-        let b = self.pair::<N>(this, z, last);
-        let first = self.mixed(quarters(a));
-        let second = self.mixed(quarters(b));
+        let a = pair::<N>(self.luma.sums, this, x, right);
+        let b = pair::<N>(self.luma.sums, this, z, last);
+        let first = mixed(self.gamma, quarters(a));
+        let second = mixed(self.gamma, quarters(b));
         put_luma(y, 0, x, right, a);
         put_luma(y, 0, z, last, b);
         Colours { first, second }

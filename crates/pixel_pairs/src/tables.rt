@@ -67,12 +67,6 @@ pub fn conversion_of(frame: FrameDescription, t: CbCrForwardTransformI32) -> Con
     Conversion { frame, cb, cr }
 }
 
-fn wide(x: u16) -> u64
-    ensures { (result ≡ x) × (result < 65536) }
-{
-    x as u64
-}
-
 // What byte x adds to luma, in 8,192nds.
 fn weighed(x: usize, weight: u64, start: u64) -> u64
     requires { (x < 256) × (weight ≤ 8193) × (start < 2097152) }
@@ -90,7 +84,7 @@ fn fill(linear: &[u16; 256], at: usize, weight: u64, start: u64, sums: &mut [u64
 {
     let right = 768 + at;
     for x in 0..256 {
-        let value = wide(linear[x]);
+        let value = u64::from(linear[x]);
         let luma = weighed(x, weight, start);
         sums[at + x] = LINEAR * (3 * value + 2) + luma;
         sums[right + x] = LINEAR * value + RIGHT * luma;

@@ -2,14 +2,15 @@
 -- reaches the end. Assumes nothing.
 use Prim.Native.Nat.{ℕ, zero, suc, ◌+◌, ◌*◌, ◌/◌, ◌%◌, ◌≤◌, ◌<◌}
 use mathlib.Core.Path.{◌≡◌, refl, sym, ◌∙◌, ap, ap₂}
-use mathlib.Core.Bool.{Bool, true, false, cond}
+use mathlib.Core.Bool.{Bool, true, false, cond, ◌&&◌}
 use mathlib.Core.List.{List, [], ◌∷◌}
 use native.Mathlib.Nat.{add-zero, mul-suc, mul-add-div, mul-add-mod_self_left, div-eq_of_lt, mod-eq_of_lt, mul-le-mul_left}
 use native.Mathlib.Omega.{arith}
-use borrow.Author.Tests.{eqb-true, eq-eqb, ne_eqb, lt-ltb, le-ltb, leb-true}
+use borrow.Author.Tests.{eqb-true, eq-eqb, ne_eqb, lt-ltb, le-ltb, leb-true, le-leb, lt-leb}
 use lib.Dec.{leb, eqb}
-use lib.ListN.{length, get_or, drop}
-use lib.Seq.{get_or-drop, drop-drop}
+use lib.ListN.{length, get_or, drop, take}
+use lib.Pointwise.{pointwise}
+use lib.Seq.{get_or-drop, drop-drop, drop-cons}
 use Rattle.little_endian.specs.Number.{Bytes, number_in}
 use Rattle.std.proofs.Common.{Some, None}
 use Rattle.plane_difference.specs.Difference.{equal_front, plane_difference}
@@ -110,6 +111,25 @@ word_differs n i e a b h d = not_below e (equal_front a b) (λ l. d (number_fron
 
 pub byte_differs : (i e : ℕ) (a b : List ℕ) → i < e → (get_or a i 0 ≡ get_or b i 0 → ⊥) → false ≡ leb e (equal_front a b)
 byte_differs i e a b h d = not_below e (equal_front a b) (λ l. d (front_byte a b i (omega arith)))
+
+-- the bytes of the tail, n from place i on, tell whether the front reaches its end
+pub tail_told : (n i : ℕ) (a b : List ℕ) → i + n ≤ length a → i + n ≤ length b → i ≤ equal_front a b
+    → pointwise eqb (take n (drop i a)) (take n (drop i b)) ≡ leb (i + n) (equal_front a b)
+tail_told zero i a b ha hb h = sym (le-leb (i + 0) (equal_front a b) (omega arith))
+tail_told (suc n) i a b ha hb h =
+    rw (drop-cons a i 0 (omega arith), drop-cons b i 0 (omega arith))
+    (at (λ more. tail_told n (suc i) a b (omega arith) (omega arith) more) (eqb (get_or a i 0) (get_or b i 0)) refl)
+  where
+    at : (suc i ≤ equal_front a b → pointwise eqb (take n (drop (suc i) a)) (take n (drop (suc i) b)) ≡ leb (suc i + n) (equal_front a b))
+        → (t : Bool) → eqb (get_or a i 0) (get_or b i 0) ≡ t
+        → (t && pointwise eqb (take n (drop (suc i) a)) (take n (drop (suc i) b))) ≡ leb (i + suc n) (equal_front a b)
+    at later true e =
+        let more = front_more a b i (omega arith) (omega arith) (eqb-true (get_or a i 0) (get_or b i 0) e) h in
+        let same : suc i + n ≡ i + suc n = omega arith in
+        later (omega arith) ∙ ap (λ (m : ℕ). leb m (equal_front a b)) same
+    at later false e =
+        let ends = front_ends a b i (λ s. let q = sym (eq-eqb (get_or a i 0) (get_or b i 0) s) ∙ e in absurd (let z : ◌≡◌ {A = ℕ} 0 1 = cc in omega arith)) h in
+        sym (lt-leb (i + suc n) (equal_front a b) (omega arith))
 
 -- ---- rows
 

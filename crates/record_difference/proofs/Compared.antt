@@ -1,11 +1,12 @@
 -- Two sizes that test as the same are one size; a plane has the bytes that its size says; the planes say what the first unequal one says.
 -- Assumes nothing.
-use Prim.Native.Nat.{ℕ, zero, suc, ◌*◌, ◌≤◌}
+use Prim.Native.Nat.{ℕ, zero, suc, ◌*◌, ◌≤◌, ◌<◌}
 use mathlib.Core.Path.{◌≡◌, refl, sym, ◌∙◌, ap, ap₂}
 use mathlib.Core.Bool.{Bool, true, false, not, ◌&&◌, true≢false}
 use denote.Enum.Bare.{sameb}
 use mathlib.Core.List.{List, [], ◌++◌, append-nil}
 use borrow.Author.Tests.{eqb-true, eq-eqb}
+use native.Mathlib.Omega.{arith}
 use lib.Dec.{eqb}
 use lib.ListN.{length}
 use Rattle.yuv_support.specs.contracts.YuvChromaSubsampling.{the_type}
@@ -13,18 +14,18 @@ use Rattle.yuv_support.specs.declared.YuvChromaSubsampling.{YuvChromaSubsampling
 use Rattle.yuv_support.specs.declared.YuvChromaSubsampling.TheVariants.{Yuv420, Yuv422}
 use Rattle.shift_file.specs.declared.ShiftForm.{ShiftForm}
 use Rattle.shift_file.specs.File.{ShiftRecord, Allowed, chroma_bytes, bytes_of, header_size, sampling_of}
-use Rattle.shift_file.specs.Read.{settings_at}
+use Rattle.shift_file.specs.Read.{settings_at, records_in}
 use Rattle.shift_file.proofs.Record.{both, settings_is}
+use Rattle.shift_reader.specs.declared.file.ShiftFile.{ShiftFile}
 use Rattle.shift_reader.specs.Entry.{record_of}
-use Rattle.shift_reader.specs.Known.{HasRecord}
-use Rattle.shift_reader.proofs.Places.{allowed, header_there}
+use Rattle.shift_reader.proofs.Places.{Known, known, allowed, header_there}
 use Rattle.std.proofs.Common.{Option, Some, None}
 use Rattle.record_difference.specs.declared.Plane.{Plane}
 use Rattle.record_difference.specs.declared.Plane.TheVariants.{Y, U, «V»}
 use Rattle.record_difference.specs.declared.FrameSize.{FrameSize}
 use Rattle.record_difference.specs.declared.Difference.{Difference}
 use Rattle.record_difference.specs.declared.Difference.TheVariants.{Sizes}
-use Rattle.record_difference.specs.Record.{size_of, same_sampling, same_size, plane_of, plane_width, plane_height}
+use Rattle.record_difference.specs.Record.{size_of, same_sampling, same_size, plane_of, pick, plane_width, plane_height}
 use Rattle.record_difference.specs.Record.{in_plane, difference_in, planes_difference, record_difference}
 
 -- ---- sizes
@@ -65,8 +66,15 @@ sizes_differ a b t e =
 
 -- ---- planes
 
-pub its_Allowed : (form : ShiftForm) (file : List ℕ) (k : ℕ) → HasRecord form file k → Allowed form (record_of form file k)
-its_Allowed form file k h = allowed form file _ k h.is_file_lem h.below
+pub its_Allowed : (f : ShiftFile) (k : ℕ) → k < f.count → Allowed f.form (record_of f.form f.bytes.now k)
+its_Allowed f k h =
+    let its : Known f.form f.bytes.now = known f.form f.bytes.now f.checked f.are_bytes in
+    allowed f.form f.bytes.now (records_in f.form f.bytes.now) k its.its (omega (arith, its.count, f.counted, h))
+
+pub picked : (plane : Plane) (r : ShiftRecord) (y u v : List ℕ) → y ≡ r.y → u ≡ r.u → v ≡ r.v → pick plane y u v ≡ plane_of plane r
+picked Y r y u v ey eu ev = ey
+picked U r y u v ey eu ev = eu
+picked «V» r y u v ey eu ev = ev
 
 pub plane_size : (plane : Plane) (form : ShiftForm) (r : ShiftRecord) (size : FrameSize) → Allowed form r → size ≡ size_of form r
     → length (plane_of plane r) ≡ plane_width plane size * plane_height plane size

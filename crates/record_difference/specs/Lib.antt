@@ -1,3 +1,2 @@
 -- The difference of two records: docs/RULES.md, 13.2 and 13.3.
 pub mod Record
-pub mod Known

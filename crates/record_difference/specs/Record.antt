@@ -39,6 +39,18 @@ plane_of Y r = r.y
 plane_of U r = r.u
 plane_of «V» r = r.v
 
+-- a plane of the three of a frame
+abbrev pub pick : Plane → (y u v : List ℕ) → List ℕ
+pick Y y u v = y
+pick U y u v = u
+pick «V» y u v = v
+
+-- RULES 10.7: as C is told it
+abbrev pub plane_number : Plane → ℕ
+plane_number Y = 0
+plane_number U = 1
+plane_number «V» = 2
+
 -- RULES 1.5: w or cw
 abbrev pub plane_width : Plane → FrameSize → ℕ
 plane_width Y s = s.width

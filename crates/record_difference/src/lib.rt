@@ -1,13 +1,15 @@
 // The difference of two records of shift files: their sizes, or else the first unequal byte of their planes (RULES 13.2, 13.3).
 #![tactic(auto)]
 
-ghost use Rattle.std.specs.Prelude.{◌≡◌};
+ghost use Rattle.std.specs.Prelude.{◌≡◌, ◌<◌};
 ghost use Rattle.shift_reader.specs.Entry.{record_of};
-ghost use Rattle.shift_reader.specs.Known.{HasRecord};
-ghost use Rattle.record_difference.specs.Record.{plane_of, plane_width, plane_height, size_of, difference_in, record_difference};
-ghost use Rattle.record_difference.specs.Known.{Comparable};
+ghost use Rattle.plane_difference.specs.Difference.{plane_difference};
+ghost use Rattle.record_difference.specs.Record.{pick, plane_width, plane_height, plane_number, record_difference};
 
-use shift_file::ShiftForm;
+mod frame; // the frame of a record
+
+use frame::Frame;
+use shift_reader::file::ShiftFile;
 use yuv_support::YuvChromaSubsampling;
 
 // A plane of a frame.
@@ -18,7 +20,23 @@ pub enum Plane {
     V,
 }
 
-// What two frames must have in common before their planes are compared.
+// 0, 1, 2.
+impl From<Plane> for u64 {
+    ghost use Rattle.std.specs.Prelude.{◌≡◌};
+    ghost use Rattle.record_difference.specs.Record.{plane_number};
+
+    ghost from_gives = { λ plane number. number ≡ plane_number plane };
+
+    fn from(plane: Plane) -> u64 {
+        match plane {
+            Plane::Y => 0,
+            Plane::U => 1,
+            Plane::V => 2,
+        }
+    }
+}
+
+// What two frames must have in common before their planes are compared. `HeaderLine` of `y4m_line` has the same fields: what a line says, of any size.
 #[derive(Clone, Copy, Debug, PartialEq, Eq)]
 pub struct FrameSize {
     pub width: u16,
@@ -34,102 +52,70 @@ pub struct PlanePlace {
     pub column: usize,
 }
 
-// How two records differ: the two sizes, or the first unequal byte.
+// How two records differ: the two sizes, or the first unequal byte. No Option or Result: neither case means that something is missing.
 #[derive(Clone, Copy, Debug, PartialEq, Eq)]
 pub enum Difference {
     Sizes(FrameSize, FrameSize),
     At(PlanePlace),
 }
 
-// The size of record k.
-fn size_of(form: ShiftForm, file: &[u8], k: usize) -> FrameSize
-    requires { HasRecord form file.now k }
-    ensures { result ≡ size_of form (record_of form file.now k) }
-{
-    let entry = shift_reader::entry_of(form, file, k);
-    FrameSize {
-        width: entry.width,
-        height: entry.height,
-        sampling: shift_file::sampling_at(form, shift_reader::record_part(form, file, k)),
+impl FrameSize {
+    // The bytes of a row of a plane.
+    fn plane_width(self, plane: Plane) -> usize
+        ensures { result ≡ plane_width plane self }
+    {
+        let width = self.width as usize;
+        match plane {
+            Plane::Y => width,
+            Plane::U | Plane::V => yuv_support::chroma_width(width),
+        }
+    }
+
+    // Its rows.
+    fn plane_height(self, plane: Plane) -> usize
+        ensures { result ≡ plane_height plane self }
+    {
+        let height = self.height as usize;
+        match plane {
+            Plane::Y => height,
+            Plane::U | Plane::V => self.sampling.chroma_height(height),
+        }
     }
 }
 
-// ---- planes
-
-// A plane of record k.
-fn plane_part(plane: Plane, form: ShiftForm, file: &[u8], k: usize) -> &[u8]
-    requires { HasRecord form file.now k }
-    ensures { result.now ≡ plane_of plane (record_of form file.now k) }
+// Row and column of the first unequal byte of a plane of two frames of one size.
+fn compare_plane(plane: Plane, ours: &Frame, theirs: &Frame) -> Option<(usize, usize)>
+    requires { ours.now.size ≡ theirs.now.size }
+    ensures { result ≡ plane_difference (plane_width plane ours.now.size) (pick plane ours.now.y.now ours.now.u.now ours.now.v.now)
+        (pick plane theirs.now.y.now theirs.now.u.now theirs.now.v.now) }
 {
-    match plane {
-        Plane::Y => shift_reader::y_part(form, file, k),
-        Plane::U => shift_reader::u_part(form, file, k),
-        Plane::V => shift_reader::v_part(form, file, k),
-    }
+    plane_difference::compare_planes(
+        ours.plane(plane),
+        theirs.plane(plane),
+        ours.size.plane_width(plane),
+        ours.size.plane_height(plane),
+    )
 }
-
-fn plane_width(plane: Plane, size: FrameSize) -> usize
-    ensures { result ≡ plane_width plane size }
-{
-    let width = size.width as usize;
-    match plane {
-        Plane::Y => width,
-        Plane::U | Plane::V => yuv_support::chroma_width(width),
-    }
-}
-
-fn plane_height(plane: Plane, size: FrameSize) -> usize
-    ensures { result ≡ plane_height plane size }
-{
-    let height = size.height as usize;
-    match plane {
-        Plane::Y => height,
-        Plane::U | Plane::V => size.sampling.chroma_height(height),
-    }
-}
-
-// Row and column of the first unequal byte of a plane of two records of one size.
-fn compare_plane(
-    plane: Plane,
-    size: FrameSize,
-    form_a: ShiftForm,
-    ours: &[u8],
-    i: usize,
-    form_b: ShiftForm,
-    theirs: &[u8],
-    j: usize,
-) -> Option<(usize, usize)>
-    requires { Comparable size form_a ours.now i form_b theirs.now j }
-    ensures { result ≡ difference_in plane size (record_of form_a ours.now i) (record_of form_b theirs.now j) }
-{
-    let a = plane_part(plane, form_a, ours, i);
-    let b = plane_part(plane, form_b, theirs, j);
-    plane_difference::compare_planes(a, b, plane_width(plane, size), plane_height(plane, size))
-}
-
-// ---- records
 
 // The difference of record i of ours and record j of theirs, or none. No plane after the first unequal byte is looked at.
 pub fn compare_records(
-    form_a: ShiftForm,
-    ours: &[u8],
+    ours: &ShiftFile,
     i: usize,
-    form_b: ShiftForm,
-    theirs: &[u8],
+    theirs: &ShiftFile,
     j: usize,
 ) -> Option<Difference>
-    requires our_record { HasRecord form_a ours.now i }
-    requires their_record { HasRecord form_b theirs.now j }
-    ensures { result ≡ record_difference form_a (record_of form_a ours.now i) form_b (record_of form_b theirs.now j) }
+    requires our_record { i < ours.now.count }
+    requires their_record { j < theirs.now.count }
+    ensures { result ≡ record_difference ours.now.form (record_of ours.now.form ours.now.bytes.now i)
+        theirs.now.form (record_of theirs.now.form theirs.now.bytes.now j) }
 {
-    let a = size_of(form_a, ours, i);
-    let b = size_of(form_b, theirs, j);
-    if a != b {
-        return Some(Difference::Sizes(a, b));
+    let a = Frame::of(ours, i);
+    let b = Frame::of(theirs, j);
+    if a.size != b.size {
+        return Some(Difference::Sizes(a.size, b.size));
     }
     for plane in [Plane::Y, Plane::U, Plane::V] {
-        let place = compare_plane(plane, a, form_a, ours, i, form_b, theirs, j);
-        if let Some((row, column)) = place {
+        if let Some((row, column)) = compare_plane(plane, &a, &b) {
             return Some(Difference::At(PlanePlace { plane, row, column }));
         }
     }

@@ -1,2 +1,3 @@
 pub mod Printed
 pub mod Stored
+pub mod Calls

@@ -5,5 +5,5 @@
 mod list;
 mod printed;
 
-pub use list::{List, each, replay};
-pub use printed::{Answer, Digest, Numbers, Planes};
+pub use list::{List, each, over_streams, replay};
+pub use printed::{Answer, Digest, Left, Numbers, Planes};

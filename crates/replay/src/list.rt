@@ -1,13 +1,16 @@
 // A stored list, and the loop over its calls.
 ghost use Rattle.std.specs.Prelude.{◌≡◌, ℕ, ◌≤◌, length, take, min, vec_len, IfOk, OnOk};
-ghost use Rattle.replay.specs.Stored.{IsRead, IsNumber, IsWide, IsFilled, Repeats};
+ghost use Rattle.std.specs.List.{FoldsTo, range_with_len};
+ghost use Rattle.replay.specs.Stored.{IsRead, IsNumber, IsWide, IsFilled, Repeats, float_of, IsFloat, IsFrame, AreFilled};
+ghost use Rattle.std.specs.Io.KnownBytes.{Keeps};
+ghost use Rattle.std.specs.Io.Buffered.{reader_remaining, writer_contents};
+ghost use Rattle.replay.specs.Calls.{Gives, CallsAt, Prints};
 
 use super::Planes;
-use definitions::{FrameDescription, Window, YuvSettings};
+use definitions::FrameDescription;
 use std::alloc::Global;
 use std::io;
-use std::io::{Read, Write};
-use yuv_support::YuvStandardMatrix;
+use std::io::{BufReader, BufWriter, Read, Write};
 
 // A list, read one part after the other. Past its end each number is 0.
 #[derive(Drop)]
@@ -28,10 +31,11 @@ fn repeat(buffer: &mut [u8], block: usize)
 }
 
 // The float of these bits. Above the bits of infinity, the sign aside, are those of the NaNs: they give a NaN.
-fn float_of(bits: u32) -> f32 {
+fn float_of(bits: u32) -> f32
+    ensures { result ≡ float_of bits }
+{
     if bits % 0x8000_0000 > 0x7f80_0000 {
-        let zero: f32 = 0.0;
-        return zero / zero;
+        return f32::NAN;
     }
     f32::from_bits(bits)
 }
@@ -45,22 +49,27 @@ impl<R: Read + Drop> List<R> {
         Ok(())
     }
 
+    // The next so many bytes, or zeros past the list's end.
+    fn array<const N: usize>(&mut self) -> io::Result<[u8; N]>
+        ensures { IfOk result (IsRead (R.remaining self.old.from) (R.remaining self.new.from)) }
+    {
+        let mut bytes = [0; N];
+        self.bytes(&mut bytes)?;
+        Ok(bytes)
+    }
+
     // The next number: four bytes, low byte first.
     pub fn number(&mut self) -> io::Result<u32>
         ensures { IfOk result (IsNumber (R.remaining self.old.from) (R.remaining self.new.from)) }
     {
-        let mut bytes = [0u8; 4];
-        self.bytes(&mut bytes)?;
-        Ok(u32::from_le_bytes(bytes))
+        Ok(u32::from_le_bytes(self.array()?))
     }
 
     // The next two numbers as one of 64 bits, the low half first.
     pub fn wide(&mut self) -> io::Result<u64>
         ensures { IfOk result (IsWide (R.remaining self.old.from) (R.remaining self.new.from)) }
     {
-        let mut bytes = [0u8; 8];
-        self.bytes(&mut bytes)?;
-        Ok(u64::from_le_bytes(bytes))
+        Ok(u64::from_le_bytes(self.array()?))
     }
 
     // The next number, at most this one.
@@ -73,57 +82,23 @@ impl<R: Read + Drop> List<R> {
     }
 
     // The next number as the bits of a float.
-    pub fn float(&mut self) -> io::Result<f32> {
+    pub fn float(&mut self) -> io::Result<f32>
+        ensures { IfOk result (IsFloat (R.remaining self.old.from) (R.remaining self.new.from)) }
+    {
         Ok(float_of(self.number()?))
     }
 
-    // A code, then the bits of kr and kb; 6 is Custom.
-    fn matrix(&mut self) -> io::Result<YuvStandardMatrix> {
-        let code = self.number()?;
-        let kr = self.float()?;
-        let kb = self.float()?;
-        Ok(match code {
-            6 => YuvStandardMatrix::Custom(kr, kb),
-            _ => setting_codes::matrix_of(code),
-        })
-    }
-
-    // The numbers of a description, in their order.
-    pub fn frame(&mut self) -> io::Result<FrameDescription> {
-        let width = self.number()?;
-        let height = self.number()?;
-        let channels = setting_codes::channels_of(self.number()?);
-        let sampling = setting_codes::sampling_of(self.number()?);
-        let range = setting_codes::range_of(self.number()?);
-        let matrix = self.matrix()?;
-        let transfer = setting_codes::transfer_of(self.number()?);
-        let y_stride = self.number()?;
-        let u_stride = self.number()?;
-        let v_stride = self.number()?;
-        let rounding = setting_codes::rounding_of(self.number()?);
-        let window = Window {
-            left: self.number()?,
-            top: self.number()?,
-            source_width: self.number()?,
-            source_height: self.number()?,
-        };
-        let settings = YuvSettings {
-            channels,
-            sampling,
-            range,
-            matrix,
-            transfer,
-            rounding,
-        };
-        Ok(FrameDescription {
-            width,
-            height,
-            window,
-            settings,
-            y_stride,
-            u_stride,
-            v_stride,
-        })
+    // The numbers of a description, in their order; the bits of kr and kb stand behind the code of the matrix.
+    pub fn frame(&mut self) -> io::Result<FrameDescription>
+        ensures { IfOk result (IsFrame (R.remaining self.old.from) (R.remaining self.new.from)) }
+    {
+        let mut numbers = [0u32; 15];
+        let mut custom = [0f32; 2];
+        let (front, rest) = numbers.split_at_mut(6);
+        self.row(front, |list| list.number())?;
+        self.row(&mut custom, |list| list.float())?;
+        self.row(rest, |list| list.number())?;
+        Ok(call_numbers::describe(&numbers, &custom))
     }
 
     // Zeros, as many as the next number says, at most this many.
@@ -155,7 +130,10 @@ impl<R: Read + Drop> List<R> {
     }
 
     // Fills each plane so.
-    pub fn fill_planes(&mut self, planes: &mut Planes) -> io::Result<()> {
+    pub fn fill_planes(&mut self, planes: &mut Planes) -> io::Result<()>
+        ensures { OnOk result (AreFilled (R.remaining self.old.from) (R.remaining self.new.from)
+            planes.new.y.items planes.new.u.items planes.new.v.items) }
+    {
         self.fill(&mut planes.y)?;
         self.fill(&mut planes.u)?;
         self.fill(&mut planes.v)
@@ -168,6 +146,7 @@ impl<R: Read + Drop> List<R> {
         mut next: F,
     ) -> io::Result<()>
         requires { F.IsAlwaysCallable next }
+        ensures { OnOk result ((last : F) × FoldsTo (Gives F.FnMut) (next, self.old) places.new (last, self.new)) }
     {
         for place in places {
             *place = next(self)?;
@@ -183,6 +162,9 @@ pub fn each<R: Read + Drop, W: Write + Drop, F: FnMut(u32, &mut List<R>, &mut W)
     mut call: F,
 ) -> io::Result<()>
     requires { F.IsAlwaysCallable call }
+    ensures { OnOk result ((count : ℕ) × (first : List R) × (last : F)
+        × IsNumber (R.remaining list.old.from) (R.remaining first.from) count
+        × FoldsTo (CallsAt F.FnMut) (call, first, out.old) (range_with_len 1 count) (last, list.new, out.new)) }
 {
     let count = list.number()?;
     for place in 0..count {
@@ -192,12 +174,17 @@ pub fn each<R: Read + Drop, W: Write + Drop, F: FnMut(u32, &mut List<R>, &mut W)
 }
 
 // Makes each call of a list, and prints a line of each: its number, and what the call prints.
+// A loop of its own: over `each`, by a closure that prints around `call`, it did not prove that the closure may be called again and again.
 pub fn replay<R: Read + Drop, W: Write + Drop, F: FnMut(&mut List<R>, &mut W) -> io::Result<()>>(
     list: &mut List<R>,
     out: &mut W,
     mut call: F,
 ) -> io::Result<()>
     requires { F.IsAlwaysCallable call }
+    ensures { OnOk result ((count : ℕ) × (first : List R) × (last : F) × (written : W)
+        × IsNumber (R.remaining list.old.from) (R.remaining first.from) count
+        × FoldsTo (Prints F.FnMut W.contents) (call, first, out.old) (range_with_len 1 count) (last, list.new, written)
+        × Keeps (W.contents written) (W.contents out.new)) }
 {
     let count = list.number()?;
     for place in 0..count {
@@ -207,4 +194,86 @@ pub fn replay<R: Read + Drop, W: Write + Drop, F: FnMut(&mut List<R>, &mut W) ->
         out.write_all(b"\n")?;
     }
     out.flush()
+}
+
+// Makes and prints the calls of the list that a reader holds. Both streams go through buffers.
+pub fn over_streams<
+    I: Read + Drop,
+    O: Write + Drop,
+    F: FnMut(&mut List<BufReader<I>>, &mut BufWriter<O>) -> io::Result<()>,
+>(alloc: Global, input: I, output: O, call: F) -> io::Result<()>
+    requires { F.IsAlwaysCallable call }
+    ensures { OnOk result ((count : ℕ) × (first : List (BufReader I Global)) × (ended : List (BufReader I Global)) × (last : F)
+        × (begun : BufWriter O Global) × (written : BufWriter O Global) × (flushed : BufWriter O Global)
+        × IsNumber (I.remaining input) (reader_remaining I.remaining first.from) count
+        × (writer_contents O.contents begun ≡ O.contents output)
+        × FoldsTo (Prints F.FnMut (writer_contents O.contents)) (call, first, begun) (range_with_len 1 count) (last, ended, written)
+        × Keeps (writer_contents O.contents written) (writer_contents O.contents flushed)) }
+{
+    let from = BufReader::new(alloc, input)?;
+    let mut list = List { from, alloc };
+    let mut out = BufWriter::new(alloc, output)?;
+    replay(&mut list, &mut out, call)
+}
+
+#[cfg(test)]
+mod tests {
+    use super::*;
+    use std::test::Fail;
+
+    #[test]
+    fn a_buffer_is_as_long_as_the_list_says(rt: HostRuntime) -> Result<(), Fail> {
+        let from: &[u8] = &[3, 0, 0, 0, 9, 0, 0, 0];
+        let mut list = List {
+            from,
+            alloc: rt.alloc(),
+        };
+        let first = list.buffer(5)?;
+        let second = list.buffer(5)?;
+        assert_eq!(rt; first.as_slice(), [0, 0, 0].as_slice());
+        assert_eq!(rt; second.len(), 5);
+        Ok(())
+    }
+
+    #[test]
+    fn each_plane_is_as_long_as_the_list_says(rt: HostRuntime) -> Result<(), Fail> {
+        let from: &[u8] = &[4, 0, 0, 0, 2, 0, 0, 0, 1, 0, 0, 0];
+        let mut list = List {
+            from,
+            alloc: rt.alloc(),
+        };
+        let planes = list.planes(9)?;
+        assert_eq!(rt; planes.y.len(), 4);
+        assert_eq!(rt; planes.u.len(), 2);
+        assert_eq!(rt; planes.v.len(), 1);
+        Ok(())
+    }
+
+    #[test]
+    fn each_call_has_its_line(rt: HostRuntime) -> Result<(), Fail> {
+        let from: &[u8] = &[2, 0, 0, 0, 7, 0, 0, 0, 8, 0, 0, 0];
+        let mut list = List {
+            from,
+            alloc: rt.alloc(),
+        };
+        let mut out = Vec::new(rt.alloc());
+        replay(&mut list, &mut out, |list, out| {
+            let number = list.number()?;
+            write!(out, " {number}")
+        })?;
+        assert_eq!(rt; out.as_slice(), b"1 7\n2 8\n".as_slice());
+        Ok(())
+    }
+
+    #[test]
+    fn streams_are_read_and_written_through_buffers(rt: HostRuntime) -> Result<(), Fail> {
+        let from: &[u8] = &[2, 0, 0, 0, 7, 0, 0, 0, 8, 0, 0, 0];
+        let mut out = Vec::new(rt.alloc());
+        over_streams(rt.alloc(), from, &mut out, |list, out| {
+            let number = list.number()?;
+            write!(out, " {number}")
+        })?;
+        assert_eq!(rt; out.as_slice(), b"1 7\n2 8\n".as_slice());
+        Ok(())
+    }
 }

@@ -54,6 +54,23 @@ impl fmt::Display for Answer {
     }
 }
 
+// What a call that writes answered, the size that it told, and the digest of its output as it left it: all three are printed in each case, so no `Result`.
+#[derive(Clone, Copy)]
+pub struct Left<'a> {
+    pub answer: Result<(), YuvError>,
+    pub size: usize,
+    pub output: &'a [u8],
+}
+
+impl fmt::Display for Left<'_> {
+    fn fmt<W: fmt::Write>(&self, f: &mut fmt::Formatter<W>) -> fmt::Result {
+        let answer = Answer(self.answer);
+        let size = self.size;
+        let output = Digest(self.output);
+        write!(f, "{answer} size={size} output={output}")
+    }
+}
+
 // The CRC-32 of zlib and PNG of some bytes, as eight digits.
 #[derive(Clone, Copy)]
 pub struct Digest<'a>(pub &'a [u8]);
@@ -112,4 +129,28 @@ fn crc32(bytes: &[u8]) -> u32 {
         crc = crc32_of_byte(crc, *byte);
     }
     crc ^ 0xFFFF_FFFF
+}
+
+#[cfg(test)]
+mod tests {
+    use super::*;
+    use std::test::Fail;
+
+    #[test]
+    fn planes_are_zeros(rt: HostRuntime) -> Result<(), Fail> {
+        let planes = Planes::new(rt.alloc(), 3)?;
+        assert_eq!(rt; planes.y.as_slice(), [0, 0, 0].as_slice());
+        assert_eq!(rt; planes.u.as_slice(), [0, 0, 0].as_slice());
+        assert_eq!(rt; planes.v.as_slice(), [0, 0, 0].as_slice());
+        Ok(())
+    }
+
+    // The check value of this CRC, which its catalogues give for these nine digits.
+    #[test]
+    fn a_digest_is_the_crc_of_zlib(rt: HostRuntime) -> Result<(), Fail> {
+        let digest = Digest(b"123456789");
+        let text = format!(in rt.alloc(); "{digest}")?;
+        assert_eq!(rt; text.as_str(), "cbf43926");
+        Ok(())
+    }
 }

@@ -3,7 +3,7 @@
 
 use replay::{List, Planes};
 use std::io;
-use std::io::{BufReader, BufWriter, Read, Write};
+use std::io::{Read, Write};
 
 // The most bytes of a buffer.
 const ROOM: usize = 65536;
@@ -76,9 +76,5 @@ fn call<R: Read + Drop, W: Write + Drop>(list: &mut List<R>, out: &mut W) -> io:
 }
 
 fn main(rt: HostRuntime) -> io::Result<()> {
-    let alloc = rt.alloc();
-    let from = BufReader::new(alloc, rt.reader())?;
-    let mut list = List { from, alloc };
-    let mut out = BufWriter::new(alloc, io::writer(&rt))?;
-    replay::replay(&mut list, &mut out, |list, out| call(list, out))
+    replay::over_streams(rt.alloc(), rt.reader(), io::writer(&rt), call)
 }

@@ -8,33 +8,38 @@
 #![tactic(auto)]
 
 use replay_text::Reply;
-use std::io;
-use std::io::{BufReader, BufWriter, Write};
+use std::io::Write;
+use std::{fmt, io};
 
 // The lines of black and white of either range, and of the middle, where there are lines.
-fn print_lines<W: Write + Drop>(reply: &[u8], out: &mut W) -> io::Result<()> {
-    if reply.len() > 40 {
-        for (luma, line) in reply.split(|b| *b == b'\n').enumerate() {
-            if matches!(luma, 0 | 16 | 128 | 235 | 255) {
-                out.write_all(b", ")?;
-                out.write_all(line)?;
+#[derive(Clone, Copy)]
+struct Lines<'a>(&'a [u8]);
+
+impl fmt::Display for Lines<'_> {
+    fn fmt<W: fmt::Write>(&self, f: &mut fmt::Formatter<W>) -> fmt::Result {
+        if self.0.len() > 40 {
+            for (luma, line) in self.0.split(|b| *b == b'\n').enumerate() {
+                if matches!(luma, 0 | 16 | 128 | 235 | 255) {
+                    write!(f, ", ")?;
+                    for byte in line {
+                        let letter = char::from(*byte);
+                        write!(f, "{letter}")?;
+                    }
+                }
             }
         }
+        Ok(())
     }
-    Ok(())
 }
 
 fn reply<W: Write + Drop>(request: &[u8], out: &mut W) -> io::Result<()> {
     let mut output = [0; 3328];
     let size = counts_request::reply_to(request, &mut output);
     let reply = Reply(&output[..size]);
-    write!(out, "{reply}")?;
-    print_lines(&output[..size], out)
+    let lines = Lines(&output[..size]);
+    write!(out, "{reply}{lines}")
 }
 
 fn main(rt: HostRuntime) -> io::Result<()> {
-    let alloc = rt.alloc();
-    let text = BufReader::new(alloc, rt.reader())?;
-    let mut out = BufWriter::new(alloc, io::writer(&rt))?;
-    replay_text::replay(alloc, text, &mut out, |request, out| reply(request, out))
+    replay_text::over_streams(rt.alloc(), rt.reader(), io::writer(&rt), reply)
 }

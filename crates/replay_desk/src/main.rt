@@ -109,13 +109,6 @@ fn bytes_of(alloc: Global, desk: &Desk) -> Result<Vec<u8>, AllocError> {
     Ok(bytes)
 }
 
-// The digest of the desk, and the end of the line.
-fn print_desk<W: Write + Drop>(alloc: Global, desk: &Desk, out: &mut W) -> io::Result<()> {
-    let bytes = bytes_of(alloc, desk)?;
-    let digest = Digest(&bytes);
-    writeln!(out, " desk={digest}")
-}
-
 impl fmt::Display for Buffers {
     fn fmt<W: fmt::Write>(&self, f: &mut fmt::Formatter<W>) -> fmt::Result {
         let planes = &self.planes;
@@ -131,6 +124,7 @@ fn open<R: Read + Drop, W: Write + Drop>(
     desk: &mut Desk,
     out: &mut W,
 ) -> io::Result<()> {
+    // Arrays of these lengths, as the calls take them; each is filled whole, and so is an offer's.
     let mut custom = [0f32; 2];
     let mut frame_parts = [0u64; 8];
     let mut lengths = [0u64; 4];
@@ -226,7 +220,7 @@ fn deliver<R: Read + Drop>(list: &mut List<R>, source: &mut [u8]) -> io::Result<
     list.fill(&mut part[..length])
 }
 
-// A call of this kind, and its line.
+// A call of this kind, and its line, which ends with the digest of the desk. The stored list says the kind by a number: here it becomes the call.
 fn call<R: Read + Drop, W: Write + Drop>(
     kind: u32,
     list: &mut List<R>,
@@ -239,7 +233,9 @@ fn call<R: Read + Drop, W: Write + Drop>(
         STEP => step(list, desk, buffers, out)?,
         _ => offer(list, desk, out)?,
     }
-    print_desk(list.alloc, desk, out)
+    let bytes = bytes_of(list.alloc, desk)?;
+    let digest = Digest(&bytes);
+    writeln!(out, " desk={digest}")
 }
 
 // The buffers, the desk, and what is asked, all of it on these.

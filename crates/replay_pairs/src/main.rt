@@ -3,7 +3,8 @@
 
 use replay::{Answer, List, Numbers};
 use std::io;
-use std::io::{BufReader, BufWriter, Read, Write};
+use std::io::{Read, Write};
+use yuv_error::YuvError;
 
 // The most bytes of a file.
 const ROOM: usize = 65536;
@@ -21,16 +22,12 @@ fn call<R: Read + Drop, W: Write + Drop>(list: &mut List<R>, out: &mut W) -> io:
     let pairing = shift_pairs::pair_files(our_form, &ours, their_form, &theirs);
     let mut numbers = [BEFORE; 18];
     report_numbers::tell_pairing(pairing, &mut numbers);
-    let answer = Answer(pairing.answer);
-    let broken = pairing.broken;
+    let broken = pairing.err().map_or(0, u32::from);
+    let answer = Answer(pairing.map(|_| ()).map_err(YuvError::from));
     let report = Numbers(&numbers);
     write!(out, "{answer} broken={broken} report{report}")
 }
 
 fn main(rt: HostRuntime) -> io::Result<()> {
-    let alloc = rt.alloc();
-    let from = BufReader::new(alloc, rt.reader())?;
-    let mut list = List { from, alloc };
-    let mut out = BufWriter::new(alloc, io::writer(&rt))?;
-    replay::replay(&mut list, &mut out, |list, out| call(list, out))
+    replay::over_streams(rt.alloc(), rt.reader(), io::writer(&rt), call)
 }

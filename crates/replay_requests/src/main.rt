@@ -9,7 +9,7 @@
 
 use replay_text::Reply;
 use std::io;
-use std::io::{BufReader, BufWriter, Write};
+use std::io::Write;
 
 fn reply<W: Write + Drop>(request: &[u8], out: &mut W) -> io::Result<()> {
     let mut output = [0; 49152];
@@ -19,8 +19,5 @@ fn reply<W: Write + Drop>(request: &[u8], out: &mut W) -> io::Result<()> {
 }
 
 fn main(rt: HostRuntime) -> io::Result<()> {
-    let alloc = rt.alloc();
-    let text = BufReader::new(alloc, rt.reader())?;
-    let mut out = BufWriter::new(alloc, io::writer(&rt))?;
-    replay_text::replay(alloc, text, &mut out, |request, out| reply(request, out))
+    replay_text::over_streams(rt.alloc(), rt.reader(), io::writer(&rt), reply)
 }

@@ -1,14 +1,13 @@
 // Makes the calls on shift files of a stored list, its standard input, and prints a line of what came of each. vectors/README.md has both forms.
 #![tactic(auto)]
 
-use replay::{Answer, Digest, List, Numbers};
+use replay::{Answer, Left, List, Numbers};
 use shift_file::{SettingCodes, ShiftForm};
-use shift_reader::EntryKind;
+use shift_reader::{EntryKind, ShiftReading};
 use shift_record::RecordFrame;
-use shift_writer::ShiftWritten;
-use std::io::{BufReader, BufWriter, Read, Write};
-use std::{fmt, io};
-use yuv_error::YuvError;
+use shift_writer::NotWritten;
+use std::io;
+use std::io::{Read, Write};
 
 // The most bytes of a file that is read, which may have 4,097 records, and of any other buffer.
 const FILE: usize = 131072;
@@ -20,27 +19,9 @@ const NUMBERS: usize = 44;
 
 const BEFORE: u64 = 9;
 
-#[derive(Clone, Copy)]
-struct Written(ShiftWritten);
-
-impl fmt::Display for Written {
-    fn fmt<W: fmt::Write>(&self, f: &mut fmt::Formatter<W>) -> fmt::Result {
-        let answer = Answer(self.0.answer);
-        let size = self.0.size;
-        write!(f, "{answer} size={size}")
-    }
-}
-
-// What is printed of the form of a file; 0 after a refusal.
-fn form_number(answer: Result<(), YuvError>, form: ShiftForm) -> u32 {
-    match (answer, form) {
-        (Ok(()), ShiftForm::WithSettings) => 1,
-        _ => 0,
-    }
-}
-
+// Reads the records of a file: those of an entry's kind, of a file in either form where the settings are told too.
 fn read<R: Read + Drop, W: Write + Drop>(
-    either: bool,
+    kind: EntryKind,
     list: &mut List<R>,
     out: &mut W,
 ) -> io::Result<()> {
@@ -48,38 +29,44 @@ fn read<R: Read + Drop, W: Write + Drop>(
     let first = list.wide()? as usize;
     let room = list.room(NUMBERS)?;
     list.fill(&mut file)?;
-    let (kind, form) = if either {
-        (EntryKind::PlacesAndSettings, shift_file::form_of(&file))
-    } else {
-        (EntryKind::Places, ShiftForm::WithoutSettings)
+    let form = match kind {
+        EntryKind::Places => ShiftForm::WithoutSettings,
+        EntryKind::PlacesAndSettings => shift_file::form_of(&file),
     };
     let mut entries = vec![in list.alloc; BEFORE; room]?;
     let reading = shift_reader::read_records(kind, form, &file, first, &mut entries);
-    let answer = Answer(reading.answer);
-    let count = reading.count;
-    let told = reading.told;
+    let answer = Answer(reading.map(|_| ()));
+    // Both 0 with a refusal.
+    let ShiftReading { count, told } = reading.unwrap_or(ShiftReading { count: 0, told: 0 });
     write!(out, "{answer} count={count} told={told}")?;
-    if either {
-        let number = form_number(reading.answer, form);
-        write!(out, " form={number}")?;
+    if kind == EntryKind::PlacesAndSettings {
+        // 1 for a file with settings; 0 after a refusal too.
+        let form = u32::from(reading.is_ok() && form == ShiftForm::WithSettings);
+        write!(out, " form={form}")?;
     }
     let entries = Numbers(&entries);
     write!(out, " entries{entries}")
 }
 
-// The two buffers of a call that writes into the second.
-fn fill_two<R: Read + Drop>(list: &mut List<R>) -> io::Result<(Vec<u8>, Vec<u8>)> {
+// Makes a call that reads the first of two buffers and writes into the second.
+fn convert<
+    R: Read + Drop,
+    W: Write + Drop,
+    F: FnOnce(&[u8], &mut [u8]) -> Result<usize, NotWritten>,
+>(list: &mut List<R>, out: &mut W, make: F) -> io::Result<()>
+    requires { F.IsAlwaysCallable make }
+{
     let mut input = list.buffer(ROOM)?;
     let mut output = list.buffer(ROOM)?;
     list.fill(&mut input)?;
     list.fill(&mut output)?;
-    Ok((input, output))
-}
-
-fn print<W: Write + Drop>(written: ShiftWritten, output: &[u8], out: &mut W) -> io::Result<()> {
-    let written = Written(written);
-    let output = Digest(output);
-    write!(out, "{written} output={output}")
+    let written = make(&input, &mut output);
+    let left = Left {
+        answer: shift_writer::outcome_of(written),
+        size: shift_writer::size_of(written),
+        output: &output,
+    };
+    write!(out, "{left}")
 }
 
 fn write<R: Read + Drop, W: Write + Drop>(
@@ -87,24 +74,11 @@ fn write<R: Read + Drop, W: Write + Drop>(
     list: &mut List<R>,
     out: &mut W,
 ) -> io::Result<()> {
-    let (records, mut output) = fill_two(list)?;
-    let written = shift_writer::write_file(form, &records, &mut output);
-    print(written, &output, out)
-}
-
-fn move_forward<R: Read + Drop, W: Write + Drop>(
-    list: &mut List<R>,
-    out: &mut W,
-) -> io::Result<()> {
-    let (file, mut output) = fill_two(list)?;
-    let written = shift_move::move_forward(&file, &mut output);
-    print(written, &output, out)
-}
-
-fn move_back<R: Read + Drop, W: Write + Drop>(list: &mut List<R>, out: &mut W) -> io::Result<()> {
-    let (file, mut output) = fill_two(list)?;
-    let written = shift_move::move_back(&file, &mut output);
-    print(written, &output, out)
+    convert(
+        list,
+        out,
+        |records, output| shift_writer::write_file(form, records, output),
+    )
 }
 
 fn read_codes<R: Read + Drop>(list: &mut List<R>, form: ShiftForm) -> io::Result<SettingCodes> {
@@ -155,26 +129,28 @@ fn write_record<R: Read + Drop, W: Write + Drop>(
     list.fill_planes(&mut planes)?;
     list.fill(&mut output)?;
     let written = shift_record::write_record(frame, &planes.y, &planes.u, &planes.v, &mut output);
-    print(written, &output, out)
+    let left = Left {
+        answer: shift_writer::outcome_of(written),
+        size: shift_writer::size_of(written),
+        output: &output,
+    };
+    write!(out, "{left}")
 }
 
+// The stored list says which call it is by a number: here the number becomes the call.
 fn call<R: Read + Drop, W: Write + Drop>(list: &mut List<R>, out: &mut W) -> io::Result<()> {
     match list.number()? {
-        0 => read(false, list, out),
+        0 => read(EntryKind::Places, list, out),
         1 => write(ShiftForm::WithoutSettings, list, out),
         2 => write_record(ShiftForm::WithoutSettings, list, out),
-        3 => read(true, list, out),
+        3 => read(EntryKind::PlacesAndSettings, list, out),
         4 => write(ShiftForm::WithSettings, list, out),
         5 => write_record(ShiftForm::WithSettings, list, out),
-        6 => move_forward(list, out),
-        _ => move_back(list, out),
+        6 => convert(list, out, shift_move::move_forward),
+        _ => convert(list, out, shift_move::move_back),
     }
 }
 
 fn main(rt: HostRuntime) -> io::Result<()> {
-    let alloc = rt.alloc();
-    let from = BufReader::new(alloc, rt.reader())?;
-    let mut list = List { from, alloc };
-    let mut out = BufWriter::new(alloc, io::writer(&rt))?;
-    replay::replay(&mut list, &mut out, |list, out| call(list, out))
+    replay::over_streams(rt.alloc(), rt.reader(), io::writer(&rt), call)
 }

@@ -2,22 +2,21 @@
 #![tactic(auto)]
 
 use replay::{Answer, Digest, List};
-use std::io::{BufReader, BufWriter, Read, Write};
+use std::io::{Read, Write};
 use std::{fmt, io};
-use summary_calls::FoundRecord;
 
 // The most bytes of a file and of a summary.
 const ROOM: usize = 65536;
 
 // The record that a lookup found, if any.
 #[derive(Clone, Copy)]
-struct Found(FoundRecord);
+struct Found(Option<usize>);
 
 impl fmt::Display for Found {
     fn fmt<W: fmt::Write>(&self, f: &mut fmt::Formatter<W>) -> fmt::Result {
         match self.0 {
-            FoundRecord::At(record) => write!(f, " found=1 record={record}"),
-            FoundRecord::Nowhere => write!(f, " found=0 record=0"),
+            Some(record) => write!(f, " found=1 record={record}"),
+            None => write!(f, " found=0 record=0"),
         }
     }
 }
@@ -31,8 +30,8 @@ fn build<W: Write + Drop>(file: &[u8], summary: &mut [u8], out: &mut W) -> io::R
 
 fn check<W: Write + Drop>(file: &[u8], summary: &[u8], out: &mut W) -> io::Result<()> {
     let verdict = summary_calls::check_summary(shift_file::form_of(file), file, summary);
-    let answer = Answer(verdict.answer);
-    let yes = u8::from(verdict.is_summary);
+    let answer = Answer(verdict.map(|_| ()));
+    let yes = u8::from(verdict.unwrap_or(false));
     write!(out, "{answer} yes={yes}")
 }
 
@@ -44,8 +43,8 @@ fn find<W: Write + Drop>(
 ) -> io::Result<()> {
     let form = shift_file::form_of(file);
     let finding = summary_calls::find_record(form, file, summary, crossing);
-    let answer = Answer(finding.answer);
-    let found = Found(finding.found);
+    let answer = Answer(finding.map(|_| ()));
+    let found = Found(finding.unwrap_or(None));
     write!(out, "{answer}{found}")
 }
 
@@ -80,6 +79,7 @@ fn call_on_two<R: Read + Drop, W: Write + Drop>(
     }
 }
 
+// The stored list says which call it is by a number: here the number becomes the call.
 fn call<R: Read + Drop, W: Write + Drop>(list: &mut List<R>, out: &mut W) -> io::Result<()> {
     match list.number()? {
         3 => update(list, out),
@@ -88,9 +88,5 @@ fn call<R: Read + Drop, W: Write + Drop>(list: &mut List<R>, out: &mut W) -> io:
 }
 
 fn main(rt: HostRuntime) -> io::Result<()> {
-    let alloc = rt.alloc();
-    let from = BufReader::new(alloc, rt.reader())?;
-    let mut list = List { from, alloc };
-    let mut out = BufWriter::new(alloc, io::writer(&rt))?;
-    replay::replay(&mut list, &mut out, |list, out| call(list, out))
+    replay::over_streams(rt.alloc(), rt.reader(), io::writer(&rt), call)
 }

@@ -5,11 +5,15 @@
 //     one colour, 128 by 128 | 80 00 80 00 00 00 00 00 00 10 20 30 * 49161
 #![tactic(auto)]
 
-ghost use Rattle.std.specs.Prelude.{◌≡◌, ◌≢◌, ℕ, ◌<◌, ◌↔◌, All, length, slice_index, IfSome, IsNone};
+ghost use Rattle.std.specs.Prelude.{◌≡◌, ◌≢◌, ℕ, List, ◌<◌, ◌↔◌, ◌++◌, ◌-◌, ◌^◌, All, length, slice_index, min, IfSome, IsNone, OnOk, codes, decimal};
+ghost use Rattle.std.specs.List.{FoldsTo};
+ghost use Rattle.std.specs.Io.KnownBytes.{Appends, Keeps, IsAtEnd};
+ghost use Rattle.std.specs.Io.Buffered.{writer_contents};
+ghost use Rattle.replay_text.specs.Lines.{IsCut, AreLines, Replies};
 
 use replay::Digest;
 use std::alloc::{AllocError, Global};
-use std::io::{BufRead, Write};
+use std::io::{BufRead, BufReader, BufWriter, Read, Write};
 use std::{fmt, io};
 
 // How many bytes of a request stand before those that come again.
@@ -25,7 +29,9 @@ pub fn find(text: &[u8], byte: u8) -> Option<usize>
 }
 
 // What stands before the first such byte and what stands behind it, or all and nothing.
-fn cut(text: &[u8], byte: u8) -> (&[u8], &[u8]) {
+fn cut(text: &[u8], byte: u8) -> (&[u8], &[u8])
+    ensures { IsCut byte text.now result.0.now result.1.now }
+{
     match find(text, byte) {
         Some(i) => (&text[..i], &text[i + 1..]),
         None => (text, &[]),
@@ -107,6 +113,11 @@ pub fn replay<T: BufRead + Drop, W: Write + Drop, F: FnMut(&[u8], &mut W) -> io:
     mut call: F,
 ) -> io::Result<()>
     requires { F.IsAlwaysCallable call }
+    ensures { OnOk result ((lines : List (List ℕ)) × (last : F) × (replied : W) × (counted : W)
+        × AreLines (T.remaining text) lines
+        × FoldsTo (Replies F.FnMut W.contents) (call, out.old) lines (last, replied)
+        × Appends (W.contents replied) (W.contents counted) (decimal (min (length lines) (2 ^ 64 - 1)) ++ codes " requests\n")
+        × Keeps (W.contents counted) (W.contents out.new)) }
 {
     let mut count = 0u64;
     for line in text.split(alloc, b'\n') {
@@ -121,4 +132,57 @@ pub fn replay<T: BufRead + Drop, W: Write + Drop, F: FnMut(&[u8], &mut W) -> io:
     }
     writeln!(out, "{count} requests")?;
     out.flush()
+}
+
+// Makes and prints the requests of the text that a reader holds. Both streams go through buffers.
+pub fn over_streams<
+    I: Read + Drop,
+    O: Write + Drop,
+    F: FnMut(&[u8], &mut BufWriter<O>) -> io::Result<()>,
+>(alloc: Global, input: I, output: O, call: F) -> io::Result<()>
+    requires { F.IsAlwaysCallable call }
+    ensures { OnOk result ((lines : List (List ℕ)) × (last : F)
+        × (begun : BufWriter O Global) × (replied : BufWriter O Global) × (counted : BufWriter O Global) × (flushed : BufWriter O Global)
+        × AreLines (I.remaining input) lines
+        × (writer_contents O.contents begun ≡ O.contents output)
+        × FoldsTo (Replies F.FnMut (writer_contents O.contents)) (call, begun) lines (last, replied)
+        × Appends (writer_contents O.contents replied) (writer_contents O.contents counted)
+        (decimal (min (length lines) (2 ^ 64 - 1)) ++ codes " requests\n")
+        × Keeps (writer_contents O.contents counted) (writer_contents O.contents flushed)) }
+{
+    let text = BufReader::new(alloc, input)?;
+    let mut out = BufWriter::new(alloc, output)?;
+    replay(alloc, text, &mut out, call)
+}
+
+#[cfg(test)]
+mod tests {
+    use super::*;
+    use std::test::Fail;
+
+    #[test]
+    fn each_line_is_answered(rt: HostRuntime) -> Result<(), Fail> {
+        let text: &[u8] = b"two | 01 FF\nlong | 01 02 03 04 05 06 07 08 09 0A * 12\n";
+        let mut out = Vec::new(rt.alloc());
+        replay(rt.alloc(), text, &mut out, |request, out| {
+            let reply = Reply(request);
+            write!(out, "{reply}")
+        })?;
+        let said = b"two | 2 bytes 01ff\nlong | 12 bytes 0102030405060708090a0a0a\n2 requests\n";
+        assert_eq!(rt; out.as_slice(), said.as_slice());
+        Ok(())
+    }
+
+    #[test]
+    fn streams_are_read_and_written_through_buffers(rt: HostRuntime) -> Result<(), Fail> {
+        let text: &[u8] = b"two | 01 FF\none | 7A";
+        let mut out = Vec::new(rt.alloc());
+        over_streams(rt.alloc(), text, &mut out, |request, out| {
+            let reply = Reply(request);
+            write!(out, "{reply}")
+        })?;
+        let said = b"two | 2 bytes 01ff\none | 1 bytes 7a\n2 requests\n";
+        assert_eq!(rt; out.as_slice(), said.as_slice());
+        Ok(())
+    }
 }

@@ -1,12 +1,12 @@
 // Makes the calls on Y4M files of a stored list, its standard input, and prints a line of what came of each. vectors/README.md has both forms.
 #![tactic(auto)]
 
-use replay::{Answer, Digest, List, Numbers};
-use std::io::{BufReader, BufWriter, Read, Write};
+use replay::{Answer, Left, List, Numbers};
+use std::io::{Read, Write};
 use std::{fmt, io};
 use y4m_picture::PictureFrame;
 use y4m_reader::Y4mReading;
-use y4m_writer::Y4mWritten;
+use yuv_error::YuvError;
 
 // The most bytes of a file that is read, and of any other buffer.
 const FILE: usize = 131072;
@@ -19,29 +19,27 @@ const NUMBERS: usize = 36;
 const BEFORE: u64 = 9;
 
 #[derive(Clone, Copy)]
-struct Reading(Y4mReading);
+struct Reading(Result<Y4mReading, YuvError>);
 
 impl fmt::Display for Reading {
     fn fmt<W: fmt::Write>(&self, f: &mut fmt::Formatter<W>) -> fmt::Result {
-        let answer = Answer(self.0.answer);
-        let width = self.0.width;
-        let height = self.0.height;
-        let sampling = self.0.sampling;
-        let count = self.0.count;
-        let told = self.0.told;
+        let answer = Answer(self.0.map(|_| ()));
+        // Each of these is 0 with a refusal.
+        let Y4mReading {
+            width,
+            height,
+            sampling,
+            count,
+            told,
+        } = self.0.unwrap_or(Y4mReading {
+            width: 0,
+            height: 0,
+            sampling: 0,
+            count: 0,
+            told: 0,
+        });
         write!(f, "{answer} width={width} height={height}")?;
         write!(f, " sampling={sampling} count={count} told={told}")
-    }
-}
-
-#[derive(Clone, Copy)]
-struct Written(Y4mWritten);
-
-impl fmt::Display for Written {
-    fn fmt<W: fmt::Write>(&self, f: &mut fmt::Formatter<W>) -> fmt::Result {
-        let answer = Answer(self.0.answer);
-        let size = self.0.size;
-        write!(f, "{answer} size={size}")
     }
 }
 
@@ -65,9 +63,12 @@ fn write<R: Read + Drop, W: Write + Drop>(list: &mut List<R>, out: &mut W) -> io
     list.fill(&mut pictures)?;
     list.fill(&mut output)?;
     let written = y4m_writer::write_pictures(sampling, width, height, &pictures, &mut output);
-    let written = Written(written);
-    let output = Digest(&output);
-    write!(out, "{written} output={output}")
+    let left = Left {
+        answer: shift_writer::outcome_of(written),
+        size: shift_writer::size_of(written),
+        output: &output,
+    };
+    write!(out, "{left}")
 }
 
 fn read_frame<R: Read + Drop>(list: &mut List<R>) -> io::Result<PictureFrame> {
@@ -91,11 +92,15 @@ fn write_picture<R: Read + Drop, W: Write + Drop>(
     list.fill_planes(&mut planes)?;
     list.fill(&mut output)?;
     let written = y4m_picture::write_picture(frame, &planes.y, &planes.u, &planes.v, &mut output);
-    let written = Written(written);
-    let output = Digest(&output);
-    write!(out, "{written} output={output}")
+    let left = Left {
+        answer: shift_writer::outcome_of(written),
+        size: shift_writer::size_of(written),
+        output: &output,
+    };
+    write!(out, "{left}")
 }
 
+// The stored list says which call it is by a number: here the number becomes the call.
 fn call<R: Read + Drop, W: Write + Drop>(list: &mut List<R>, out: &mut W) -> io::Result<()> {
     match list.number()? {
         0 => read(list, out),
@@ -105,9 +110,5 @@ fn call<R: Read + Drop, W: Write + Drop>(list: &mut List<R>, out: &mut W) -> io:
 }
 
 fn main(rt: HostRuntime) -> io::Result<()> {
-    let alloc = rt.alloc();
-    let from = BufReader::new(alloc, rt.reader())?;
-    let mut list = List { from, alloc };
-    let mut out = BufWriter::new(alloc, io::writer(&rt))?;
-    replay::replay(&mut list, &mut out, |list, out| call(list, out))
+    replay::over_streams(rt.alloc(), rt.reader(), io::writer(&rt), call)
 }

@@ -1,22 +1,14 @@
 -- The eighteen numbers of a report: docs/RULES.md, 10.7.
 -- Assumes nothing.
 use Rattle.std.specs.Prelude.{ℕ, List, [], ◌∷◌, Option, Some, None, Result, Ok, Err}
-use Rattle.yuv_error.specs.declared.YuvError.{YuvError}
 use Rattle.setting_codes.specs.Codes.{sampling_code}
-use Rattle.record_difference.specs.declared.Plane.{Plane}
-use Rattle.record_difference.specs.declared.Plane.TheVariants.{Y, U, «V»}
 use Rattle.record_difference.specs.declared.Difference.{Difference}
 use Rattle.record_difference.specs.declared.Difference.TheVariants.{Sizes, At}
+use Rattle.record_difference.specs.Record.{plane_number}
 use Rattle.shift_pairs.specs.declared.DifferingPair.{DifferingPair}
 use Rattle.shift_pairs.specs.declared.PairReport.{PairReport}
-use Rattle.shift_pairs.specs.declared.Pairing.{Pairing}
+use Rattle.shift_pairs.specs.declared.BrokenFile.{BrokenFile}
 use Rattle.report_numbers.specs.declared.DifferenceNumbers.{DifferenceNumbers}
-
--- RULES 10.7
-abbrev pub plane_number : Plane → ℕ
-plane_number Y = 0
-plane_number U = 1
-plane_number «V» = 2
 
 -- RULES 10.7: sizes are kind 1, a place is kind 2
 abbrev pub difference_numbers : Difference → DifferenceNumbers
@@ -59,10 +51,6 @@ unfoldable pub report_numbers : PairReport → List ℕ
 report_numbers r = r.equal ∷ r.differing ∷ r.only_ours ∷ r.only_theirs ∷ first_numbers r.first
 
 -- RULES 10.7: what the lent numbers are after a call
-abbrev pub numbers_after : Result Unit YuvError → PairReport → (before : List ℕ) → List ℕ
-numbers_after (Ok done) r before = report_numbers r
-numbers_after (Err e) r before = before
-
--- RULES 10.7
-abbrev pub pairing_numbers : Pairing → (before : List ℕ) → List ℕ
-pairing_numbers p before = numbers_after p.answer p.report before
+abbrev pub pairing_numbers : Result PairReport BrokenFile → (before : List ℕ) → List ℕ
+pairing_numbers (Ok report) before = report_numbers report
+pairing_numbers (Err broken) before = before

@@ -2,10 +2,10 @@
 #![tactic(auto)]
 
 ghost use Rattle.std.specs.Prelude.{◌≡◌};
-ghost use Rattle.report_numbers.specs.Numbers.{plane_number, difference_numbers, first_numbers, report_numbers, pairing_numbers};
+ghost use Rattle.report_numbers.specs.Numbers.{first_numbers, report_numbers, pairing_numbers};
 
-use record_difference::{Difference, Plane};
-use shift_pairs::{DifferingPair, PairReport, Pairing};
+use record_difference::Difference;
+use shift_pairs::{BrokenFile, DifferingPair, PairReport};
 
 // A difference: its kind, and the numbers that the kind names; the others are 0.
 #[derive(Clone, Copy, Debug, PartialEq, Eq)]
@@ -22,17 +22,6 @@ pub struct DifferenceNumbers {
     pub their_sampling: u64,
 }
 
-// A match, no `From`: type and number are of other crates.
-fn plane_number(plane: Plane) -> u64
-    ensures { result ≡ plane_number plane }
-{
-    match plane {
-        Plane::Y => 0,
-        Plane::U => 1,
-        Plane::V => 2,
-    }
-}
-
 const NO_NUMBERS: DifferenceNumbers = DifferenceNumbers {
     kind: 0,
     our_width: 0,
@@ -46,42 +35,47 @@ const NO_NUMBERS: DifferenceNumbers = DifferenceNumbers {
     their_sampling: 0,
 };
 
-fn difference_numbers(difference: Difference) -> DifferenceNumbers
-    ensures { result ≡ difference_numbers difference }
-{
-    match difference {
-        Difference::Sizes(ours, theirs) => DifferenceNumbers {
-            kind: 1,
-            our_width: ours.width as u64,
-            our_height: ours.height as u64,
-            their_width: theirs.width as u64,
-            their_height: theirs.height as u64,
-            our_sampling: setting_codes::sampling_code(ours.sampling) as u64,
-            their_sampling: setting_codes::sampling_code(theirs.sampling) as u64,
-            ..NO_NUMBERS
-        },
-        Difference::At(place) => DifferenceNumbers {
-            kind: 2,
-            plane: plane_number(place.plane),
-            row: place.row as u64,
-            column: place.column as u64,
-            ..NO_NUMBERS
-        },
+impl From<Difference> for DifferenceNumbers {
+    ghost use Rattle.std.specs.Prelude.{◌≡◌};
+    ghost use Rattle.report_numbers.specs.Numbers.{difference_numbers};
+
+    ghost from_gives = { λ difference numbers. numbers ≡ difference_numbers difference };
+
+    fn from(difference: Difference) -> DifferenceNumbers {
+        match difference {
+            Difference::Sizes(ours, theirs) => DifferenceNumbers {
+                kind: 1,
+                our_width: u64::from(ours.width),
+                our_height: u64::from(ours.height),
+                their_width: u64::from(theirs.width),
+                their_height: u64::from(theirs.height),
+                our_sampling: u64::from(u32::from(ours.sampling)),
+                their_sampling: u64::from(u32::from(theirs.sampling)),
+                ..NO_NUMBERS
+            },
+            Difference::At(place) => DifferenceNumbers {
+                kind: 2,
+                plane: u64::from(place.plane),
+                row: place.row as u64,
+                column: place.column as u64,
+                ..NO_NUMBERS
+            },
+        }
     }
 }
 
 // The kind of the first difference, the crossing of its pair and the places of its records; width and height of ours and of theirs; plane, row and
-// column; the samplings of ours and of theirs; 0. All are 0 where no pair differs.
+// column; the samplings of ours and of theirs; 0. All are 0 where no pair differs. No `From`: an option and an array are of another crate.
 fn first_numbers(first: Option<DifferingPair>) -> [u64; 14]
     ensures { result ≡ first_numbers first }
 {
     match first {
         None => [0; 14],
         Some(pair) => {
-            let told = difference_numbers(pair.difference);
+            let told = DifferenceNumbers::from(pair.difference);
             [
                 told.kind,
-                pair.crossing as u64,
+                u64::from(pair.crossing),
                 pair.ours as u64,
                 pair.theirs as u64,
                 told.our_width,
@@ -115,11 +109,10 @@ fn tell_report(report: PairReport, numbers: &mut [u64; 18])
 }
 
 // The report's numbers; none where the pairing was refused.
-pub fn tell_pairing(pairing: Pairing, numbers: &mut [u64; 18])
+pub fn tell_pairing(pairing: Result<PairReport, BrokenFile>, numbers: &mut [u64; 18])
     ensures { numbers.new ≡ pairing_numbers pairing numbers.old }
 {
-    match pairing.answer {
-        Ok(()) => tell_report(pairing.report, numbers),
-        Err(_) => {}
+    if let Ok(report) = pairing {
+        tell_report(report, numbers);
     }
 }

@@ -1,6 +1,7 @@
 // The functions that C links: numbers and lent bytes, no enum and no struct. A caller's numbers come in a slice, so that a later setting is one
 // number more and no signature changes; how many there are says which call is meant. Each is one call of the crate that has its work.
 // segvartin_c exports these functions under their names, and include/segvartin.h declares them and has calls with structs over them.
+// This is the interface of C, so what goes together in C's structs comes one by one here, and no parameters are joined in a type.
 #![tactic(auto)]
 
 ghost use Rattle.frame_calls.specs.Calls.{exported_frame, FrameKept, exported_opening, OpenKept, exported_band, BandKept};
@@ -230,7 +231,7 @@ pub fn segvartin_call_shift_write_settings(
 pub fn segvartin_call_shift_forward(file: &[u8], output: &mut [u8], told: &mut [usize; 1]) -> u32
     ensures { MoveKept ShiftForm.WithoutSettings (exported_move file.now output.old result told.new output.new) }
 {
-    shift_calls::call_shift_forward(file, output, told)
+    shift_calls::call_shift_move(ShiftForm::WithoutSettings, file, output, told)
 }
 
 // Writes a shift file with settings as one without them at the front of `output` (0); or answers 15 where these bytes are no shift file with settings,
@@ -239,7 +240,7 @@ pub fn segvartin_call_shift_forward(file: &[u8], output: &mut [u8], told: &mut [
 pub fn segvartin_call_shift_back(file: &[u8], output: &mut [u8], told: &mut [usize; 1]) -> u32
     ensures { MoveKept ShiftForm.WithSettings (exported_move file.now output.old result told.new output.new) }
 {
-    shift_calls::call_shift_back(file, output, told)
+    shift_calls::call_shift_move(ShiftForm::WithSettings, file, output, told)
 }
 
 // Makes one record of planes of 4:2:0 as a frame call leaves them (0); or answers 15 where a side is not 1 to 16,384, 8 to 12 as a frame call does, 16

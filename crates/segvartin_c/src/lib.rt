@@ -1,5 +1,5 @@
 // The functions that C links, and no other: each is the call of that name of the library `segvartin`, with its clauses.
-// include/segvartin.h declares them.
+// include/segvartin.h declares them. This is the interface of C: no parameters are joined in a type.
 #![tactic(auto)]
 
 ghost use Rattle.frame_calls.specs.Calls.{exported_frame, FrameKept, exported_opening, OpenKept, exported_band, BandKept};

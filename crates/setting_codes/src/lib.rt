@@ -8,7 +8,8 @@ ghost use Rattle.setting_codes.specs.Codes.{channels_code, sampling_code, range_
 use sharp_gamma::{SharpYuvGammaTransfer, TableRounding};
 use yuv_support::{YuvChromaSubsampling, YuvRange, YuvSourceChannels, YuvStandardMatrix};
 
-// A code without a meaning is for the caller to refuse; the functions here answer the first meaning for it.
+// Public names, each one line over a `TryFrom` or a `From` that stands beside its type: `TryFrom` has no value for a code without a meaning, and
+// callers that refuse such a code elsewhere want the first meaning for it.
 pub fn channels_of(code: u32) -> YuvSourceChannels
     ensures { result ≡ get_or channels_codes code YuvSourceChannels.Rgb }
 {

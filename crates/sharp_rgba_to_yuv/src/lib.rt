@@ -1,4 +1,5 @@
-// The frame call: the Rust's rgbx_to_sharp_yuv, over lent slices beside a plain description.
+// The frame call: the Rust's rgbx_to_sharp_yuv, over lent slices beside a plain description. Y, U and V are three slices, as its callers have them, from
+// C too: the contract speaks of y, u and v one by one, so a struct of the three would be made for a call and taken apart in it.
 #![tactic(auto)]
 
 ghost use Rattle.std.specs.Prelude.{◌≡◌, OnOk};

@@ -1,6 +1,7 @@
 // Rows of luma and chroma, one pass over their pixels: pixel_pairs has what a pair of them comes to. N is the bytes of a pixel, a number in each loop:
 // a loop with a variable there takes a tenth longer. 4:2:0 and 4:2:2 are functions of their own, here and there: they are lent other rows and promise
 // other colours, so that one with a parameter would be two contracts in one.
+// What is lent is said in each contract, and no type carries it: the planes are lent one by one (band_planes says why).
 #![tactic(auto)]
 
 ghost use Rattle.std.specs.Prelude.{◌≡◌, ◌+◌, ◌*◌, ◌-◌, ◌/◌, ◌≤◌, ◌<◌, min, length, get_or};
@@ -11,7 +12,7 @@ ghost use Rattle.pixel_pairs.specs.Rows.{inputs420, inputs422, RowOf, ChromaRoom
 ghost use Rattle.pixel_pairs.specs.Rows.{LumaWritten, LumasWritten, ChromaWritten, Begun420, Begun422, Stepped};
 
 use pixel_pairs::Block;
-use pixel_pairs::frame_tables::FrameTables;
+use pixel_pairs::frame_tables::{FrameTables, LumaTables};
 
 // How far the start of a row of 4:2:2 is read ahead, and the step there, in pixels: a pair every 72 or 96 bytes, in most of its first cache lines.
 const AHEAD: usize = 144;
@@ -28,7 +29,7 @@ fn right_of(x: usize, width: usize) -> usize
 
 // Luma of a source row.
 // Writes the first `width` bytes of `y`, and no other byte.
-pub fn luma_row<const N: usize>(tables: &FrameTables, row: &[u8], y: &mut [u8])
+pub fn luma_row<const N: usize>(tables: &LumaTables, row: &[u8], y: &mut [u8])
     requires row_of { RowOf tables.now.rows.frame N row.now }
     requires luma_room { tables.now.rows.frame.width ≤ length y.old }
     ensures { LumaWritten tables.now.rows.frame N row.now y.old y.new }
@@ -48,19 +49,19 @@ pub fn chroma_row420<const C: usize, const N: usize>(
     u: &mut [u8],
     v: &mut [u8],
 )
-    requires upper_row { RowOf tables.now.rows.frame C this.now }
-    requires lower_row { RowOf tables.now.rows.frame N below.now }
-    requires chroma_room { ChromaRoom tables.now.rows.frame u.old v.old }
-    ensures { ChromaWritten tables.now.rows.frame (input420 tables.now.rows.frame (pixels_of C this.now) (pixels_of N below.now)) u.old v.old u.new v.new }
+    requires upper_row { RowOf tables.now.luma.rows.frame C this.now }
+    requires lower_row { RowOf tables.now.luma.rows.frame N below.now }
+    requires chroma_room { ChromaRoom tables.now.luma.rows.frame u.old v.old }
+    ensures { ChromaWritten tables.now.luma.rows.frame (input420 tables.now.luma.rows.frame (pixels_of C this.now) (pixels_of N below.now)) u.old v.old u.new v.new }
 {
-    let width = tables.rows.frame.width as usize;
+    let width = tables.luma.rows.frame.width as usize;
     for j in 0..yuv_support::chroma_width(width) {
         let x = 2 * j;
         let next = right_of(x, width);
-        let a = tables.pair::<C>(this, x, next);
-        let b = tables.pair::<N>(below, x, next);
-        let c = tables.mixed(pixel_pairs::sixteenths(a, b));
-        tables.put_chroma(c, j, u, v);
+        let a = pixel_pairs::pair::<C>(tables.luma.sums, this, x, next);
+        let b = pixel_pairs::pair::<N>(tables.luma.sums, below, x, next);
+        let c = pixel_pairs::mixed(tables.gamma, pixel_pairs::sixteenths(a, b));
+        tables.luma.rows.put_chroma(c, j, u, v);
     }
 }
 
@@ -73,13 +74,13 @@ fn fours420<const N: usize>(
     u: &mut [u8],
     v: &mut [u8],
 )
-    requires { Lent420 tables.now.rows.frame N this.now below.now y.old u.old v.old }
-    ensures { Begun420 tables.now.rows.frame N this.now below.now (2 * (tables.now.rows.frame.width / 4)) y.old u.old v.old y.new u.new v.new }
+    requires { Lent420 tables.now.luma.rows.frame N this.now below.now y.old u.old v.old }
+    ensures { Begun420 tables.now.luma.rows.frame N this.now below.now (2 * (tables.now.luma.rows.frame.width / 4)) y.old u.old v.old y.new u.new v.new }
 {
-    for k in 0..tables.rows.frame.width as usize / 4 {
+    for k in 0..tables.luma.rows.frame.width as usize / 4 {
         let j = 2 * k;
         let c = tables.four420::<N>(this, below, j, y);
-        tables.put_chromas(c, j, u, v);
+        tables.luma.rows.put_chromas(c, j, u, v);
     }
 }
 
@@ -92,16 +93,16 @@ fn rest420<const N: usize>(
     u: &mut [u8],
     v: &mut [u8],
 )
-    requires { Lent420 tables.now.rows.frame N this.now below.now y.old u.old v.old }
-    ensures { Stepped (Begun420 tables.now.rows.frame N this.now below.now) (2 * (tables.now.rows.frame.width / 4)) (chroma_size tables.now.rows.frame)
+    requires { Lent420 tables.now.luma.rows.frame N this.now below.now y.old u.old v.old }
+    ensures { Stepped (Begun420 tables.now.luma.rows.frame N this.now below.now) (2 * (tables.now.luma.rows.frame.width / 4)) (chroma_size tables.now.luma.rows.frame)
         y.old u.old v.old y.new u.new v.new }
 {
-    let width = tables.rows.frame.width as usize;
+    let width = tables.luma.rows.frame.width as usize;
     for j in 2 * (width / 4)..yuv_support::chroma_width(width) {
         let next = right_of(2 * j, width);
         let block = Block { j, next };
         let b = tables.block420::<N>(this, below, block, y);
-        tables.put_chroma(b, j, u, v);
+        tables.luma.rows.put_chroma(b, j, u, v);
     }
 }
 
@@ -115,9 +116,9 @@ pub fn sharpen_rows420<const N: usize>(
     u: &mut [u8],
     v: &mut [u8],
 )
-    requires { Lent420 tables.now.rows.frame N this.now below.now y.old u.old v.old }
-    ensures lumas_written { LumasWritten tables.now.rows.frame N this.now below.now y.old y.new }
-    ensures chroma_written { ChromaWritten tables.now.rows.frame (inputs420 tables.now.rows.frame N this.now below.now) u.old v.old u.new v.new }
+    requires { Lent420 tables.now.luma.rows.frame N this.now below.now y.old u.old v.old }
+    ensures lumas_written { LumasWritten tables.now.luma.rows.frame N this.now below.now y.old y.new }
+    ensures chroma_written { ChromaWritten tables.now.luma.rows.frame (inputs420 tables.now.luma.rows.frame N this.now below.now) u.old v.old u.new v.new }
 {
     fours420::<N>(tables, this, below, y, u, v);
     rest420::<N>(tables, this, below, y, u, v);
@@ -131,13 +132,13 @@ fn fours422<const N: usize>(
     u: &mut [u8],
     v: &mut [u8],
 )
-    requires { Lent422 tables.now.rows.frame N this.now y.old u.old v.old }
-    ensures { Begun422 tables.now.rows.frame N this.now (2 * (tables.now.rows.frame.width / 4)) y.old u.old v.old y.new u.new v.new }
+    requires { Lent422 tables.now.luma.rows.frame N this.now y.old u.old v.old }
+    ensures { Begun422 tables.now.luma.rows.frame N this.now (2 * (tables.now.luma.rows.frame.width / 4)) y.old u.old v.old y.new u.new v.new }
 {
-    for k in 0..tables.rows.frame.width as usize / 4 {
+    for k in 0..tables.luma.rows.frame.width as usize / 4 {
         let j = 2 * k;
         let c = tables.four422::<N>(this, j, y);
-        tables.put_chromas(c, j, u, v);
+        tables.luma.rows.put_chromas(c, j, u, v);
     }
 }
 
@@ -149,23 +150,23 @@ fn rest422<const N: usize>(
     u: &mut [u8],
     v: &mut [u8],
 )
-    requires { Lent422 tables.now.rows.frame N this.now y.old u.old v.old }
-    ensures { Stepped (Begun422 tables.now.rows.frame N this.now) (2 * (tables.now.rows.frame.width / 4)) (chroma_size tables.now.rows.frame)
+    requires { Lent422 tables.now.luma.rows.frame N this.now y.old u.old v.old }
+    ensures { Stepped (Begun422 tables.now.luma.rows.frame N this.now) (2 * (tables.now.luma.rows.frame.width / 4)) (chroma_size tables.now.luma.rows.frame)
         y.old u.old v.old y.new u.new v.new }
 {
-    let width = tables.rows.frame.width as usize;
+    let width = tables.luma.rows.frame.width as usize;
     for j in 2 * (width / 4)..yuv_support::chroma_width(width) {
         let next = right_of(2 * j, width);
         let block = Block { j, next };
         let b = tables.block422::<N>(this, block, y);
-        tables.put_chroma(b, j, u, v);
+        tables.luma.rows.put_chroma(b, j, u, v);
     }
 }
 
 // Lumas of a few pairs at the start of a row, ahead of their turn, in which they are written again. Where a row does not follow on the one before it,
 // as in a window, the cache lines of its start are then waited for all at once, and not one by one.
 // Writes among the first `width` bytes of `y`, and no other byte.
-fn luma_ahead<const N: usize>(tables: &FrameTables, row: &[u8], y: &mut [u8])
+fn luma_ahead<const N: usize>(tables: &LumaTables, row: &[u8], y: &mut [u8])
     requires row_of { RowOf tables.now.rows.frame N row.now }
     requires luma_room { tables.now.rows.frame.width ≤ length y.old }
     ensures { Painted tables.now.rows.frame.width (λ k. get_or y.new k 0) y.old y.new }
@@ -188,11 +189,11 @@ pub fn sharpen_row422<const N: usize>(
     u: &mut [u8],
     v: &mut [u8],
 )
-    requires { Lent422 tables.now.rows.frame N this.now y.old u.old v.old }
-    ensures luma_written { LumaWritten tables.now.rows.frame N this.now y.old y.new }
-    ensures chroma_written { ChromaWritten tables.now.rows.frame (inputs422 tables.now.rows.frame N this.now) u.old v.old u.new v.new }
+    requires { Lent422 tables.now.luma.rows.frame N this.now y.old u.old v.old }
+    ensures luma_written { LumaWritten tables.now.luma.rows.frame N this.now y.old y.new }
+    ensures chroma_written { ChromaWritten tables.now.luma.rows.frame (inputs422 tables.now.luma.rows.frame N this.now) u.old v.old u.new v.new }
 {
-    luma_ahead::<N>(tables, this, y);
+    luma_ahead::<N>(&tables.luma, this, y);
     fours422::<N>(tables, this, y, u, v);
     rest422::<N>(tables, this, y, u, v);
 }

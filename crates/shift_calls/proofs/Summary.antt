@@ -4,6 +4,7 @@ use Prim.Native.Nat.{ℕ, ◌≤◌}
 use mathlib.Core.Path.{◌≡◌, refl, subst}
 use Rattle.yuv_error.specs.Numbers.{numbers}
 use Rattle.yuv_error.specs.Rules.{first_numbers}
+use Rattle.summary_calls.specs.Calls.{outcome}
 use Rattle.shift_calls.specs.Summary.{ExportedBuild, rules_of_build, BuildKept, ExportedCheck, rules_of_check, CheckKept}
 use Rattle.shift_calls.specs.Summary.{ExportedFind, rules_of_find, FindKept, ExportedUpdate, rules_of_update, UpdateKept}
 use Rattle.yuv_error.proofs.Plain.{alone}
@@ -17,10 +18,10 @@ module _ {k : ExportedBuild} (p : BuildKept k) where
   build_writes_nothing l = unwritten p.answer _ (subst (λ (n : ℕ). 1 ≤ n) p.number l) p.built.written
 
 pub check_first : {k : ExportedCheck} → CheckKept k → numbers k.number 0 0 ≡ first_numbers (rules_of_check k)
-check_first {k} p = alone (rules_of_check k) p.verdict.answer (refl, tt) p.number p.checked.answered
+check_first {k} p = alone (rules_of_check k) (outcome p.verdict) (refl, tt) p.number p.checked.answered
 
 pub find_first : {k : ExportedFind} → FindKept k → numbers k.number 0 0 ≡ first_numbers (rules_of_find k)
-find_first {k} p = alone (rules_of_find k) p.finding.answer (refl, (refl, tt)) p.number p.found.answered
+find_first {k} p = alone (rules_of_find k) (outcome p.finding) (refl, (refl, tt)) p.number p.found.answered
 
 module _ {k : ExportedUpdate} (p : UpdateKept k) where
   pub update_first : numbers k.number 0 0 ≡ first_numbers (rules_of_update k)

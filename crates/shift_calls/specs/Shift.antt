@@ -1,7 +1,8 @@
 -- The shift file for C and Rust: what the calls `segvartin_call_shift_records`, `_records_any`, `_write`, `_write_settings`, `_record`,
 -- `_record_settings`, `_forward` and `_back` answer and leave, which is the promise of the call under each. docs/RULES.md, 10.5.
 -- Assumes nothing.
-use Rattle.std.specs.Prelude.{ℕ, ◌≡◌, List, [], ◌∷◌, length}
+use Rattle.std.specs.Prelude.{ℕ, ◌≡◌, List, [], ◌∷◌, length, Result}
+use Rattle.yuv_error.specs.declared.YuvError.{YuvError}
 use Rattle.yuv_error.specs.Numbers.{numbers_of}
 use Rattle.yuv_error.specs.Rules.{Rule}
 use Rattle.yuv_error.specs.Lent.{taken}
@@ -12,8 +13,9 @@ use Rattle.shift_file.specs.declared.SettingCodes.{SettingCodes}
 use Rattle.shift_file.specs.Check.{form_in}
 use Rattle.shift_reader.specs.declared.EntryKind.TheVariants.{Places, PlacesAndSettings}
 use Rattle.shift_reader.specs.declared.ShiftReading.{ShiftReading}
-use Rattle.shift_reader.specs.Reading.{file_rules, ReadPost}
-use Rattle.shift_writer.specs.declared.ShiftWritten.{ShiftWritten}
+use Rattle.shift_reader.specs.Reading.{read_outcome, reading_of, file_rules, ReadPost}
+use Rattle.shift_writer.specs.declared.NotWritten.{NotWritten}
+use Rattle.shift_writer.specs.Output.{outcome_of, size_of}
 use Rattle.shift_writer.specs.Writing.{write_rules, WritePost}
 use Rattle.shift_record.specs.declared.RecordFrame.{RecordFrame}
 use Rattle.shift_record.specs.Record.{record_rules, RecordPost}
@@ -41,9 +43,9 @@ rules_of_reading k = file_rules WithoutSettings k.file
 
 -- RULES 10.5: the promise of `read_records`; told are the file's count and how many entries were written
 pub record ReadingKept (k : ExportedReading) : Type 0 where
-  pub reading : ShiftReading
-  pub number : k.number ≡ (numbers_of reading.answer).number
-  pub told : k.told ≡ reading.count ∷ reading.told ∷ []
+  pub reading : Result ShiftReading YuvError
+  pub number : k.number ≡ (numbers_of (read_outcome reading)).number
+  pub told : k.told ≡ (reading_of reading).count ∷ (reading_of reading).told ∷ []
   pub read : ReadPost Places WithoutSettings k.file k.first k.entries reading k.entries'
 
 -- ---- `segvartin_call_shift_records_any`
@@ -59,9 +61,9 @@ rules_of_reading_any k = file_rules (form_in k.file) k.file
 
 -- RULES 10.5: the promise of `read_records` in the form that the file has; told are the file's count, how many entries were written, and the form
 pub record ReadingAnyKept (k : ExportedReading) : Type 0 where
-  pub reading : ShiftReading
-  pub number : k.number ≡ (numbers_of reading.answer).number
-  pub told : k.told ≡ reading.count ∷ reading.told ∷ taken reading.answer (form_number (form_in k.file)) ∷ []
+  pub reading : Result ShiftReading YuvError
+  pub number : k.number ≡ (numbers_of (read_outcome reading)).number
+  pub told : k.told ≡ (reading_of reading).count ∷ (reading_of reading).told ∷ taken (read_outcome reading) (form_number (form_in k.file)) ∷ []
   pub read : ReadPost PlacesAndSettings (form_in k.file) k.file k.first k.entries reading k.entries'
 
 -- ---- `segvartin_call_shift_write`, `segvartin_call_shift_write_settings`
@@ -84,9 +86,9 @@ rules_of_writing form k = write_rules form k.records (length k.file)
 
 -- RULES 10.5: the promise of `write_file`; told is the file's size
 pub record WritingKept (form : ShiftForm) (k : ExportedWriting) : Type 0 where
-  pub written : ShiftWritten
-  pub number : k.number ≡ (numbers_of written.answer).number
-  pub told : k.told ≡ written.size ∷ []
+  pub written : Result ℕ NotWritten
+  pub number : k.number ≡ (numbers_of (outcome_of written)).number
+  pub told : k.told ≡ size_of written ∷ []
   pub wrote : WritePost form k.records k.file written k.file'
 
 -- ---- `segvartin_call_shift_record`, `segvartin_call_shift_record_settings`
@@ -131,9 +133,9 @@ rules_of_record form k = record_rules (frame_of_record form k.numbers) k.y k.u k
 
 -- RULES 10.5: the promise of `write_record`; told are expected, received and the record's size
 pub record RecordKept (form : ShiftForm) (k : ExportedRecord) : Type 0 where
-  pub written : ShiftWritten
-  pub number : k.number ≡ (numbers_of written.answer).number
-  pub told : k.told ≡ (numbers_of written.answer).expected ∷ (numbers_of written.answer).received ∷ written.size ∷ []
+  pub written : Result ℕ NotWritten
+  pub number : k.number ≡ (numbers_of (outcome_of written)).number
+  pub told : k.told ≡ (numbers_of (outcome_of written)).expected ∷ (numbers_of (outcome_of written)).received ∷ size_of written ∷ []
   pub wrote : RecordPost (frame_of_record form k.numbers) k.y k.u k.v k.output written k.output'
 
 -- ---- `segvartin_call_shift_forward`, `segvartin_call_shift_back`
@@ -156,7 +158,7 @@ rules_of_move from k = move_rules from k.file (length k.output)
 
 -- RULES 10.5: the promise of `move_forward` and of `move_back`; told is the moved file's size
 pub record MoveKept (from : ShiftForm) (k : ExportedMove) : Type 0 where
-  pub written : ShiftWritten
-  pub number : k.number ≡ (numbers_of written.answer).number
-  pub told : k.told ≡ written.size ∷ []
+  pub written : Result ℕ NotWritten
+  pub number : k.number ≡ (numbers_of (outcome_of written)).number
+  pub told : k.told ≡ size_of written ∷ []
   pub moved : MovePost from k.file k.output written k.output'

@@ -1,17 +1,15 @@
 -- The summary of a shift file for C and Rust: what the four calls `segvartin_call_summary_build`, `_check`, `_find` and `_update` answer and leave, which
 -- is the promise of the call under each, in the form that the file has. docs/RULES.md, 10.6.
 -- Assumes nothing.
-use Rattle.std.specs.Prelude.{ℕ, ◌≡◌, Bool, true, false, List, [], ◌∷◌, length, Result}
+use Rattle.std.specs.Prelude.{ℕ, ◌≡◌, Bool, List, [], ◌∷◌, length, Option, Result, is_some}
+use Rattle.std.specs.Int.{from_bool}
+use Rattle.std.specs.Option.{unwrap_or}
 use Rattle.yuv_error.specs.declared.YuvError.{YuvError}
 use Rattle.yuv_error.specs.Numbers.{numbers_of}
 use Rattle.yuv_error.specs.Rules.{Rule}
 use Rattle.shift_file.specs.Check.{form_in}
 use Rattle.shift_reader.specs.Reading.{file_rules}
-use Rattle.summary_calls.specs.declared.FoundRecord.{FoundRecord}
-use Rattle.summary_calls.specs.declared.FoundRecord.TheVariants.{At, Nowhere}
-use Rattle.summary_calls.specs.declared.SummaryVerdict.{SummaryVerdict}
-use Rattle.summary_calls.specs.declared.SummaryFinding.{SummaryFinding}
-use Rattle.summary_calls.specs.Calls.{build_rules, BuildPost, CheckPost, find_rules, FindPost}
+use Rattle.summary_calls.specs.Calls.{build_rules, BuildPost, outcome, says_yes, CheckPost, find_rules, found_in, FindPost}
 use Rattle.summary_update.specs.Update.{update_rules, UpdatePost}
 
 -- ---- `segvartin_call_summary_build`
@@ -56,14 +54,13 @@ rules_of_check k = file_rules (form_in k.file) k.file
 
 -- RULES 10.6: 1 for yes, 0 for no
 abbrev pub as_number : Bool → ℕ
-as_number true = 1
-as_number false = 0
+as_number said = from_bool said
 
 -- RULES 10.6: the promise of `check_summary`
 pub record CheckKept (k : ExportedCheck) : Type 0 where
-  pub verdict : SummaryVerdict
-  pub number : k.number ≡ (numbers_of verdict.answer).number
-  pub told : k.told ≡ as_number verdict.is_summary ∷ []
+  pub verdict : Result Bool YuvError
+  pub number : k.number ≡ (numbers_of (outcome verdict)).number
+  pub told : k.told ≡ as_number (says_yes verdict) ∷ []
   pub checked : CheckPost (form_in k.file) k.file k.summary verdict
 
 -- ---- `segvartin_call_summary_find`
@@ -86,20 +83,18 @@ abbrev pub rules_of_find : ExportedFind → List Rule
 rules_of_find k = find_rules (form_in k.file) k.file k.summary
 
 -- RULES 10.6: how many records were found, 1 or 0
-abbrev pub found_count : FoundRecord → ℕ
-found_count (At k) = 1
-found_count Nowhere = 0
+abbrev pub found_count : Option ℕ → ℕ
+found_count found = from_bool (is_some found)
 
 -- RULES 10.6: and the number of the one that was, from 0
-abbrev pub found_place : FoundRecord → ℕ
-found_place (At k) = k
-found_place Nowhere = 0
+abbrev pub found_place : Option ℕ → ℕ
+found_place found = unwrap_or found 0
 
 -- RULES 10.6: the promise of `find_record`
 pub record FindKept (k : ExportedFind) : Type 0 where
-  pub finding : SummaryFinding
-  pub number : k.number ≡ (numbers_of finding.answer).number
-  pub told : k.told ≡ found_count finding.found ∷ found_place finding.found ∷ []
+  pub finding : Result (Option ℕ) YuvError
+  pub number : k.number ≡ (numbers_of (outcome finding)).number
+  pub told : k.told ≡ found_count (found_in finding) ∷ found_place (found_in finding) ∷ []
   pub found : FindPost (form_in k.file) k.file k.summary k.crossing finding
 
 -- ---- `segvartin_call_summary_update`

@@ -5,6 +5,10 @@
 ghost use Rattle.std.specs.Prelude.{◌≡◌, [], ◌∷◌};
 ghost use Rattle.yuv_error.specs.Numbers.{numbers_of};
 ghost use Rattle.yuv_error.specs.Lent.{taken};
+ghost use Rattle.shift_reader.specs.Reading.{read_outcome, reading_of};
+ghost use Rattle.shift_writer.specs.Output.{outcome_of, size_of};
+ghost use Rattle.summary_calls.specs.Calls.{outcome, says_yes, found_in};
+ghost use Rattle.shift_pairs.specs.Pairing.{pairing_outcome, broken_told};
 ghost use Rattle.shift_calls.specs.Summary.{exported_build, BuildKept, exported_check, as_number, CheckKept};
 ghost use Rattle.shift_calls.specs.Summary.{exported_find, found_count, found_place, FindKept, exported_update, UpdateKept};
 ghost use Rattle.shift_calls.specs.Pairs.{exported_pairing, PairingKept};
@@ -12,21 +16,28 @@ ghost use Rattle.shift_calls.specs.Shift.{exported_reading, ReadingKept, form_nu
 ghost use Rattle.shift_calls.specs.Shift.{exported_record, RecordKept, exported_move, MoveKept};
 
 use shift_file::{SettingCodes, ShiftForm};
-use shift_pairs::Pairing;
+use shift_pairs::{BrokenFile, PairReport};
 use shift_reader::{EntryKind, ShiftReading};
 use shift_record::RecordFrame;
-use shift_writer::ShiftWritten;
-use summary_calls::{FoundRecord, SummaryFinding, SummaryVerdict};
+use shift_writer::NotWritten;
 use yuv_error::YuvError;
 
 // ---- The shift file. Its refusals 15 and 16 come without expected and received, so those who answer no other have room for counts instead.
 
-fn tell_reading(reading: ShiftReading, told: &mut [usize; 2]) -> u32
-    ensures number { result ≡ (numbers_of reading.answer).number }
-    ensures told { told.new ≡ reading.count ∷ reading.told ∷ [] }
+fn tell_reading(reading: Result<ShiftReading, YuvError>, told: &mut [usize; 2]) -> u32
+    ensures number { result ≡ (numbers_of (read_outcome reading)).number }
+    ensures told { told.new ≡ (reading_of reading).count ∷ (reading_of reading).told ∷ [] }
 {
-    *told = [reading.count, reading.told];
-    error_numbers::answer_numbers(reading.answer).number
+    match reading {
+        Ok(reading) => {
+            *told = [reading.count, reading.told];
+            0
+        }
+        Err(error) => {
+            *told = [0, 0];
+            error_numbers::error_numbers(error).number
+        }
+    }
 }
 
 // `segvartin_call_shift_records` of crate `segvartin` is one call of this.
@@ -48,21 +59,25 @@ pub fn call_shift_records(
     tell_reading(reading, told)
 }
 
-fn form_told(answer: Result<(), YuvError>, form: ShiftForm) -> usize
-    ensures { result ≡ taken answer (form_number form) }
+fn tell_reading_any(
+    reading: Result<ShiftReading, YuvError>,
+    form: ShiftForm,
+    told: &mut [usize; 3],
+) -> u32
+    ensures number { result ≡ (numbers_of (read_outcome reading)).number }
+    ensures told { told.new ≡ (reading_of reading).count ∷ (reading_of reading).told ∷ taken (read_outcome reading) (form_number form) ∷ [] }
 {
-    match (answer, form) {
-        (Ok(()), ShiftForm::WithSettings) => 1,
-        _ => 0,
+    match reading {
+        Ok(reading) => {
+            let with_settings = form == ShiftForm::WithSettings;
+            *told = [reading.count, reading.told, usize::from(with_settings)];
+            0
+        }
+        Err(error) => {
+            *told = [0, 0, 0];
+            error_numbers::error_numbers(error).number
+        }
     }
-}
-
-fn tell_reading_any(reading: ShiftReading, form: ShiftForm, told: &mut [usize; 3]) -> u32
-    ensures number { result ≡ (numbers_of reading.answer).number }
-    ensures told { told.new ≡ reading.count ∷ reading.told ∷ taken reading.answer (form_number form) ∷ [] }
-{
-    *told = [reading.count, reading.told, form_told(reading.answer, form)];
-    error_numbers::answer_numbers(reading.answer).number
 }
 
 // `segvartin_call_shift_records_any` of crate `segvartin` is one call of this.
@@ -85,15 +100,8 @@ pub fn call_shift_records_any(
     tell_reading_any(reading, form, told)
 }
 
-fn tell_size(written: ShiftWritten, told: &mut [usize; 1]) -> u32
-    ensures number { result ≡ (numbers_of written.answer).number }
-    ensures told { told.new ≡ written.size ∷ [] }
-{
-    *told = [written.size];
-    error_numbers::answer_numbers(written.answer).number
-}
-
-// `segvartin_call_shift_write` and `segvartin_call_shift_write_settings` of crate `segvartin` are one call of this each.
+// `segvartin_call_shift_write` and `segvartin_call_shift_write_settings` of crate `segvartin` are one call of this each. The form is that of a file to be:
+// there are no bytes of it yet.
 pub fn call_shift_write(
     form: ShiftForm,
     records: &[u8],
@@ -103,35 +111,34 @@ pub fn call_shift_write(
     ensures { WritingKept form (exported_writing records.now file.old result told.new file.new) }
 {
     let written = shift_writer::write_file(form, records, file);
-    tell_size(written, told)
+    shift_writer::tell_size(written, told)
 }
 
-// `segvartin_call_shift_forward` of crate `segvartin` is one call of this.
-pub fn call_shift_forward(file: &[u8], output: &mut [u8], told: &mut [usize; 1]) -> u32
-    ensures { MoveKept ShiftForm.WithoutSettings (exported_move file.now output.old result told.new output.new) }
+// `segvartin_call_shift_forward` and `segvartin_call_shift_back` of crate `segvartin` are one call of this each. The form is that of the file.
+pub fn call_shift_move(
+    form: ShiftForm,
+    file: &[u8],
+    output: &mut [u8],
+    told: &mut [usize; 1],
+) -> u32
+    ensures { MoveKept form (exported_move file.now output.old result told.new output.new) }
 {
-    let written = shift_move::move_forward(file, output);
-    tell_size(written, told)
+    let written = shift_move::move_file(form, file, output);
+    shift_writer::tell_size(written, told)
 }
 
-// `segvartin_call_shift_back` of crate `segvartin` is one call of this.
-pub fn call_shift_back(file: &[u8], output: &mut [u8], told: &mut [usize; 1]) -> u32
-    ensures { MoveKept ShiftForm.WithSettings (exported_move file.now output.old result told.new output.new) }
+fn tell_written(written: Result<usize, NotWritten>, told: &mut [usize; 3]) -> u32
+    ensures number { result ≡ (numbers_of (outcome_of written)).number }
+    ensures told { told.new
+        ≡ (numbers_of (outcome_of written)).expected ∷ (numbers_of (outcome_of written)).received ∷ size_of written ∷ [] }
 {
-    let written = shift_move::move_back(file, output);
-    tell_size(written, told)
-}
-
-fn tell_written(written: ShiftWritten, told: &mut [usize; 3]) -> u32
-    ensures number { result ≡ (numbers_of written.answer).number }
-    ensures told { told.new ≡ (numbers_of written.answer).expected ∷ (numbers_of written.answer).received ∷ written.size ∷ [] }
-{
-    let numbers = error_numbers::answer_numbers(written.answer);
-    *told = [numbers.size.expected, numbers.size.received, written.size];
+    let numbers = error_numbers::answer_numbers(shift_writer::outcome_of(written));
+    let size = shift_writer::size_of(written);
+    *told = [numbers.size.expected, numbers.size.received, size];
     numbers.number
 }
 
-// `segvartin_call_shift_record` of crate `segvartin` is one call of this.
+// `segvartin_call_shift_record` of crate `segvartin` is one call of this. It and the next stay two: the numbers that they are given are arrays of two sizes, and stand for other things.
 pub fn call_shift_record(
     numbers: &[u32; 6],
     y: &[u8],
@@ -205,18 +212,12 @@ pub fn call_summary_build(file: &[u8], summary: &mut [u8]) -> u32
     error_numbers::answer_numbers(answer).number
 }
 
-fn yes_or_no(yes: bool) -> usize
-    ensures { result ≡ as_number yes }
+fn tell_verdict(verdict: Result<bool, YuvError>, told: &mut [usize; 1]) -> u32
+    ensures number { result ≡ (numbers_of (outcome verdict)).number }
+    ensures told { told.new ≡ as_number (says_yes verdict) ∷ [] }
 {
-    if yes { 1 } else { 0 }
-}
-
-fn tell_verdict(verdict: SummaryVerdict, told: &mut [usize; 1]) -> u32
-    ensures number { result ≡ (numbers_of verdict.answer).number }
-    ensures told { told.new ≡ as_number verdict.is_summary ∷ [] }
-{
-    *told = [yes_or_no(verdict.is_summary)];
-    error_numbers::answer_numbers(verdict.answer).number
+    *told = [usize::from(verdict.unwrap_or(false))];
+    error_numbers::answer_numbers(verdict.map(|_| ())).number
 }
 
 // `segvartin_call_summary_check` of crate `segvartin` is one call of this.
@@ -227,30 +228,13 @@ pub fn call_summary_check(file: &[u8], summary: &[u8], told: &mut [usize; 1]) ->
     tell_verdict(verdict, told)
 }
 
-fn found_count(found: FoundRecord) -> usize
-    ensures { result ≡ found_count found }
+fn tell_finding(finding: Result<Option<usize>, YuvError>, told: &mut [usize; 2]) -> u32
+    ensures number { result ≡ (numbers_of (outcome finding)).number }
+    ensures told { told.new ≡ found_count (found_in finding) ∷ found_place (found_in finding) ∷ [] }
 {
-    match found {
-        FoundRecord::At(_) => 1,
-        FoundRecord::Nowhere => 0,
-    }
-}
-
-fn found_place(found: FoundRecord) -> usize
-    ensures { result ≡ found_place found }
-{
-    match found {
-        FoundRecord::At(k) => k,
-        FoundRecord::Nowhere => 0,
-    }
-}
-
-fn tell_finding(finding: SummaryFinding, told: &mut [usize; 2]) -> u32
-    ensures number { result ≡ (numbers_of finding.answer).number }
-    ensures told { told.new ≡ found_count finding.found ∷ found_place finding.found ∷ [] }
-{
-    *told = [found_count(finding.found), found_place(finding.found)];
-    error_numbers::answer_numbers(finding.answer).number
+    let found = finding.unwrap_or(None);
+    *told = [usize::from(found.is_some()), found.unwrap_or(0)];
+    error_numbers::answer_numbers(finding.map(|_| ())).number
 }
 
 // `segvartin_call_summary_find` of crate `segvartin` is one call of this.
@@ -269,12 +253,21 @@ pub fn call_summary_update(file: &[u8], added: &[u8], summary: &mut [u8]) -> u32
     error_numbers::answer_numbers(answer).number
 }
 
-fn tell_broken(pairing: Pairing, told: &mut [usize; 1]) -> u32
-    ensures number { result ≡ (numbers_of pairing.answer).number }
-    ensures told { told.new ≡ pairing.broken ∷ [] }
+// C is told the file that is none by its number, 1 or 2, and 0 where both are files.
+fn tell_broken(pairing: Result<PairReport, BrokenFile>, told: &mut [usize; 1]) -> u32
+    ensures number { result ≡ (numbers_of (pairing_outcome pairing)).number }
+    ensures told { told.new ≡ broken_told pairing ∷ [] }
 {
-    *told = [pairing.broken as usize];
-    error_numbers::answer_numbers(pairing.answer).number
+    match pairing {
+        Ok(_) => {
+            *told = [0];
+            0
+        }
+        Err(broken) => {
+            *told = [u32::from(broken) as usize];
+            error_numbers::error_numbers(broken.into()).number
+        }
+    }
 }
 
 // `segvartin_call_shift_pairs` of crate `segvartin` is one call of this.

@@ -35,7 +35,7 @@ pub struct SettingCodes {
 pub const MOST_RECORDS: u32 = 4096;
 
 // What a file with settings begins with: no count is as large.
-const MARK: u32 = 4294967295;
+pub const MARK: u32 = 4294967295;
 
 impl ShiftForm {
     // The bytes before the count.
@@ -68,7 +68,7 @@ impl ShiftForm {
 
 // ---- a record, in a part that starts with it
 
-// A code below `codes`, or 255: not recorded.
+// A code below `codes`, or 255: not recorded. It tests a number, and converts none.
 fn is_code(codes: u32, code: u32) -> bool
     ensures { result ≡ is_code codes code }
 {
@@ -115,6 +115,23 @@ impl From<[u8; 4]> for SettingCodes {
     }
 }
 
+// The four settings, as an entry tells them.
+impl From<SettingCodes> for [u64; 4] {
+    ghost use Rattle.std.specs.Prelude.{◌≡◌};
+    ghost use Rattle.shift_file.specs.File.{code_list};
+
+    ghost from_gives = { λ codes numbers. numbers ≡ code_list codes };
+
+    fn from(codes: SettingCodes) -> [u64; 4] {
+        [
+            u64::from(codes.sampling),
+            u64::from(codes.range),
+            u64::from(codes.matrix),
+            u64::from(codes.transfer),
+        ]
+    }
+}
+
 fn is_side(side: u16) -> bool
     ensures { result ≡ is_side side }
 {
@@ -129,7 +146,8 @@ pub fn codes_at(part: &[u8]) -> SettingCodes
     SettingCodes::from(little_endian::array_at::<4>(part, 8))
 }
 
-// The settings of a record; 4:2:0, and nothing recorded, where it has none.
+// The settings of a record; 4:2:0, and nothing recorded, where it has none. This, `sampling_at`, `size_at` and `record_stands` are public names, with
+// their contracts, of what is one line over `Part`.
 pub fn settings_told(form: ShiftForm, part: &[u8]) -> SettingCodes
     requires { header_size form ≤ length part.now }
     ensures { code_list result ≡ settings_told form (settings_at form part.now) }
@@ -188,7 +206,7 @@ pub fn record_stands(form: ShiftForm, part: &[u8]) -> bool
 
 // ---- a file
 
-// What stands from a place on.
+// What stands from a place on. This and `part_of` are public names, with their contracts, of what is one line over a slice.
 pub fn from_place(bytes: &[u8], at: usize) -> &[u8]
     requires { at ≤ length bytes.now }
     ensures { result.now ≡ drop at bytes.now }
@@ -215,38 +233,70 @@ fn pair_is(pair: &[u8], at: usize, size: usize) -> bool
     (offset == at as u64) && (extent as usize == size)
 }
 
-// The bytes of the record at a place, where it is whole and the pair at another is its pair.
-#[tactic(auto, unfolding(crate::specs::Check::next_size, crate::specs::Check::size_standing))]
-fn next_size(form: ShiftForm, file: &[u8], pair: usize, at: usize) -> Option<usize>
-    requires { (pair + 12 ≤ length file.now) × (at ≤ length file.now) }
-    ensures { result ≡ next_size form file.now pair at }
-{
-    let size = size_standing(form, from_place(file, at))?;
-    pair_is(from_place(file, pair), at, size).then_some(size)
+// Bytes that are held against a form: what a file of it has at its front, and whether they are one. `Part` has the same fields, and a header is there.
+#[derive(Clone, Copy)]
+struct Candidate<'a> {
+    form: ShiftForm,
+    bytes: &'a [u8],
 }
 
-// Whether so many pairs and records belong together, and the file ends with them.
-fn walk_records(form: ShiftForm, file: &[u8], first_pair: usize, first: usize, count: usize) -> bool
-    requires { (first_pair + 12 * count ≤ length file.now) × (first ≤ length file.now) }
-    ensures { result ≡ walk form file.now first_pair first count }
-{
-    let mut at = first;
-    for k in 0..count {
-        match next_size(form, file, first_pair + 12 * k, at) {
-            Some(size) => at += size,
-            None => return false,
+impl Candidate<'_> {
+    // The bytes of the record at a place, where it is whole and the pair at another is its pair.
+    #[tactic(auto, unfolding(crate::specs::Check::next_size, crate::specs::Check::size_standing))]
+    fn next_size(&self, pair: usize, at: usize) -> Option<usize>
+        requires { (pair + 12 ≤ length self.now.bytes.now) × (at ≤ length self.now.bytes.now) }
+        ensures { result ≡ next_size self.now.form self.now.bytes.now pair at }
+    {
+        let size = size_standing(self.form, from_place(self.bytes, at))?;
+        pair_is(from_place(self.bytes, pair), at, size).then_some(size)
+    }
+
+    // Whether so many pairs and records belong together, and the file ends with them.
+    fn walk_records(&self, first_pair: usize, first: usize, count: usize) -> bool
+        requires { (first_pair + 12 * count ≤ length self.now.bytes.now) × (first ≤ length self.now.bytes.now) }
+        ensures { result ≡ walk self.now.form self.now.bytes.now first_pair first count }
+    {
+        let mut at = first;
+        for k in 0..count {
+            match self.next_size(first_pair + 12 * k, at) {
+                Some(size) => at += size,
+                None => return false,
+            }
+        }
+        at == self.bytes.len()
+    }
+
+    fn is_marked(&self) -> bool
+        requires { pairs_at self.now.form ≤ length self.now.bytes.now }
+        ensures { result ≡ is_marked self.now.form self.now.bytes.now }
+    {
+        match self.form {
+            ShiftForm::WithoutSettings => true,
+            ShiftForm::WithSettings => little_endian::read_u32(self.bytes, 0) == MARK,
         }
     }
-    at == file.len()
-}
 
-fn is_marked(form: ShiftForm, file: &[u8]) -> bool
-    requires { pairs_at form ≤ length file.now }
-    ensures { result ≡ is_marked form file.now }
-{
-    match form {
-        ShiftForm::WithoutSettings => true,
-        ShiftForm::WithSettings => little_endian::read_u32(file, 0) == MARK,
+    // Whether the pairs have room, and they and the records belong together.
+    #[tactic(auto, unfolding(crate::specs::Check::records_follow))]
+    fn records_follow(&self, count: usize) -> bool
+        requires { count ≤ 4096 }
+        ensures { result ≡ records_follow self.now.form self.now.bytes.now count }
+    {
+        let pairs = self.form.mark_size() + 4;
+        let first = pairs + 12 * count;
+        first <= self.bytes.len() && self.walk_records(pairs, first, count)
+    }
+
+    // Whether these bytes are a file of the form.
+    #[tactic(auto, unfolding(crate::specs::Check::is_file))]
+    fn is_file(&self) -> bool
+        ensures { result ≡ is_file self.now.form self.now.bytes.now }
+    {
+        if self.bytes.len() < self.form.mark_size() + 4 {
+            return false;
+        }
+        let count = count_at(self.form, self.bytes);
+        self.is_marked() && count <= MOST_RECORDS && self.records_follow(count as usize)
     }
 }
 
@@ -259,26 +309,12 @@ pub fn count_at(form: ShiftForm, file: &[u8]) -> u32
     little_endian::read_u32(file, form.mark_size())
 }
 
-// Whether the pairs have room, and they and the records belong together.
-#[tactic(auto, unfolding(crate::specs::Check::records_follow))]
-fn records_follow(form: ShiftForm, file: &[u8], count: usize) -> bool
-    requires { count ≤ 4096 }
-    ensures { result ≡ records_follow form file.now count }
-{
-    let pairs = form.mark_size() + 4;
-    let first = pairs + 12 * count;
-    first <= file.len() && walk_records(form, file, pairs, first, count)
-}
-
-// Whether these bytes are a shift file.
-#[tactic(auto, unfolding(crate::specs::Check::is_file))]
+// Whether these bytes are a shift file. Form and bytes are two parameters here, and of `size_standing` and `count_at`: `ShiftFile` of `shift_reader` is
+// what they become once they are one.
 pub fn is_file(form: ShiftForm, file: &[u8]) -> bool
     ensures { result ≡ is_file form file.now }
 {
-    form.mark_size() + 4 <= file.len()
-        && is_marked(form, file)
-        && count_at(form, file) <= MOST_RECORDS
-        && records_follow(form, file, count_at(form, file) as usize)
+    Candidate { form, bytes: file }.is_file()
 }
 
 // Which form a file has, by the mark that it begins with or not: no other form can be a file's.

@@ -17,6 +17,7 @@ use Rattle.shift_file.specs.File.{ShiftRecord, Allowed, EachAllowed, HasFile, Is
 use Rattle.shift_file.specs.Read.{count_at, records_in}
 use Rattle.shift_file.specs.Check.{is_file}
 use Rattle.shift_file.proofs.Record.{both, length_bytes, size_most}
+use Rattle.shift_reader.specs.declared.file.ShiftFile.{ShiftFile}
 use Rattle.shift_reader.specs.Entry.{record_of}
 use Rattle.shift_reader.proofs.Places.{Known, known, allowed}
 use Rattle.shift_file.proofs.File.{its_records, length_file, file_most}
@@ -37,6 +38,9 @@ pub has_records : (form : ShiftForm) (file : List ℕ) (n : ℕ) → is_file for
 has_records form file n e bytes counted =
     let k : Known form file = known form file e bytes in record { is_file_lem = k.its; count = counted ∙ sym k.count }
 
+pub file_records : (f : ShiftFile) → HasRecords f.form f.bytes.now f.count
+file_records f = has_records f.form f.bytes.now f.count f.checked f.are_bytes f.counted
+
 -- what is known of record k, and of it moved
 pub record Moves (form : ShiftForm) (r : ShiftRecord) : Type 0 where
   pub settings : length r.settings ≡ settings_size form
@@ -54,6 +58,9 @@ moves form file k n e bytes counted below =
       most = size_most form r a;
       size = length_moved (other_form form) form r a.settings;
     }
+
+pub file_moves : (f : ShiftFile) (k : ℕ) → k < f.count → Moves f.form (record_of f.form f.bytes.now k)
+file_moves f k below = moves f.form f.bytes.now k f.count f.checked f.are_bytes f.counted below
 
 -- ---- the records
 

@@ -3,7 +3,6 @@ use Prim.Native.Nat.{ℕ, ◌+◌}
 use mathlib.Core.Path.{◌≡◌, refl, ap, sym, ◌∙◌}
 use mathlib.Core.Bool.{true}
 use mathlib.Core.List.{List, [], ◌∷◌, ◌++◌, append_assoc}
-use native.Mathlib.Nat.{add_assoc}
 use native.Mathlib.Omega.{arith}
 use lib.Dec.{eqb}
 use lib.ListN.{length, get_or, take, drop, length-append}
@@ -71,28 +70,21 @@ module _ (to from : ShiftForm) (r : ShiftRecord) (e : length r.settings ≡ sett
   length_moved = simp (length-append, length_low) (omega (arith, e, length_plain to))
 
   -- header, settings and planes put one after the other
-  pub record_put : (d : List ℕ) (at : ℕ)
-      → sets (sets (sets d at (take 8 (bytes_of r))) (at + 8) (plain_settings to)) (at + header_size to) (drop (header_size from) (bytes_of r))
-      ≡ sets d at (bytes_of (moved_record to r))
-  record_put d at =
+  record_put : (d : List ℕ)
+      → sets (sets (sets d 0 (take 8 (bytes_of r))) 8 (plain_settings to)) (header_size to) (drop (header_size from) (bytes_of r))
+      ≡ sets d 0 (bytes_of (moved_record to r))
+  record_put d =
       let head = take 8 (bytes_of r) in
       let rest = drop (header_size from) (bytes_of r) in
       let eight : length head ≡ 8 = ap length (first_eight r) ∙ length-top r in
-      rw (
-        moved_bytes,
-        sets-append head (plain_settings to ++ rest) d at,
-        eight,
-        sets-append (plain_settings to) rest (sets d at head) (at + 8),
-        length_plain to,
-        add_assoc at 8 (settings_size to),
-      )
+      rw (moved_bytes, sets-append head (plain_settings to ++ rest) d 0, eight, sets-append (plain_settings to) rest (sets d 0 head) 8, length_plain to)
 
   -- the same, from what each step tells
-  pub record_steps : (d out₁ out₂ out₃ bytes head rest : List ℕ) (form : ShiftForm) (at start n : ℕ) → bytes ≡ bytes_of r → head ≡ take 8 bytes
-      → out₁ ≡ sets d at head → form ≡ to → out₂ ≡ sets out₁ (at + 8) (plain_settings form) → n ≡ header_size from → rest ≡ drop n bytes
-      → start ≡ header_size to → out₃ ≡ sets out₂ (at + start) rest → out₃ ≡ sets d at (bytes_of (moved_record to r))
-  record_steps d out₁ out₂ out₃ bytes head rest form at start n eb eh e₁ ef e₂ en er es e₃ =
-      rw (e₃, e₂, e₁, er, eh, eb, en, es, ef) (record_put d at)
+  pub record_steps : (d out₁ out₂ out₃ bytes head rest : List ℕ) (form : ShiftForm) (start n : ℕ) → bytes ≡ bytes_of r → head ≡ take 8 bytes
+      → out₁ ≡ sets d 0 head → form ≡ to → out₂ ≡ sets out₁ 8 (plain_settings form) → n ≡ header_size from → rest ≡ drop n bytes
+      → start ≡ header_size to → out₃ ≡ sets out₂ start rest → out₃ ≡ sets d 0 (bytes_of (moved_record to r))
+  record_steps d out₁ out₂ out₃ bytes head rest form start n eb eh e₁ ef e₂ en er es e₃ =
+      rw (e₃, e₂, e₁, er, eh, eb, en, es, ef) (record_put d)
 
 -- ---- the record
 

@@ -1,6 +1,6 @@
 -- What moving a shift file to the other form promises: docs/RULES.md, 11.8.
 -- Assumes nothing.
-use Rattle.std.specs.Prelude.{ℕ, ◌≡◌, not, List, [], ◌∷◌, ◌++◌, length}
+use Rattle.std.specs.Prelude.{ℕ, ◌≡◌, not, List, [], ◌∷◌, ◌++◌, length, Result}
 use Rattle.yuv_error.specs.Numbers.{numbers_of}
 use Rattle.yuv_error.specs.Rules.{Rule, rule, first_numbers}
 use Rattle.shift_file.specs.declared.ShiftForm.{ShiftForm}
@@ -8,8 +8,8 @@ use Rattle.shift_file.specs.declared.ShiftForm.TheVariants.{WithoutSettings, Wit
 use Rattle.shift_file.specs.File.{ShiftRecord}
 use Rattle.shift_file.specs.Read.{records_in}
 use Rattle.shift_file.specs.Check.{is_file}
-use Rattle.shift_writer.specs.declared.ShiftWritten.{ShiftWritten}
-use Rattle.shift_writer.specs.Output.{overwritten, size_told, output_rules}
+use Rattle.shift_writer.specs.declared.NotWritten.{NotWritten}
+use Rattle.shift_writer.specs.Output.{outcome_of, size_of, overwritten, size_told, output_rules}
 use Rattle.shift_move.specs.Move.{are_plain, moved_file}
 
 -- RULES 11.8: 20, of moving back alone: a record has 4:2:2 or a recorded setting
@@ -23,7 +23,7 @@ move_rules from file room =
     rule 15 (not (is_file from file)) 0 0 ∷ (recorded_rules from (records_in from file) ++ output_rules (length (moved_file from file)) room)
 
 -- RULES 11.8: everything of a call: its answer, the moved file's size, and each byte lent to it
-pub record MovePost (from : ShiftForm) (file before : List ℕ) (r : ShiftWritten) (after : List ℕ) : Type 0 where
-  pub answered : numbers_of r.answer ≡ first_numbers (move_rules from file (length before))
-  pub size : r.size ≡ size_told r.answer (length (moved_file from file))
-  pub written : after ≡ overwritten r.answer (moved_file from file) before
+pub record MovePost (from : ShiftForm) (file before : List ℕ) (r : Result ℕ NotWritten) (after : List ℕ) : Type 0 where
+  pub answered : numbers_of (outcome_of r) ≡ first_numbers (move_rules from file (length before))
+  pub size : size_of r ≡ size_told (outcome_of r) (length (moved_file from file))
+  pub written : after ≡ overwritten (outcome_of r) (moved_file from file) before

@@ -12,7 +12,7 @@ ghost use Rattle.shift_move.specs.Moving.{MovePost};
 
 use shift_file::{SettingCodes, ShiftForm};
 use shift_reader::file::ShiftFile;
-use shift_writer::ShiftWritten;
+use shift_writer::NotWritten;
 use yuv_error::YuvError;
 
 fn other_form(form: ShiftForm) -> ShiftForm
@@ -30,10 +30,7 @@ fn other_form(form: ShiftForm) -> ShiftForm
 fn is_plain(codes: SettingCodes) -> bool
     ensures { result ≡ is_plain (code_list codes) }
 {
-    (codes.sampling == 0)
-        && (codes.range == 255)
-        && (codes.matrix == 255)
-        && (codes.transfer == 255)
+    codes == SettingCodes::not_recorded()
 }
 
 fn are_plain(file: &ShiftFile) -> bool
@@ -68,35 +65,28 @@ fn moved_size(file: &ShiftFile, k: usize) -> usize
     entry.length - file.form.header_size() + other_form(file.form).header_size()
 }
 
-fn put_settings(form: ShiftForm, output: &mut [u8], at: usize)
-    requires { at + length (plain_settings form) ≤ length output.old }
-    ensures { output.new ≡ sets output.old at (plain_settings form) }
+// The settings of a moved record.
+fn plain_settings(form: ShiftForm) -> &'static [u8]
+    ensures { result.now ≡ plain_settings form }
 {
     match form {
-        ShiftForm::WithoutSettings => {}
-        ShiftForm::WithSettings => {
-            let settings = [0, 255, 255, 255];
-            shift_writer::copy_bytes(output, at, &settings);
-        }
+        ShiftForm::WithoutSettings => &[],
+        ShiftForm::WithSettings => &[0, 255, 255, 255],
     }
 }
 
-// Record k, moved: crossing, width and height, other settings, and its planes.
-fn put_record(file: &ShiftFile, k: usize, output: &mut [u8], at: usize)
+// Record k, moved, at the front: crossing, width and height, other settings, and its planes.
+fn put_record(file: &ShiftFile, k: usize, output: &mut [u8])
     requires below { k < file.now.count }
-    requires room { at + length (bytes_of (moved_record (other_form file.now.form) (record_of file.now.form file.now.bytes.now k))) ≤ length output.old }
-    ensures { output.new ≡ sets output.old at (bytes_of (moved_record (other_form file.now.form) (record_of file.now.form file.now.bytes.now k))) }
+    requires room { length (bytes_of (moved_record (other_form file.now.form) (record_of file.now.form file.now.bytes.now k))) ≤ length output.old }
+    ensures { output.new ≡ sets output.old 0 (bytes_of (moved_record (other_form file.now.form) (record_of file.now.form file.now.bytes.now k))) }
 {
     let to = other_form(file.form);
-    let planes = at + to.header_size();
     let record = file.record(k);
-    shift_writer::copy_bytes(output, at, shift_file::part_of(record, 0, 8));
-    put_settings(to, output, at + 8);
-    shift_writer::copy_bytes(
-        output,
-        planes,
-        shift_file::from_place(record, file.form.header_size()),
-    );
+    let planes = shift_file::from_place(record, file.form.header_size());
+    little_endian::put(output, 0, shift_file::part_of(record, 0, 8));
+    little_endian::put(output, 8, plain_settings(to));
+    little_endian::put(output, to.header_size(), planes);
 }
 
 // ---- a file in the other form
@@ -124,7 +114,7 @@ fn put_records(file: &ShiftFile, first: usize, output: &mut [u8])
 {
     let mut at = first;
     for k in 0..file.count {
-        put_record(file, k, output, at);
+        put_record(file, k, &mut output[at..]);
         at += moved_size(file, k);
     }
 }
@@ -155,41 +145,25 @@ fn file_size(file: &ShiftFile) -> usize
     }
 }
 
-fn move_file(from: ShiftForm, file: &[u8], output: &mut [u8]) -> ShiftWritten
+// Writes a shift file of either form as one of the other: `move_forward` and `move_back` are this of one form each.
+pub fn move_file(from: ShiftForm, file: &[u8], output: &mut [u8]) -> Result<usize, NotWritten>
     ensures { MovePost from file.now output.old result output.new }
 {
-    let file = match ShiftFile::open(from, file) {
-        Ok(file) => file,
-        Err(error) => {
-            return ShiftWritten {
-                answer: Err(error),
-                size: 0,
-            };
-        }
-    };
+    let file = ShiftFile::open(from, file)?;
     if !may_move(&file) {
-        return ShiftWritten {
-            answer: Err(YuvError::SettingsRecorded),
-            size: 0,
-        };
+        return Err(NotWritten::Refused(YuvError::SettingsRecorded));
     }
     let size = file_size(&file);
     if output.len() < size {
-        return ShiftWritten {
-            answer: Err(YuvError::OutputTooShort),
-            size,
-        };
+        return Err(NotWritten::TooShort(size));
     }
     put_file(&file, output);
-    ShiftWritten {
-        answer: Ok(()),
-        size,
-    }
+    Ok(size)
 }
 
 // Writes a shift file without settings as one with them, 4:2:0 and nothing recorded, at the front of the output; or answers 15 where these bytes are
 // no shift file without settings, 16 where the output is shorter than the moved file, and writes nothing.
-pub fn move_forward(file: &[u8], output: &mut [u8]) -> ShiftWritten
+pub fn move_forward(file: &[u8], output: &mut [u8]) -> Result<usize, NotWritten>
     ensures { MovePost ShiftForm.WithoutSettings file.now output.old result output.new }
 {
     move_file(ShiftForm::WithoutSettings, file, output)
@@ -197,7 +171,7 @@ pub fn move_forward(file: &[u8], output: &mut [u8]) -> ShiftWritten
 
 // Writes a shift file with settings as one without them at the front of the output; or answers 15 where these bytes are no shift file with settings, 20
 // where a record has 4:2:2 or a recorded setting, 16 where the output is shorter than the moved file, and writes nothing.
-pub fn move_back(file: &[u8], output: &mut [u8]) -> ShiftWritten
+pub fn move_back(file: &[u8], output: &mut [u8]) -> Result<usize, NotWritten>
     ensures { MovePost ShiftForm.WithSettings file.now output.old result output.new }
 {
     move_file(ShiftForm::WithSettings, file, output)

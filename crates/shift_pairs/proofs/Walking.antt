@@ -9,18 +9,16 @@ use lib.ListN.{length, get_or, drop, drop_of_length-le, length-append, length-ma
 use lib.Seq.{drop-cons}
 use Rattle.merge_sort.specs.Order.{count}
 use Rattle.merge_sort.specs.Ascending.{sorted, keys_from}
-use Rattle.shift_file.specs.declared.ShiftForm.{ShiftForm}
 use Rattle.shift_file.specs.File.{HasFile}
-use Rattle.shift_file.specs.Read.{records_in}
 use Rattle.crossing_keys.specs.declared.key.Key.{Key}
 use Rattle.crossing_keys.specs.Keys.{crossing_of, crossings_of, number_of}
-use Rattle.crossing_keys.proofs.Keyed.{sorted_long, keys_sorted, keys_below, place_below, as_many, its_crossing, its_place}
+use Rattle.crossing_keys.proofs.Keyed.{sorted_long, keys_sorted, keys_below, its_crossing, its_place}
 use Rattle.std.proofs.Common.{None}
 use Rattle.shift_pairs.specs.declared.PairReport.{PairReport}
 use Rattle.shift_pairs.specs.declared.Tally.{Tally}
 use Rattle.shift_pairs.specs.Pairs.{Files, Pair, all_pairs}
 use Rattle.shift_pairs.specs.Report.{first_differing, equal_pairs, differing_pairs, with_ours, with_theirs, without, report_of}
-use Rattle.shift_pairs.specs.Known.{HasKeys, tally_of, OneMore}
+use Rattle.shift_pairs.specs.Known.{tally_of, OneMore}
 use Rattle.shift_pairs.proofs.Counts.{pairs_counted, file_whole}
 use Rattle.shift_pairs.proofs.Named.{sorted-named}
 use Rattle.shift_pairs.proofs.Walk.{pair_at, Walk, no_ours, no_theirs, ours_only, theirs_only, both, Walk-pairs, named_pairs}
@@ -31,14 +29,6 @@ pub record Walking (f : Files) (a b : List ℕ) (i j : ℕ) (t : Tally) : Type 0
   pub few_ours : length done ≤ i
   pub few_theirs : length done ≤ j
   pub rest : (zs : List Pair) → Walk (drop i a) (drop j b) zs → Walk a b (done ++ zs)
-
--- a key's place is that of a record, and there are few
-module _ (form : ShiftForm) (file : List ℕ) (keys : List Key) (h : HasKeys form file keys) where
-  pub place_inside : (i : ℕ) (k : Key) → i < length keys → k ≡ get_or keys i k → k.place < length (records_in form file)
-  place_inside i k l is = omega (arith, place_below (records_in form file) keys h.is_file_lem.has.few h.keys_are i k l, ap (λ (x : Key). x.place) is)
-
-  pub keys_few : length keys ≤ 4096
-  keys_few = omega (arith, as_many (records_in form file) keys h.is_file_lem.has.few h.keys_are, h.is_file_lem.has.few)
 
 -- the keys that are left, and the first of them
 left : (l : List ℕ) (i : ℕ) → i < length l → drop i l ≡ get_or l i 0 ∷ drop (i + 1) l

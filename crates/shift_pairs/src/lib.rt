@@ -2,16 +2,15 @@
 // The order is made in the call: two arrays of 4,096 keys are all the room it takes, 64 KiB of stack, and no heap.
 #![tactic(auto)]
 
-ghost use Rattle.std.specs.Prelude.{◌≡◌, ◌+◌, ◌<◌, length, Err};
-ghost use Rattle.shift_reader.specs.Known.{HasRecord};
-ghost use Rattle.crossing_keys.specs.Keys.{KeysFit};
+ghost use Rattle.std.specs.Prelude.{◌≡◌, ◌+◌, ◌<◌};
 ghost use Rattle.shift_pairs.specs.Report.{report_of};
-ghost use Rattle.shift_pairs.specs.Pairing.{files_of, no_report, PairingPost};
-ghost use Rattle.shift_pairs.specs.Known.{HasKeys, OneMore};
+ghost use Rattle.shift_pairs.specs.Pairing.{files_of, PairingPost};
+ghost use Rattle.shift_pairs.specs.Known.{OneMore};
 
-use crossing_keys::Key;
+use crossing_keys::{Key, OrderedFile};
 use record_difference::Difference;
 use shift_file::ShiftForm;
+use shift_reader::file::ShiftFile;
 use yuv_error::YuvError;
 
 // A pair that differs, by the places of its records in their files, from 0.
@@ -33,12 +32,38 @@ pub struct PairReport {
     pub first: Option<DifferingPair>,
 }
 
-// What pairing answers: 15 with the file that is none, 1 for ours and 2 for theirs; or else the report.
-#[derive(Clone, Copy)]
-pub struct Pairing {
-    pub answer: Result<(), YuvError>,
-    pub broken: u32,
-    pub report: PairReport,
+// The one of the two files that is no shift file.
+#[derive(Clone, Copy, Debug, PartialEq, Eq)]
+pub enum BrokenFile {
+    Ours,
+    Theirs,
+}
+
+// 1 and 2, as C is told them.
+impl From<BrokenFile> for u32 {
+    ghost use Rattle.std.specs.Prelude.{◌≡◌};
+    ghost use Rattle.shift_pairs.specs.Pairing.{broken_number};
+
+    ghost from_gives = { λ broken number. number ≡ broken_number broken };
+
+    fn from(broken: BrokenFile) -> u32 {
+        match broken {
+            BrokenFile::Ours => 1,
+            BrokenFile::Theirs => 2,
+        }
+    }
+}
+
+// 15, of either file.
+impl From<BrokenFile> for YuvError {
+    ghost use Rattle.std.specs.Prelude.{◌≡◌};
+    ghost use Rattle.yuv_error.specs.declared.YuvError.TheVariants.{MalformedShiftFile};
+
+    ghost from_gives = { λ broken error. error ≡ MalformedShiftFile };
+
+    fn from(_broken: BrokenFile) -> YuvError {
+        YuvError::MalformedShiftFile
+    }
 }
 
 // The pairs so far.
@@ -50,34 +75,23 @@ struct Tally {
 }
 
 // One pair more, record i of ours with record j of theirs: here they are compared.
-fn with_pair(
-    tally: Tally,
-    form_a: ShiftForm,
-    ours: &[u8],
-    i: usize,
-    form_b: ShiftForm,
-    theirs: &[u8],
-    j: usize,
-) -> Tally
-    requires our_record { HasRecord form_a ours.now i }
-    requires their_record { HasRecord form_b theirs.now j }
+fn with_pair(tally: Tally, ours: &ShiftFile, i: usize, theirs: &ShiftFile, j: usize) -> Tally
+    requires our_record { i < ours.now.count }
+    requires their_record { j < theirs.now.count }
     requires few_pairs { tally.equal + tally.differing < 4096 }
-    ensures { OneMore (files_of form_a ours.now form_b theirs.now) (record { ours = i; theirs = j }) tally result }
+    ensures { OneMore (files_of ours.now.form ours.now.bytes.now theirs.now.form theirs.now.bytes.now) (record { ours = i; theirs = j }) tally result }
 {
-    let difference = match record_difference::compare_records(form_a, ours, i, form_b, theirs, j) {
-        None => {
-            return Tally {
-                equal: tally.equal + 1,
-                ..tally
-            }
-        }
-        Some(difference) => difference,
+    let Some(difference) = record_difference::compare_records(ours, i, theirs, j) else {
+        return Tally {
+            equal: tally.equal + 1,
+            ..tally
+        };
     };
     let differing = tally.differing + 1;
     if tally.differing != 0 {
         return Tally { differing, ..tally };
     }
-    let entry = shift_reader::entry_of(form_a, ours, i);
+    let entry = ours.entry(i);
     Tally {
         equal: tally.equal,
         differing,
@@ -91,18 +105,12 @@ fn with_pair(
 }
 
 // The report of two files by the sorted keys of their records: a walk over both, where equal crossings make a pair.
-fn pair_keys(
-    form_a: ShiftForm,
-    ours: &[u8],
-    a: &[Key],
-    form_b: ShiftForm,
-    theirs: &[u8],
-    b: &[Key],
-) -> PairReport
-    requires our_keys { HasKeys form_a ours.now a.now }
-    requires their_keys { HasKeys form_b theirs.now b.now }
-    ensures { result ≡ report_of (files_of form_a ours.now form_b theirs.now) }
+#[tactic(auto, using(crossing_keys::proofs::Places::record_named))]
+fn pair_keys(ours: &OrderedFile, theirs: &OrderedFile) -> PairReport
+    ensures { result ≡ report_of (files_of ours.now.file.form ours.now.file.bytes.now theirs.now.file.form theirs.now.file.bytes.now) }
 {
+    let a = ours.keys;
+    let b = theirs.keys;
     let mut tally = Tally {
         equal: 0,
         differing: 0,
@@ -124,11 +132,9 @@ fn pair_keys(
         } else {
             tally = with_pair(
                 tally,
-                form_a,
-                ours,
+                &ours.file,
                 x.place as usize,
-                form_b,
-                theirs,
+                &theirs.file,
                 y.place as usize,
             );
             i += 1;
@@ -145,63 +151,28 @@ fn pair_keys(
     }
 }
 
-// The report of two files, with room for a key of each record.
-fn pair_with(
-    form_a: ShiftForm,
+// The report of our shift and theirs; or which of the two is no shift file, ours first. Form and bytes are two parameters here: whether they are a file
+// is what is asked.
+pub fn pair_files(
+    our_form: ShiftForm,
     ours: &[u8],
-    a: &mut [Key],
-    form_b: ShiftForm,
+    their_form: ShiftForm,
     theirs: &[u8],
-    b: &mut [Key],
-) -> PairReport
-    requires our_room { KeysFit form_a ours.now (length a.old) }
-    requires their_room { KeysFit form_b theirs.now (length b.old) }
-    ensures { result ≡ report_of (files_of form_a ours.now form_b theirs.now) }
+) -> Result<PairReport, BrokenFile>
+    ensures { PairingPost our_form ours.now their_form theirs.now result }
 {
-    crossing_keys::write_keys(form_a, ours, a);
-    crossing_keys::write_keys(form_b, theirs, b);
-    pair_keys(form_a, ours, a, form_b, theirs, b)
-}
-
-fn broken_file(which: u32) -> Pairing
-    ensures { (result.answer ≡ Err YuvError.MalformedShiftFile) × (result.broken ≡ which) × (result.report ≡ no_report) }
-{
-    Pairing {
-        answer: Err(YuvError::MalformedShiftFile),
-        broken: which,
-        report: PairReport {
-            equal: 0,
-            differing: 0,
-            only_ours: 0,
-            only_theirs: 0,
-            first: None,
-        },
-    }
-}
-
-// The report of our shift and theirs; or 15, and which of the two is no shift file.
-pub fn pair_files(form_a: ShiftForm, ours: &[u8], form_b: ShiftForm, theirs: &[u8]) -> Pairing
-    ensures { PairingPost form_a ours.now form_b theirs.now result }
-{
-    if !shift_file::is_file(form_a, ours) {
-        return broken_file(1);
-    }
-    if !shift_file::is_file(form_b, theirs) {
-        return broken_file(2);
-    }
-    let n = shift_file::count_at(form_a, ours) as usize;
-    let m = shift_file::count_at(form_b, theirs) as usize;
-    let mut a = [Key {
+    let ours = ShiftFile::open(our_form, ours).map_err(|_| BrokenFile::Ours)?;
+    let theirs = ShiftFile::open(their_form, theirs).map_err(|_| BrokenFile::Theirs)?;
+    // No heap is used, so the room for a key of each record of two whole files is on the stack.
+    let mut our_room = [Key {
         crossing: 0,
         place: 0,
     }; 4096];
-    let mut b = [Key {
+    let mut their_room = [Key {
         crossing: 0,
         place: 0,
     }; 4096];
-    Pairing {
-        answer: Ok(()),
-        broken: 0,
-        report: pair_with(form_a, ours, &mut a[0..n], form_b, theirs, &mut b[0..m]),
-    }
+    let ours = OrderedFile::sorted(&ours, &mut our_room);
+    let theirs = OrderedFile::sorted(&theirs, &mut their_room);
+    Ok(pair_keys(&ours, &theirs))
 }

@@ -1,29 +1,21 @@
 -- Entries as they are told: one after the other, from a record on. Assumes nothing.
 use Prim.Native.Nat.{ℕ, zero, suc, ◌+◌, ◌*◌, ◌-◌, ◌/◌, ◌≤◌, ◌<◌, min}
-use mathlib.Core.Path.{◌≡◌, refl, sym, ◌∙◌}
-use mathlib.Core.List.{List, [], ◌∷◌, ◌++◌}
-use native.Mathlib.Nat.{zero-add, mul-zero, mul-suc, add_assoc}
+use mathlib.Core.Path.{◌≡◌, refl, ap, sym, ◌∙◌}
+use mathlib.Core.List.{List, ◌++◌, append_assoc, append-nil}
+use native.Mathlib.Nat.{zero-add, add-zero, mul-zero, mul-suc, mul-le-mul}
+use native.Mathlib.Numerals.{add-one}
 use native.Mathlib.Omega.{arith}
-use lib.ListN.{length, drop, length-append}
+use lib.ListN.{length, take, drop, length-append}
 use lib.Seq.{sets, sets-eq}
-use Rattle.little_endian.proofs.Stores.{sets-append}
+use borrow.Rule.Slice.PartMut.{put_mid}
+use Rattle.little_endian.proofs.Stores.{sets-append, sets_part}
 use Rattle.shift_file.specs.declared.ShiftForm.{ShiftForm}
 use Rattle.shift_file.specs.declared.ShiftForm.TheVariants.{WithoutSettings, WithSettings}
 use Rattle.shift_file.specs.File.{ShiftRecord, Allowed, EachAllowed}
-use Rattle.shift_file.specs.Read.{records_in}
 use Rattle.shift_reader.specs.declared.EntryKind.{EntryKind}
 use Rattle.shift_reader.specs.declared.EntryKind.TheVariants.{Places, PlacesAndSettings}
-use Rattle.shift_reader.specs.declared.ShiftEntry.{ShiftEntry}
-use Rattle.shift_reader.specs.Entry.{nth, record_of, offset_of, places_of, settings_after, entry_size, entries_of, entry_numbers}
-use Rattle.shift_reader.specs.Known.{EntryIs}
+use Rattle.shift_reader.specs.Entry.{nth, offset_of, places_of, settings_after, entry_of, entry_size, entries_of}
 use Rattle.shift_reader.proofs.Places.{allowed_at}
-
--- an entry's numbers are the record's
-pub entry_numbers_lem : (form : ShiftForm) (file : List ℕ) (k : ℕ) (e : ShiftEntry) → EntryIs form file k e
-    → entry_numbers e ≡ places_of form (offset_of form (records_in form file) k) (record_of form file k)
-entry_numbers_lem form file k e p = λ i.
-    p.crossing i ∷ p.width i ∷ p.height i ∷ p.offset i ∷ p.size i ∷ p.y_offset i ∷ p.y_size i
-    ∷ p.u_offset i ∷ p.u_size i ∷ p.v_offset i ∷ p.v_size i ∷ []
 
 pub length_after : (kind : EntryKind) (form : ShiftForm) (r : ShiftRecord) → Allowed form r → 11 + length (settings_after kind form r) ≡ entry_size kind
 length_after Places form r a = refl
@@ -47,29 +39,34 @@ module _ (kind : EntryKind) (form : ShiftForm) (rs : List ShiftRecord) where
         rw (length-append (after k) (entries_of kind form rs (k + 1) n), mul-suc)
         (omega (arith, length_after kind form (nth rs k) (allowed_at form k rs each (omega arith)), length_entries (k + 1) n (omega arith)))
 
-  -- what is left up to a record, by the entry that is told next
-  pub left_next : (k end : ℕ) → k < end
-      → length (entries_of kind form rs k (end - k)) ≡ 11 + length (after k) + length (entries_of kind form rs (k + 1) (end - (k + 1)))
-  unfolding entries_of
-  left_next k end h =
-      let one : end - k ≡ suc (end - (k + 1)) = omega arith in
-      rw (one, length-append (after k) (entries_of kind form rs (k + 1) (end - (k + 1)))) (omega arith)
+  -- the entry of a record
+  abbrev one : (k : ℕ) → List ℕ
+  one k = entry_of kind form (offset_of form rs k) (nth rs k)
 
-  -- one entry told, and the rest still to tell
-  pub entry_more : (d e s : List ℕ) (at next k end : ℕ) → e ≡ places_of form (offset_of form rs k) (nth rs k)
-      → s ≡ after k → next ≡ 11 + length (after k) → k < end
-      → sets (sets (sets d at e) (at + 11) s) (at + next) (entries_of kind form rs (k + 1) (end - (k + 1))) ≡ sets d at (entries_of kind form rs k (end - k))
+  -- one entry more
+  entries_next : (k n : ℕ) → entries_of kind form rs k (suc n) ≡ entries_of kind form rs k n ++ one (k + n)
   unfolding entries_of
-  entry_more d e s at next k end is settings size h =
-      let places = places_of form (offset_of form rs k) (nth rs k) in
-      let rest = entries_of kind form rs (k + 1) (end - (k + 1)) in
-      let one : end - k ≡ suc (end - (k + 1)) = omega arith in
-      rw (one, is, settings, size, ← add_assoc at 11 (length (after k)))
-      (sym (sets-append (after k) rest (sets d at places) (at + 11)) ∙ sym (sets-append places (after k ++ rest) d at))
+  entries_next k zero = rw add-zero (append-nil (one k))
+  entries_next k (suc n) =
+      let there : k + 1 + n ≡ k + suc n = omega arith in
+      ap (λ (l : List ℕ). one k ++ l) (entries_next (k + 1) n ∙ rw there) ∙ sym (append_assoc (one k) (entries_of kind form rs (k + 1) n) (one (k + suc n)))
 
-  pub entries_done : (d : List ℕ) (at k n : ℕ) → n ≡ 0 → sets d at (entries_of kind form rs k n) ≡ d
-  unfolding entries_of
-  entries_done d at k n e = rw e
+  -- told behind those that were, in the part that starts there
+  pub entry_told : (d s e : List ℕ) (k i n at j : ℕ) → EachAllowed form rs → k + n ≤ length rs → i < n → entry_size kind * n ≤ length d
+      → length s ≡ length d → at ≡ entry_size kind * i → j ≡ length d - at → s ≡ sets d 0 (entries_of kind form rs k i)
+      → e ≡ sets (take j (drop at s)) 0 (one (k + i)) → put_mid at j s e ≡ sets d 0 (entries_of kind form rs k (i + 1))
+  entry_told d s e k i n at j each inside more room same here rest so told =
+      let r = nth rs (k + i) in
+      let es = entries_of kind form rs k i in
+      let long : length es ≡ at = length_entries each k i (omega arith) ∙ sym here in
+      let size : length (one (k + i)) ≡ entry_size kind =
+      length-append (places_of form (offset_of form rs (k + i)) r) (after (k + i)) ∙ length_after kind form r (allowed_at form (k + i) rs each (omega arith)) in
+      let fit : entry_size kind * suc i ≤ entry_size kind * n = mul-le-mul {n₁ = entry_size kind} (omega arith) more in
+      let past : at + entry_size kind ≤ length d = omega (arith, mul-suc (entry_size kind) i) in
+      let place : sets s at (one (k + i)) ≡ sets (sets d 0 es) (0 + length es) (one (k + i)) = rw (zero-add (length es), long, so) in
+      rw (add-one i)
+      (ap (put_mid at j s) told ∙ sets_part s (one (k + i)) at j (omega arith) (omega arith) ∙ place ∙ sym (sets-append es (one (k + i)) d 0)
+      ∙ ap (sets d 0) (sym (entries_next k i)))
 
   -- where a call tells an entry, the record that it asks for first is one
   first_told : (first n : ℕ) → n ≤ length rs - first → entries_of kind form rs (min first (length rs)) n ≡ entries_of kind form rs first n

@@ -2,3 +2,4 @@
 pub mod Places
 pub mod Entries
 pub mod Post
+pub mod Files

@@ -1,10 +1,9 @@
 -- What is known of a file that the check let through, and of its entries. This serves the contracts between functions: no meaning stands here.
 -- Assumes nothing.
-use Rattle.std.specs.Prelude.{ℕ, ◌+◌, ◌<◌, ◌≡◌, List, length}
+use Rattle.std.specs.Prelude.{ℕ, ◌+◌, ◌≤◌, ◌<◌, ◌≡◌, List, length, take, drop}
 use Rattle.shift_file.specs.declared.ShiftForm.{ShiftForm}
 use Rattle.shift_file.specs.File.{IsFileOf, header_size, bytes_of}
 use Rattle.shift_file.specs.Read.{records_in}
-use Rattle.shift_reader.specs.declared.Place.{Place}
 use Rattle.shift_reader.specs.declared.ShiftEntry.{ShiftEntry}
 use Rattle.shift_reader.specs.Entry.{record_of, offset_of}
 
@@ -13,10 +12,7 @@ pub record HasRecord (form : ShiftForm) (file : List ℕ) (k : ℕ) : Type 0 whe
   pub is_file_lem : IsFileOf form file (records_in form file)
   pub below : k < length (records_in form file)
 
-pub record PlaceIs (form : ShiftForm) (file : List ℕ) (k : ℕ) (p : Place) : Type 0 where
-  pub offset : p.offset ≡ offset_of form (records_in form file) k
-  pub size : p.length ≡ length (bytes_of (record_of form file k))
-
+-- what an entry tells, and that record and planes stand there
 pub record EntryIs (form : ShiftForm) (file : List ℕ) (k : ℕ) (e : ShiftEntry) : Type 0 where
   pub crossing : e.crossing ≡ (record_of form file k).crossing
   pub width : e.width ≡ (record_of form file k).width
@@ -29,3 +25,9 @@ pub record EntryIs (form : ShiftForm) (file : List ℕ) (k : ℕ) (e : ShiftEntr
   pub u_size : e.chroma_length ≡ length (record_of form file k).u
   pub v_offset : e.v_offset ≡ offset_of form (records_in form file) k + header_size form + length (record_of form file k).y + length (record_of form file k).u
   pub v_size : e.chroma_length ≡ length (record_of form file k).v
+  pub inside : e.offset + e.length ≤ length file
+  pub planes : e.v_offset + e.chroma_length ≤ length file
+  pub bytes : take e.length (drop e.offset file) ≡ bytes_of (record_of form file k)
+  pub y : take e.y_length (drop e.y_offset file) ≡ (record_of form file k).y
+  pub u : take e.chroma_length (drop e.u_offset file) ≡ (record_of form file k).u
+  pub v : take e.chroma_length (drop e.v_offset file) ≡ (record_of form file k).v

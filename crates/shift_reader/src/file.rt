@@ -4,12 +4,13 @@ ghost use Rattle.little_endian.specs.Number.{Bytes};
 ghost use Rattle.shift_file.specs.Read.{count_at};
 ghost use Rattle.shift_file.specs.Check.{is_file};
 
-use crate::{Place, ShiftEntry};
+use crate::ShiftEntry;
 use shift_file::part::Part;
 use shift_file::{SettingCodes, ShiftForm};
 use yuv_error::YuvError;
 
-// Bytes that are a shift file, and how many records it has.
+// Bytes that are a shift file, and how many records it has. `RecordList` of `shift_writer` has the same fields, of records without count and pairs.
+// Record k is asked for by its number, as an item of a slice is: a value of file and number would be made for one call, and asks `k < count` too.
 #[derive(Clone, Copy)]
 pub struct ShiftFile<'a> {
     pub form: ShiftForm,
@@ -27,7 +28,7 @@ impl<'a> ShiftFile<'a> {
     ghost use Rattle.shift_file.specs.Read.{records_in};
     ghost use Rattle.shift_file.specs.Check.{is_file};
     ghost use Rattle.shift_reader.specs.Entry.{record_of};
-    ghost use Rattle.shift_reader.specs.Known.{PlaceIs, EntryIs};
+    ghost use Rattle.shift_reader.specs.Known.{EntryIs};
 
     // These bytes, where they are a shift file.
     pub fn open(form: ShiftForm, bytes: &'a [u8]) -> Result<ShiftFile<'a>, YuvError>
@@ -44,37 +45,27 @@ impl<'a> ShiftFile<'a> {
         }
     }
 
-    // Where record k stands, by its pair.
-    fn place(&self, k: usize) -> Place
-        requires { k < self.now.count }
-        ensures { PlaceIs self.now.form self.now.bytes.now k result }
-    {
-        let pair = self.form.mark_size() + 4 + 12 * k;
-        Place {
-            offset: little_endian::read_u64(self.bytes, pair) as usize,
-            length: little_endian::read_u32(self.bytes, pair + 8) as usize,
-        }
-    }
-
-    // Record k, without its bytes.
+    // Record k, without its bytes: its pair says where it stands, and its header what it is.
     pub fn entry(&self, k: usize) -> ShiftEntry
         requires { k < self.now.count }
         ensures { EntryIs self.now.form self.now.bytes.now k result }
     {
-        let place = self.place(k);
+        let pair = self.form.mark_size() + 4 + 12 * k;
+        let offset = little_endian::read_u64(self.bytes, pair) as usize;
+        let length = little_endian::read_u32(self.bytes, pair + 8) as usize;
         let part = Part {
             form: self.form,
-            bytes: shift_file::from_place(self.bytes, place.offset),
+            bytes: shift_file::from_place(self.bytes, offset),
         };
         let luma = part.luma_size();
         let chroma = part.chroma_size();
-        let y_offset = place.offset + self.form.header_size();
+        let y_offset = offset + self.form.header_size();
         ShiftEntry {
             crossing: part.crossing(),
             width: part.width(),
             height: part.height(),
-            offset: place.offset,
-            length: place.length,
+            offset,
+            length,
             y_offset,
             y_length: luma,
             u_offset: y_offset + luma,

@@ -4,11 +4,11 @@
 
 pub mod file; // a file that was checked
 
-ghost use Rattle.std.specs.Prelude.{◌≡◌, ◌+◌, ◌*◌, ◌≤◌, ◌<◌, min, length};
+ghost use Rattle.std.specs.Prelude.{◌≡◌, ◌+◌, ◌*◌, ◌≤◌, ◌<◌, length};
 ghost use Rattle.std.proofs.lemmas.List.Edits.{sets};
 ghost use Rattle.shift_file.specs.File.{settings_told, code_list, bytes_of};
 ghost use Rattle.shift_file.specs.Read.{records_in};
-ghost use Rattle.shift_reader.specs.Entry.{record_of, entry_size, settings_after, entries_of, entry_numbers};
+ghost use Rattle.shift_reader.specs.Entry.{record_of, entry_of, entry_size, entries_of, offset_of, nth};
 ghost use Rattle.shift_reader.specs.Known.{HasRecord, EntryIs};
 ghost use Rattle.shift_reader.specs.Reading.{ReadPost};
 
@@ -35,13 +35,6 @@ impl EntryKind {
     }
 }
 
-// Where a record stands.
-#[derive(Clone, Copy, Debug, PartialEq, Eq)]
-struct Place {
-    offset: usize,
-    length: usize,
-}
-
 // A record of a file: what its header says, and where it and its planes stand, from the file's start.
 #[derive(Clone, Copy, Debug, PartialEq, Eq)]
 pub struct ShiftEntry {
@@ -57,16 +50,38 @@ pub struct ShiftEntry {
     pub chroma_length: usize,
 }
 
-// What reading answers: the file's records, and how many of them were told.
-// No Result with two numbers: a call answers both numbers, 0 and 0, beside a refusal too.
+// What was read: the file's records, and how many of them were told.
 #[derive(Clone, Copy, Debug, PartialEq, Eq)]
 pub struct ShiftReading {
-    pub answer: Result<(), YuvError>,
     pub count: usize,
     pub told: usize,
 }
 
-// ---- the same of bytes of which a record is known
+// The eleven numbers of an entry.
+impl From<ShiftEntry> for [u64; 11] {
+    ghost use Rattle.std.specs.Prelude.{◌≡◌};
+    ghost use Rattle.shift_reader.specs.Entry.{entry_numbers};
+
+    ghost from_gives = { λ entry numbers. numbers ≡ entry_numbers entry };
+
+    fn from(entry: ShiftEntry) -> [u64; 11] {
+        [
+            u64::from(entry.crossing),
+            u64::from(entry.width),
+            u64::from(entry.height),
+            entry.offset as u64,
+            entry.length as u64,
+            entry.y_offset as u64,
+            entry.y_length as u64,
+            entry.u_offset as u64,
+            entry.chroma_length as u64,
+            entry.v_offset as u64,
+            entry.chroma_length as u64,
+        ]
+    }
+}
+
+// ---- the same of bytes of which a record is known: public names, with their contracts, of what is one line over `ShiftFile`
 
 // The file that these bytes are.
 fn known_file(form: ShiftForm, file: &[u8], k: usize) -> ShiftFile
@@ -128,51 +143,18 @@ pub fn settings_of(form: ShiftForm, file: &[u8], k: usize) -> SettingCodes
 
 // ---- entries
 
-pub fn tell_numbers(entries: &mut [u64], at: usize, numbers: &[u64])
-    requires { at + length numbers.now ≤ length entries.old }
-    ensures { entries.new ≡ sets entries.old at numbers.now }
-{
-    little_endian::put(entries, at, numbers);
-}
-
-// The eleven numbers of an entry.
-fn tell_entry(entries: &mut [u64], at: usize, entry: ShiftEntry)
-    requires { at + 11 ≤ length entries.old }
-    ensures { entries.new ≡ sets entries.old at (entry_numbers entry) }
-{
-    let numbers = [
-        u64::from(entry.crossing),
-        u64::from(entry.width),
-        u64::from(entry.height),
-        entry.offset as u64,
-        entry.length as u64,
-        entry.y_offset as u64,
-        entry.y_length as u64,
-        entry.u_offset as u64,
-        entry.chroma_length as u64,
-        entry.v_offset as u64,
-        entry.chroma_length as u64,
-    ];
-    tell_numbers(entries, at, &numbers)
-}
-
-// The settings of record k, where they are told.
-fn tell_settings(entries: &mut [u64], at: usize, kind: EntryKind, file: &ShiftFile, k: usize)
+// The entry of record k at the front: eleven numbers, and its settings where they are told.
+fn tell_entry(kind: EntryKind, file: &ShiftFile, k: usize, entries: &mut [u64])
     requires below { k < file.now.count }
-    requires room { at + length (settings_after kind file.now.form (record_of file.now.form file.now.bytes.now k)) ≤ length entries.old }
-    ensures { entries.new ≡ sets entries.old at (settings_after kind file.now.form (record_of file.now.form file.now.bytes.now k)) }
+    requires room { entry_size kind ≤ length entries.old }
+    ensures { entries.new ≡ sets entries.old 0 (entry_of kind file.now.form (offset_of file.now.form (records_in file.now.form file.now.bytes.now) k)
+        (record_of file.now.form file.now.bytes.now k)) }
 {
+    little_endian::put(entries, 0, &<[u64; 11]>::from(file.entry(k)));
     match kind {
         EntryKind::Places => {}
         EntryKind::PlacesAndSettings => {
-            let codes = file.settings(k);
-            let numbers = [
-                u64::from(codes.sampling),
-                u64::from(codes.range),
-                u64::from(codes.matrix),
-                u64::from(codes.transfer),
-            ];
-            tell_numbers(entries, at, &numbers);
+            little_endian::put(entries, 11, &<[u64; 4]>::from(file.settings(k)));
         }
     }
 }
@@ -184,47 +166,26 @@ fn tell_entries(kind: EntryKind, file: &ShiftFile, first: usize, count: usize, e
     ensures { entries.new ≡ sets entries.old 0 (entries_of kind file.now.form (records_in file.now.form file.now.bytes.now) first count) }
 {
     let size = kind.size();
-    let mut at = 0;
-    for k in first..first + count {
-        tell_entry(entries, at, file.entry(k));
-        tell_settings(entries, at + 11, kind, file, k);
-        at += size;
+    for i in 0..count {
+        tell_entry(kind, file, first + i, &mut entries[size * i..]);
     }
 }
 
-pub fn at_most(a: usize, b: usize) -> usize
-    ensures { result ≡ min a b }
-{
-    a.min(b)
-}
-
-// How many records a file has, and the entries of those from `first` on that have room; or 15 for bytes that are no shift file, and nothing written.
+// How many records a file has, and the entries of those from `first` on that have room; or 15 for bytes that are no shift file, and nothing written. The
+// form is what is asked of the bytes.
 pub fn read_records(
     kind: EntryKind,
     form: ShiftForm,
     file: &[u8],
     first: usize,
     entries: &mut [u64],
-) -> ShiftReading
+) -> Result<ShiftReading, YuvError>
     ensures { ReadPost kind form file.now first entries.old result entries.new }
 {
-    let file = match ShiftFile::open(form, file) {
-        Ok(file) => file,
-        Err(error) => {
-            return ShiftReading {
-                answer: Err(error),
-                count: 0,
-                told: 0,
-            };
-        }
-    };
+    let file = ShiftFile::open(form, file)?;
     let count = file.count;
     let from = first.min(count);
     let told = (count - from).min(entries.len() / kind.size());
     tell_entries(kind, &file, from, told, entries);
-    ShiftReading {
-        answer: Ok(()),
-        count,
-        told,
-    }
+    Ok(ShiftReading { count, told })
 }

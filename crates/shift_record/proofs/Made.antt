@@ -1,17 +1,21 @@
 -- A record made of planes: its size, that it is allowed, its bytes as they are put, and the answer by the checks. Assumes nothing.
 use Prim.Native.Nat.{ℕ, ◌+◌, ◌*◌, ◌^◌, ◌≤◌, ◌<◌}
 use mathlib.Core.Path.{◌≡◌, refl, ap, sym, ◌∙◌}
-use mathlib.Core.Bool.{Bool, true, false, ◌||◌}
-use mathlib.Core.List.{List, ◌++◌, append_assoc}
+use mathlib.Core.Bool.{Bool, true, false, cond, not, ◌&&◌, ◌||◌}
+use mathlib.Core.List.{List, [], ◌∷◌, ◌++◌, append_assoc}
 use native.Mathlib.Omega.{arith}
 use lib.Dec.{ltb, eqb}
-use borrow.Author.Tests.{ltb-true, eqb-true}
+use borrow.Author.Tests.{ltb-true, eqb-true, not-true}
 use lib.ListN.{length, length-append}
 use lib.Seq.{sets}
 use Rattle.yuv_support.specs.declared.YuvChromaSubsampling.{YuvChromaSubsampling}
 use Rattle.yuv_support.specs.declared.YuvChromaSubsampling.TheVariants.{Yuv420, Yuv422}
 use Rattle.yuv_support.specs.Sampling.{chroma_width, chroma_height}
-use Rattle.yuv_error.specs.Rules.{first_numbers}
+use Rattle.std.specs.Prelude.{Err}
+use Rattle.yuv_error.specs.declared.YuvError.{YuvError}
+use Rattle.yuv_error.specs.Numbers.{Numbers, numbers_of}
+use Rattle.yuv_error.specs.Rules.{Rule, first_numbers}
+use Rattle.yuv_error.proofs.Numbers.{refused_number}
 use Rattle.yuv_error.proofs.Accepted.{accepted_planes}
 use Rattle.little_endian.specs.Number.{Bytes, low_bytes}
 use Rattle.little_endian.proofs.Number.{length_low}
@@ -20,9 +24,10 @@ use Rattle.shift_file.specs.declared.ShiftForm.TheVariants.{WithoutSettings, Wit
 use Rattle.shift_file.specs.declared.SettingCodes.{SettingCodes}
 use Rattle.shift_file.specs.File.{Allowed, settings_size, header_size, is_code, codes_allowed, is_side, chroma_bytes, bytes_of}
 use Rattle.shift_file.proofs.Record.{both, side_bounds}
+use Rattle.shift_writer.specs.Output.{size_told}
 use Rattle.shift_writer.proofs.Pairs.{sets_four}
 use Rattle.shift_record.specs.declared.RecordFrame.{RecordFrame}
-use Rattle.shift_record.specs.Record.{unpadded, codes_in, settings_of, chroma_rows, record_made, header, record_size, y_lent, u_lent, v_lent, lent_rules, frame_allowed}
+use Rattle.shift_record.specs.Record.{unpadded, codes_in, settings_of, chroma_rows, record_made, header, record_size, y_lent, u_lent, v_lent, lent_rules, frame_allowed, opening_rules}
 use Rattle.shift_record.specs.Known.{IsFrame, PlanesFit}
 use Rattle.shift_record.proofs.Rows.{length-unpadded, Bytes-unpadded}
 
@@ -145,3 +150,24 @@ is_frame f e =
     let w = side_bounds _ p.0 in
     let h = side_bounds _ q.0 in
     record { width_least = w.0; width_most = w.1; height_least = h.0; height_most = h.1; codes = q.1 }
+
+-- ---- a refusal that is not 16 tells no size
+
+-- no rule says this number
+abbrev none_says : ℕ → List Rule → Bool
+none_says n [] = true
+none_says n (r ∷ rs) = not (eqb r.says.number n) && none_says n rs
+
+either_says : (b : Bool) (n : ℕ) (x y : Numbers) → not (eqb x.number n) ≡ true → not (eqb y.number n) ≡ true → not (eqb (cond b x y).number n) ≡ true
+either_says true n x y p q = p
+either_says false n x y p q = q
+
+not_said : (n : ℕ) (rs : List Rule) → not (eqb 0 n) ≡ true → none_says n rs ≡ true → not (eqb (first_numbers rs).number n) ≡ true
+not_said n [] z e = z
+not_said n (r ∷ rs) z e =
+    let p = both (not (eqb r.says.number n)) _ e in
+    either_says r.holds n r.says (first_numbers rs) p.0 (not_said n rs z p.1)
+
+pub refused_size : (f : RecordFrame) (y u v : List ℕ) (e : YuvError) (n : ℕ) → numbers_of (Err e) ≡ first_numbers (opening_rules f y u v) → 0 ≡ size_told (Err e) n
+refused_size f y u v e n is =
+    rw (refused_number e, ap (λ (k : Numbers). eqb k.number 16) is ∙ not-true _ (not_said 16 (opening_rules f y u v) refl refl))

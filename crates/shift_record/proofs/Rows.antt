@@ -1,6 +1,6 @@
 -- Rows without their padding: how many bytes they are, which byte is which, and one more of them copied. Assumes nothing.
 use Prim.Native.Nat.{ℕ, zero, suc, ◌+◌, ◌*◌, ◌-◌, ◌≤◌, ◌<◌}
-use mathlib.Core.Path.{◌≡◌, sym, ap, ap₂, ◌∙◌}
+use mathlib.Core.Path.{◌≡◌, sym, ap, ◌∙◌}
 use mathlib.Core.List.{List, [], ◌∷◌, ◌++◌}
 use native.Mathlib.Nat.{mul-suc, mul-zero, suc-mul, zero-mul, zero-add, mul-add, mul-le-mul_left}
 use native.Mathlib.Numerals.{add-one}
@@ -71,13 +71,6 @@ module _ (n stride : ℕ) (wide : n ≤ stride) where
   pub rows_done : (d p : List ℕ) (to left : ℕ) → left ≡ 0 → sets d to (unpadded n stride left p) ≡ d
   unfolding unpadded
   rows_done d p to left e = rw e
-
--- rows of a size and a count that the code worked out
-pub rows_fit : (n m rows k stride len at room : ℕ) → n ≡ m → rows ≡ k → m ≤ stride → len ≡ stride * k → at + m * k ≤ room
-    → (n ≤ stride) × (len ≡ stride * rows) × (at + n * rows ≤ room)
-rows_fit n m rows k stride len at room same same' row size fits =
-    let all : at + n * rows ≡ at + m * k = ap₂ (λ (x y : ℕ). at + x * y) same same' in
-    (omega arith, size ∙ ap (λ (y : ℕ). stride * y) (sym same'), omega arith)
 
 Bytes-append : (s t : List ℕ) → Bytes s → Bytes t → Bytes (s ++ t)
 Bytes-append [] t a b i = b i

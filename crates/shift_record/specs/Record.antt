@@ -1,6 +1,6 @@
 -- A record from planes with strides: docs/RULES.md, 11.6; with settings 11.7.
 -- Assumes nothing.
-use Rattle.std.specs.Prelude.{ℕ, zero, suc, ◌+◌, ◌*◌, ◌≡◌, Bool, not, ◌&&◌, List, [], ◌∷◌, ◌++◌, length, take, drop}
+use Rattle.std.specs.Prelude.{ℕ, zero, suc, ◌+◌, ◌*◌, ◌≡◌, Bool, not, ◌&&◌, List, [], ◌∷◌, ◌++◌, length, take, drop, Result}
 use Rattle.yuv_support.specs.declared.YuvChromaSubsampling.{YuvChromaSubsampling}
 use Rattle.yuv_support.specs.Sampling.{chroma_width, chroma_height}
 use Rattle.yuv_error.specs.declared.LentBuffer.{LentBuffer}
@@ -11,8 +11,8 @@ use Rattle.shift_file.specs.declared.ShiftForm.{ShiftForm}
 use Rattle.shift_file.specs.declared.ShiftForm.TheVariants.{WithoutSettings, WithSettings}
 use Rattle.shift_file.specs.declared.SettingCodes.{SettingCodes}
 use Rattle.shift_file.specs.File.{ShiftRecord, header_size, code_list, codes_allowed, sampling_of, is_side, bytes_of}
-use Rattle.shift_writer.specs.declared.ShiftWritten.{ShiftWritten}
-use Rattle.shift_writer.specs.Output.{overwritten, size_told, output_rules}
+use Rattle.shift_writer.specs.declared.NotWritten.{NotWritten}
+use Rattle.shift_writer.specs.Output.{outcome_of, size_of, overwritten, size_told, output_rules}
 use Rattle.shift_record.specs.declared.RecordFrame.{RecordFrame}
 
 -- RULES 11.6: the first n bytes of each of so many rows, one row after the other
@@ -79,13 +79,17 @@ lent_rules f y u v = planes_rules (y_lent f (length y)) (u_lent f (length u)) (v
 abbrev pub frame_allowed : RecordFrame → Bool
 frame_allowed f = is_side f.width && (is_side f.height && codes_allowed f.form (settings_of f))
 
+-- RULES 11.6: 15, then 8 to 12: what is asked before the output is measured
+abbrev pub opening_rules : RecordFrame → (y u v : List ℕ) → List Rule
+opening_rules f y u v = rule 15 (not (frame_allowed f)) 0 0 ∷ lent_rules f y u v
+
 -- RULES 11.6: 15, then 8 to 12, then 16
 abbrev pub record_rules : RecordFrame → (y u v : List ℕ) → (room : ℕ) → List Rule
 record_rules f y u v room =
     rule 15 (not (frame_allowed f)) 0 0 ∷ (lent_rules f y u v ++ output_rules (length (bytes_of (record_made f y u v))) room)
 
 -- RULES 11.6: everything of a call: its answer, the record's size, and each byte lent to it
-pub record RecordPost (f : RecordFrame) (y u v before : List ℕ) (r : ShiftWritten) (after : List ℕ) : Type 0 where
-  pub answered : numbers_of r.answer ≡ first_numbers (record_rules f y u v (length before))
-  pub size : r.size ≡ size_told r.answer (length (bytes_of (record_made f y u v)))
-  pub written : after ≡ overwritten r.answer (bytes_of (record_made f y u v)) before
+pub record RecordPost (f : RecordFrame) (y u v before : List ℕ) (r : Result ℕ NotWritten) (after : List ℕ) : Type 0 where
+  pub answered : numbers_of (outcome_of r) ≡ first_numbers (record_rules f y u v (length before))
+  pub size : size_of r ≡ size_told (outcome_of r) (length (bytes_of (record_made f y u v)))
+  pub written : after ≡ overwritten (outcome_of r) (bytes_of (record_made f y u v)) before

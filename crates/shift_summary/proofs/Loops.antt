@@ -14,31 +14,23 @@ use Rattle.summary_entry.specs.Entry.{entry_bytes, entries_bytes, no_entry}
 use Rattle.summary_entry.proofs.Entry.{length_entry}
 use Rattle.shift_file.specs.declared.ShiftForm.{ShiftForm}
 use Rattle.shift_file.specs.File.{ShiftRecord, records_at}
-use Rattle.shift_file.specs.Read.{records_in}
 use Rattle.crossing_keys.specs.declared.key.Key.{Key}
 use Rattle.crossing_keys.specs.Keys.{crossings_of, number_of}
-use Rattle.crossing_keys.proofs.Keyed.{place_below, as_many, its_place}
+use Rattle.crossing_keys.proofs.Keyed.{its_place}
 use Rattle.shift_summary.specs.Summary.{entries_of}
-use Rattle.shift_summary.specs.Built.{crossing_of}
-use Rattle.shift_summary.specs.Known.{HasRecords, Places}
+use Rattle.shift_summary.specs.Built.{crossing_of, in_order}
 use Rattle.shift_summary.proofs.Entries.{crossings_from}
 
 -- ---- the keys of a file
 
-pub same_records : (form : ShiftForm) (file : List ℕ) (n m : ℕ) → HasRecords form file n → m ≡ n → HasRecords form file m
-same_records form file n m h e = record { is_file_lem = h.is_file_lem; count_is = h.count_is ∙ sym e }
-
--- they name its records
-pub file_Places : (form : ShiftForm) (file : List ℕ) (n : ℕ) (keys : List Key) → HasRecords form file n
-    → map number_of keys ≡ sorted (keys_from 0 (crossings_of (records_in form file))) → Places (length keys) keys
-file_Places form file n keys h e =
-    let rs = records_in form file in
-    let few = h.is_file_lem.has.few in
-    record { place = λ i d k. omega (arith, place_below rs keys few e i d k, as_many rs keys few e) }
-
--- and are those of its entries
+-- they are those of its entries
 pub keys_of_entries : (form : ShiftForm) (rs : List ShiftRecord) → sorted (keys_from 0 (crossings_of rs)) ≡ sorted (keys_from 0 (map crossing_of (entries_of form rs)))
 keys_of_entries form rs = ap (λ (cs : List ℕ). sorted (keys_from 0 cs)) (sym (crossings_from (records_at form (length rs)) rs))
+
+-- and name them in order
+pub ordered_entries : (form : ShiftForm) (rs : List ShiftRecord) (keys : List Key) → map number_of keys ≡ sorted (keys_from 0 (crossings_of rs))
+    → by_keys no_entry (map number_of keys) (entries_of form rs) ≡ in_order form rs
+ordered_entries form rs keys e = ap (λ (names : List ℕ). by_keys no_entry names (entries_of form rs)) (e ∙ keys_of_entries form rs)
 
 -- ---- the entries that keys name
 

@@ -1,4 +1,3 @@
 -- The summary of a shift file: docs/RULES.md, chapter 12.
 pub mod Summary
 pub mod Built
-pub mod Known

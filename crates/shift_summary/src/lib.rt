@@ -2,71 +2,54 @@
 // room it takes: 32 KiB of stack, and no heap.
 #![tactic(auto)]
 
-ghost use Rattle.std.specs.Prelude.{◌≡◌, ◌*◌, ◌≤◌, map, length, get_or};
+ghost use Rattle.std.specs.Prelude.{◌≡◌, ◌*◌, ◌≤◌, ◌<◌, length, get_or};
 ghost use Rattle.std.proofs.lemmas.List.Edits.{sets};
-ghost use Rattle.merge_sort.specs.Ascending.{by_keys};
-ghost use Rattle.summary_entry.specs.Entry.{entries_bytes, no_entry};
+ghost use Rattle.summary_entry.specs.Entry.{no_entry};
 ghost use Rattle.shift_file.specs.Read.{records_in};
-ghost use Rattle.shift_reader.specs.Known.{HasRecord};
-ghost use Rattle.crossing_keys.specs.Keys.{number_of};
 ghost use Rattle.shift_summary.specs.Summary.{entries_of};
 ghost use Rattle.shift_summary.specs.Built.{summary_of};
-ghost use Rattle.shift_summary.specs.Known.{HasRecords, Places};
 
-use crossing_keys::Key;
-use shift_file::ShiftForm;
-use summary_entry::SummaryEntry;
-
-// The bytes of an entry.
-const ENTRY: usize = 13;
+use crossing_keys::{Key, OrderedFile};
+use shift_reader::file::ShiftFile;
+use summary_entry::{ENTRY, SummaryEntry};
 
 // The entry of record k.
-pub fn entry_at(form: ShiftForm, file: &[u8], k: usize) -> SummaryEntry
-    requires { HasRecord form file.now k }
-    ensures { result ≡ get_or (entries_of form (records_in form file.now)) k no_entry }
+pub fn entry_at(file: &ShiftFile, k: usize) -> SummaryEntry
+    requires { k < file.now.count }
+    ensures { result ≡ get_or (entries_of file.now.form (records_in file.now.form file.now.bytes.now)) k no_entry }
 {
-    let entry = shift_reader::entry_of(form, file, k);
-    let luma = shift_reader::y_part(form, file, k);
+    let entry = file.entry(k);
     SummaryEntry {
         crossing: entry.crossing,
         offset: entry.offset as u64,
-        mean: luma_mean::mean_luma(luma),
+        mean: luma_mean::mean_luma(file.y(k)),
     }
 }
 
-// The entries that the keys name, in their order.
-fn write_entries(form: ShiftForm, file: &[u8], keys: &[Key], summary: &mut [u8])
-    requires has_records { HasRecords form file.now (length keys.now) }
-    requires places { Places (length keys.now) keys.now }
-    requires room { 13 * length keys.now ≤ length summary.old }
+// The entries in order.
+#[tactic(auto, using(crossing_keys::proofs::Places::record_named))]
+fn write_entries(ordered: &OrderedFile, summary: &mut [u8])
+    requires { 13 * length ordered.now.keys.now ≤ length summary.old }
     ensures { summary.new
-        ≡ sets summary.old 0 (entries_bytes (by_keys no_entry (map number_of keys.now) (entries_of form (records_in form file.now)))) }
+        ≡ sets summary.old 0 (summary_of ordered.now.file.form (records_in ordered.now.file.form ordered.now.file.bytes.now)) }
 {
+    let keys = ordered.keys;
     for (i, key) in keys.iter().enumerate() {
-        let entry = entry_at(form, file, key.place as usize);
+        let entry = entry_at(&ordered.file, key.place as usize);
         summary_entry::write_entry(summary, ENTRY * i, entry);
     }
 }
 
-// The summary of a file, with room for a key of each record.
-fn write_with(form: ShiftForm, file: &[u8], keys: &mut [Key], summary: &mut [u8])
-    requires has_records { HasRecords form file.now (length keys.old) }
-    requires room { 13 * length keys.old ≤ length summary.old }
-    ensures { summary.new ≡ sets summary.old 0 (summary_of form (records_in form file.now)) }
-{
-    crossing_keys::write_keys(form, file, keys);
-    write_entries(form, file, keys, summary);
-}
-
 // The summary of a file, at the start of what is lent for it.
-pub fn write_summary(form: ShiftForm, file: &[u8], count: usize, summary: &mut [u8])
-    requires has_records { HasRecords form file.now count }
-    requires room { 13 * count ≤ length summary.old }
-    ensures { summary.new ≡ sets summary.old 0 (summary_of form (records_in form file.now)) }
+pub fn write_summary(file: &ShiftFile, summary: &mut [u8])
+    requires { 13 * file.now.count ≤ length summary.old }
+    ensures { summary.new ≡ sets summary.old 0 (summary_of file.now.form (records_in file.now.form file.now.bytes.now)) }
 {
-    let mut keys = [Key {
+    // No heap is used, so the room for a key of each record of a whole file is on the stack.
+    let mut room = [Key {
         crossing: 0,
         place: 0,
     }; 4096];
-    write_with(form, file, &mut keys[..count], summary);
+    let ordered = OrderedFile::sorted(file, &mut room);
+    write_entries(&ordered, summary);
 }

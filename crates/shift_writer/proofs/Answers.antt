@@ -25,7 +25,7 @@ module _ (form : ShiftForm) (b : List ℕ) (n : ℕ) (e : count_back form b ≡ 
   pub are_records_lem : are_records form b ≡ true
   are_records_lem = (standing (are_records form b) (count_from form b 0 4096) n e).0
 
-  count_is : count_from form b 0 4096 ≡ n
+  pub count_is : count_from form b 0 4096 ≡ n
   count_is = (standing (are_records form b) (count_from form b 0 4096) n e).1
 
   pub few : n ≤ 4096

@@ -2,3 +2,4 @@
 pub mod Count
 pub mod Pairs
 pub mod Answers
+pub mod Lists

@@ -2,8 +2,23 @@
 -- Assumes nothing.
 use Rattle.std.specs.Prelude.{ℕ, cond, ◌||◌, List, [], ◌∷◌, ◌++◌, eqb, ltb, length, drop, Result, Ok, Err}
 use Rattle.yuv_error.specs.declared.YuvError.{YuvError}
+use Rattle.yuv_error.specs.declared.YuvError.TheVariants.{OutputTooShort}
 use Rattle.yuv_error.specs.Numbers.{numbers_of}
 use Rattle.yuv_error.specs.Rules.{Rule, rule}
+use Rattle.shift_writer.specs.declared.NotWritten.{NotWritten}
+use Rattle.shift_writer.specs.declared.NotWritten.TheVariants.{Refused, TooShort}
+
+-- RULES 11.5: the answer of a call: finished, or its refusal
+abbrev pub outcome_of : Result ℕ NotWritten → Result Unit YuvError
+outcome_of (Ok size) = Ok tt
+outcome_of (Err (Refused e)) = Err e
+outcome_of (Err (TooShort size)) = Err OutputTooShort
+
+-- RULES 11.5: the size that it tells
+abbrev pub size_of : Result ℕ NotWritten → ℕ
+size_of (Ok size) = size
+size_of (Err (Refused e)) = 0
+size_of (Err (TooShort size)) = size
 
 -- RULES 11.5: the bytes at the front, and past them what was there; all as it was where the call was refused
 abbrev pub overwritten : Result Unit YuvError → (bytes before : List ℕ) → List ℕ

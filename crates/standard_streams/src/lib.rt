@@ -6,8 +6,9 @@
 ghost use Rattle.std.specs.Prelude.{◌≡◌, ℕ, ◌≤◌, ◌<◌, length, take, IfOk, IfErr, OnOk};
 ghost use Rattle.std.specs.Io.KnownBytes.{Appends, Consumes, IsAtEnd};
 
-use std::io;
+use std::error::Error;
 use std::io::{ErrorKind, Read, Write};
+use std::{fmt, io};
 
 // How many calls that a signal interrupts are made again.
 const RETRIES: u32 = 1000;
@@ -18,6 +19,24 @@ pub struct Stopped {
     pub size: usize,
     pub error: io::Error,
 }
+
+// What fails in a program that answers a request, beside a request that is refused.
+#[derive(Clone, Copy, Debug, PartialEq, Eq)]
+pub enum Failure {
+    CannotRead,
+    CannotWrite,
+}
+
+impl fmt::Display for Failure {
+    fn fmt<W: fmt::Write>(&self, f: &mut fmt::Formatter<W>) -> fmt::Result {
+        match self {
+            Failure::CannotRead => write!(f, "cannot read standard input"),
+            Failure::CannotWrite => write!(f, "cannot write standard output"),
+        }
+    }
+}
+
+impl Error for Failure {}
 
 impl From<Stopped> for io::Error {
     fn from(stopped: Stopped) -> io::Error {

@@ -1,19 +1,17 @@
 -- The first record of a crossing: by induction on the records; and as a walk that has passed k of them. Assumes nothing.
 use Prim.Native.Nat.{ℕ, zero, suc, ◌+◌, ◌≤◌, ◌<◌}
-use mathlib.Core.Path.{◌≡◌, refl, ap, sym, ◌∙◌}
+use mathlib.Core.Path.{◌≡◌, refl}
 use mathlib.Core.Bool.{Bool, true, false, cond}
 use mathlib.Core.List.{List, [], ◌∷◌}
-use native.Mathlib.Nat.{add-zero}
 use native.Mathlib.Numerals.{add-one}
 use native.Mathlib.Omega.{arith}
 use borrow.Author.Tests.{eqb-true, eqb-false, eq-eqb, ne_eqb, ltb-true, ltb-false}
 use lib.Dec.{eqb, ltb}
-use lib.ListN.{length, get_or, drop, drop_of_length-le}
+use lib.ListN.{length, drop, drop_of_length-le}
 use lib.Seq.{drop-cons}
 use Rattle.shift_file.specs.File.{ShiftRecord}
 use Rattle.shift_reader.specs.Entry.{no_record, nth}
-use Rattle.summary_calls.specs.declared.FoundRecord.{FoundRecord}
-use Rattle.summary_calls.specs.declared.FoundRecord.TheVariants.{At, Nowhere}
+use Rattle.std.specs.Prelude.{Some, None}
 use Rattle.summary_calls.specs.Found.{place_of_first, found_among, IsFirst, Finds}
 
 module _ (crossing : ℕ) where
@@ -57,20 +55,20 @@ module _ (crossing : ℕ) where
 pub finds : Finds
 finds = record { some = some; none = none }
   where
-    told : (c : ℕ) (rs : List ShiftRecord) (k : ℕ) (t : Bool) → ltb (place_of_first c rs) (length rs) ≡ t → cond t (At (place_of_first c rs)) Nowhere ≡ At k
+    told : (c : ℕ) (rs : List ShiftRecord) (k : ℕ) (t : Bool) → ltb (place_of_first c rs) (length rs) ≡ t → cond t (Some (place_of_first c rs)) None ≡ Some k
         → (place_of_first c rs < length rs) × (place_of_first c rs ≡ k)
     told c rs k true q e = (ltb-true _ _ q, cc)
     told c rs k false q e = absurd (let z : ◌≡◌ {A = ℕ} 0 1 = cc in omega arith)
 
-    some : (c : ℕ) (rs : List ShiftRecord) (k : ℕ) → found_among c rs ≡ At k → IsFirst c rs k
+    some : (c : ℕ) (rs : List ShiftRecord) (k : ℕ) → found_among c rs ≡ Some k → IsFirst c rs k
     some c rs k e =
         let p = told c rs k (ltb (place_of_first c rs) (length rs)) refl e in
         rw (← p.1) (record { below = p.0; has = first_has c rs p.0; before = λ i h. before_first c rs i h (omega arith) })
 
-    untold : (c : ℕ) (rs : List ShiftRecord) (t : Bool) → ltb (place_of_first c rs) (length rs) ≡ t → cond t (At (place_of_first c rs)) Nowhere ≡ Nowhere
+    untold : (c : ℕ) (rs : List ShiftRecord) (t : Bool) → ltb (place_of_first c rs) (length rs) ≡ t → cond t (Some (place_of_first c rs)) None ≡ None
         → length rs ≤ place_of_first c rs
     untold c rs true q e = absurd (let z : ◌≡◌ {A = ℕ} 0 1 = cc in omega arith)
     untold c rs false q e = ltb-false _ _ q
 
-    none : (c : ℕ) (rs : List ShiftRecord) → found_among c rs ≡ Nowhere → (i : ℕ) → i < length rs → (nth rs i).crossing ≡ c → ⊥
+    none : (c : ℕ) (rs : List ShiftRecord) → found_among c rs ≡ None → (i : ℕ) → i < length rs → (nth rs i).crossing ≡ c → ⊥
     none c rs e i h = let all = untold c rs (ltb (place_of_first c rs) (length rs)) refl e in before_first c rs i (omega arith) h

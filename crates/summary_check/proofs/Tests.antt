@@ -8,7 +8,7 @@ use native.Mathlib.Omega.{arith}
 use borrow.Author.Tests.{le-leb, lt-leb}
 use lib.ListN.{length, get_or, drop, drop_of_length-le, length-map}
 use lib.Seq.{drop-cons}
-use Rattle.merge_sort.specs.Ascending.{sorted, keys_from, by_keys}
+use Rattle.merge_sort.specs.Ascending.{by_keys}
 use Rattle.summary_entry.specs.declared.SummaryEntry.{SummaryEntry}
 use Rattle.summary_entry.specs.Entry.{entries_in, same_entry, no_entry}
 use Rattle.summary_entry.proofs.Entry.{same_true, same_itself}
@@ -17,8 +17,6 @@ use Rattle.shift_file.specs.File.{ShiftRecord}
 use Rattle.crossing_keys.specs.declared.key.Key.{Key}
 use Rattle.crossing_keys.specs.Keys.{number_of}
 use Rattle.crossing_keys.proofs.Keyed.{its_place}
-use Rattle.shift_summary.specs.Summary.{entries_of}
-use Rattle.shift_summary.specs.Built.{crossing_of}
 use Rattle.summary_check.specs.Check.{same_entries, are_entries, is_summary}
 
 -- ---- entries of the file
@@ -57,15 +55,10 @@ module _ (keys : List Key) (es fs : List SummaryEntry) (i : ℕ) where
 -- ---- the tests as they are told
 
 module _ (form : ShiftForm) (rs : List ShiftRecord) (s : List ℕ) where
-  pub those_told : (r : Bool) (keys : List Key) → length keys ≡ length rs → map number_of keys ≡ sorted (keys_from 0 (map crossing_of (entries_of form rs)))
-      → r ≡ same_entries (entries_in (length keys) s) (by_keys no_entry (map number_of keys) (entries_of form rs)) → r ≡ are_entries form rs (entries_in (length rs) s)
-  those_told r keys long sorts same =
-      same ∙ ap (λ (m : ℕ). same_entries (entries_in m s) (by_keys no_entry (map number_of keys) (entries_of form rs))) long
-      ∙ ap (λ (k : List ℕ). same_entries (entries_in (length rs) s) (by_keys no_entry k (entries_of form rs))) sorts
-
-  pub summary_told : (r : Bool) → 13 * length rs ≤ length s → r ≡ are_entries form rs (entries_in (length rs) s) → r ≡ is_summary form rs s
+  pub summary_told : (r : Bool) (n : ℕ) → n ≡ length rs → 13 * n ≤ length s → r ≡ are_entries form rs (entries_in n s) → r ≡ is_summary form rs s
   unfolding is_summary
-  summary_told r long same = rw (le-leb (13 * length rs) (length s) long) same
+  summary_told r n many long same =
+      rw (le-leb (13 * length rs) (length s) (rw many at long)) (same ∙ ap (λ (m : ℕ). are_entries form rs (entries_in m s)) many)
 
   pub short_told : length s < 13 * length rs → false ≡ is_summary form rs s
   unfolding is_summary

@@ -1,16 +1,15 @@
 -- What is written is read again, and what is read is written again: first an entry, then a run of them by induction. Assumes nothing.
 use Prim.Native.Nat.{ℕ, zero, suc, ◌+◌, ◌*◌, ◌^◌, ◌≤◌, ◌<◌}
-use mathlib.Core.Path.{◌≡◌, refl, ap, ap₂, sym, ◌∙◌}
-use mathlib.Core.Bool.{Bool, true, ◌&&◌, and-eq-true_iff}
+use mathlib.Core.Path.{◌≡◌, refl, ap, sym, ◌∙◌}
+use mathlib.Core.Bool.{true, and-eq-true_iff}
 use mathlib.Core.List.{List, [], ◌∷◌, ◌++◌, append_assoc}
-use native.Mathlib.Nat.{add-zero}
 use native.Mathlib.Omega.{arith}
 use lib.Dec.{eqb}
 use lib.ListN.{length, get_or, drop, length-append, length-drop}
 use lib.Seq.{drop_at, drop-drop}
 use borrow.Author.Tests.{eqb-true, eq-eqb}
 use Rattle.little_endian.specs.Number.{Bytes, low_bytes, number_in}
-use Rattle.little_endian.proofs.Number.{length_low, number_low, low_rest, drop_low, bytes_drop, number_below}
+use Rattle.little_endian.proofs.Number.{length_low, number_low, low_rest, drop_low, bytes_drop}
 use Rattle.merge_sort.specs.Order.{All}
 use Rattle.summary_entry.specs.declared.SummaryEntry.{SummaryEntry}
 use Rattle.summary_entry.specs.Entry.{entry_bytes, entries_bytes, entry_in, entries_in, same_entry, no_entry}
@@ -97,14 +96,6 @@ entry_at (suc n) zero l h = refl
 entry_at (suc n) (suc i) l h =
     let past : 13 * suc i ≡ 13 + 13 * i = omega arith in
     entry_at n i (drop 13 l) (omega arith) ∙ rw (past, drop-drop)
-
-pub read_fits : (n : ℕ) (l : List ℕ) → Bytes l → All Fits (entries_in n l)
-unfolding entries_in entry_in All
-read_fits zero l b = tt
-read_fits (suc n) l b = (
-  record { crossing = number_below 4 l b; offset = number_below 8 (drop 4 l) (bytes_drop 4 l b); mean = number_below 1 (drop 12 l) (bytes_drop 12 l b) },
-  read_fits n (drop 13 l) (bytes_drop 13 l b),
-)
 
 -- ---- equal entries
 

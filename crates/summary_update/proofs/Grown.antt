@@ -1,16 +1,15 @@
 -- The entries of a grown file are the old ones grown and the new one, so the new one in its place among the old leaves a summary. Assumes nothing.
-use Prim.Native.Nat.{ℕ, suc, ◌+◌, ◌*◌, ◌^◌, ◌≤◌, ◌<◌}
-use mathlib.Core.Path.{◌≡◌, refl, ap, ap₂, sym, ◌∙◌}
-use mathlib.Core.Bool.{Bool, true, ◌&&◌}
+use Prim.Native.Nat.{ℕ, ◌+◌, ◌*◌, ◌^◌, ◌<◌}
+use mathlib.Core.Path.{◌≡◌, refl, ap, ap₂, ◌∙◌}
+use mathlib.Core.Bool.{true}
 use mathlib.Core.List.{List, [], ◌∷◌, ◌++◌, map}
 use native.Mathlib.Nat.{add-zero, add_assoc}
 use native.Mathlib.Omega.{arith}
 use borrow.Author.Tests.{ltb-true, eqb-true}
-use lib.Dec.{ltb, eqb}
-use lib.ListN.{length, get_or, drop, length-append}
+use lib.ListN.{length, drop, length-append}
 use Rattle.little_endian.specs.Number.{Bytes}
-use Rattle.merge_sort.specs.Order.{count, All, Sorted, Permutation, Ordered}
-use Rattle.merge_sort.proofs.Permuted.{All-at, count-append, permuted_map, permutation_trans, permuted_length}
+use Rattle.merge_sort.specs.Order.{count, All, Permutation, Ordered}
+use Rattle.merge_sort.proofs.Permuted.{All-at, count-append, permuted_map, permutation_trans}
 use Rattle.merge_sort.proofs.Unique.{permuted_All}
 use Rattle.summary_entry.specs.declared.SummaryEntry.{SummaryEntry}
 use Rattle.summary_entry.specs.Entry.{entry_in, entries_in, same_entry, no_entry}
@@ -22,12 +21,12 @@ use Rattle.shift_file.specs.declared.ShiftForm.{ShiftForm}
 use Rattle.shift_file.specs.File.{ShiftRecord, Allowed, EachAllowed, HasFile, IsFileOf, file_of, bytes_of, record_bytes, records_at}
 use Rattle.shift_file.specs.Read.{size_at, record_at, records_in}
 use Rattle.shift_file.specs.Check.{record_stands, is_file}
-use Rattle.shift_file.proofs.Record.{both, Stands, Stands-true, record_Allowed}
+use Rattle.shift_file.proofs.Record.{both, Stands-true, record_Allowed}
 use Rattle.shift_file.proofs.File.{Checked-file, length_file}
 use Rattle.shift_summary.specs.Summary.{entry_of, entries_from, entries_of, IsSummary}
 use Rattle.shift_summary.specs.Built.{summary_of}
 use Rattle.shift_summary.proofs.Built.{built, one_summary}
-use Rattle.shift_summary.proofs.Entries.{length_entries, offsets_below}
+use Rattle.shift_summary.proofs.Entries.{offsets_below}
 use Rattle.summary_check.specs.Check.{is_summary}
 use Rattle.summary_check.proofs.Checked.{checked_entries}
 use Rattle.summary_update.specs.Update.{is_record, may_grow, grown_records, new_entry, updated, Updates}

@@ -2,7 +2,7 @@
 -- Assumes nothing.
 use Prim.Native.Nat.{ℕ, ◌+◌, ◌*◌, ◌≤◌}
 use mathlib.Core.Path.{◌≡◌, refl, sym, ap, ◌∙◌}
-use mathlib.Core.Bool.{Bool, true, false, cond, not, ◌&&◌, and-eq-true_iff}
+use mathlib.Core.Bool.{Bool, true, false, cond, not, and-eq-true_iff, true≢false}
 use mathlib.Core.List.{List, [], ◌∷◌, ◌++◌}
 use mathlib.Core.Logic.{◌↔◌}
 use native.Mathlib.Omega.{arith}
@@ -10,23 +10,20 @@ use lib.Dec.{leb}
 use lib.ListN.{length, take, drop}
 use lib.Seq.{take_at, drop_at}
 use Rattle.little_endian.specs.Number.{Bytes}
-use Rattle.std.specs.Prelude.{Result, Ok}
+use Rattle.std.specs.Prelude.{Option, Result, Ok, Err, IsOk, IfOk}
 use Rattle.yuv_error.specs.declared.YuvError.{YuvError}
-use Rattle.yuv_error.specs.Numbers.{Numbers, numbers, numbers_of}
+use Rattle.yuv_error.specs.Numbers.{Numbers, numbers}
 use Rattle.shift_file.specs.declared.ShiftForm.{ShiftForm}
 use Rattle.shift_file.specs.File.{ShiftRecord, HasFile, IsFileOf}
 use Rattle.shift_file.specs.Read.{record_at, records_in}
-use Rattle.shift_file.specs.Check.{is_file}
 use Rattle.shift_file.proofs.File.{its_records, is_checked}
 use Rattle.shift_summary.specs.Summary.{IsSummary}
 use Rattle.shift_summary.specs.Built.{summary_of}
 use Rattle.shift_summary.proofs.Built.{built, built_length}
 use Rattle.summary_check.specs.Check.{is_summary}
 use Rattle.summary_check.proofs.Checked.{checked}
-use Rattle.summary_calls.specs.declared.SummaryVerdict.{SummaryVerdict}
-use Rattle.summary_calls.specs.declared.SummaryFinding.{SummaryFinding}
 use Rattle.summary_calls.specs.Found.{found_among}
-use Rattle.summary_calls.specs.Calls.{BuildPost, CheckPost, FindPost}
+use Rattle.summary_calls.specs.Calls.{BuildPost, says_yes, CheckPost, FindPost}
 use Rattle.summary_calls.proofs.Found.{finds}
 use Rattle.summary_update.specs.Update.{may_grow, may_take, grown_records, updated, UpdatePost}
 use Rattle.summary_update.specs.Summaries.{Left, Summaries}
@@ -48,17 +45,27 @@ built_Left form file before a after rs f p done =
     let wrote : after ≡ summary_of form rs ++ drop (length (summary_of form rs)) before = rw (done, its) at p.written in
     left form rs (summary_of form rs) before after (13 * length rs) (built_length form rs f.has) (built form rs f.has) wrote
 
-checked_is : (form : ShiftForm) (file summary : List ℕ) (r : SummaryVerdict) (rs : List ShiftRecord) → IsFileOf form file rs → Bytes summary
-    → CheckPost form file summary r
-    → (r.is_summary ≡ true) ↔ ((13 * length rs ≤ length summary) × IsSummary form rs (take (13 * length rs) summary))
-checked_is form file summary r rs f b p =
-    let verdict : r.is_summary ≡ is_summary form rs summary = rw (is_checked form file rs f, its_records form file rs f) at p.verdict in
-    let both = checked form rs summary f.has b in
-    (λ yes. both.0 (sym verdict ∙ yes), λ is. verdict ∙ both.1 is)
+-- the answer that says yes
+said_yes : (r : Result Bool YuvError) → says_yes r ≡ true → r ≡ Ok true
+said_yes (Ok said) e = ap Ok e
+said_yes (Err e) h = absurd (true≢false (sym h))
 
-found_is : (form : ShiftForm) (file summary : List ℕ) (crossing : ℕ) (r : SummaryFinding) (rs : List ShiftRecord) → IsFileOf form file rs
-    → FindPost form file summary crossing r → r.answer ≡ Ok tt → r.found ≡ found_among crossing rs
-found_is form file summary crossing r rs f p done = rw (done, its_records form file rs f) at p.found
+checked_is : (form : ShiftForm) (file summary : List ℕ) (r : Result Bool YuvError) (rs : List ShiftRecord) → IsFileOf form file rs → Bytes summary
+    → CheckPost form file summary r
+    → (r ≡ Ok true) ↔ ((13 * length rs ≤ length summary) × IsSummary form rs (take (13 * length rs) summary))
+checked_is form file summary r rs f b p =
+    let verdict : says_yes r ≡ is_summary form rs summary = rw (is_checked form file rs f, its_records form file rs f) at p.verdict in
+    let both = checked form rs summary f.has b in
+    (λ yes. both.0 (sym verdict ∙ ap says_yes yes), λ is. said_yes r (verdict ∙ both.1 is))
+
+-- an answer that is known where it is no refusal
+is_told : {A : Type 0} (r : Result A YuvError) (x : A) → IfOk r (λ y. y ≡ x) → IsOk r → r ≡ Ok x
+is_told (Ok y) x e done = ap Ok e
+is_told (Err e) x h done = absurd (true≢false (sym done))
+
+found_is : (form : ShiftForm) (file summary : List ℕ) (crossing : ℕ) (r : Result (Option ℕ) YuvError) (rs : List ShiftRecord) → IsFileOf form file rs
+    → FindPost form file summary crossing r → IsOk r → r ≡ Ok (found_among crossing rs)
+found_is form file summary crossing r rs f p done = is_told r (found_among crossing rs) (rw (its_records form file rs f) at p.found) done
 
 -- an answer of 0 passed both rules
 passed : (t u : Bool) → numbers 0 0 0 ≡ cond (not t) (numbers 15 0 0) (cond (not u) (numbers 17 0 0) (numbers 0 0 0)) → (t ≡ true) × (u ≡ true)

@@ -1,11 +1,9 @@
--- The tests of an update, and a record's luma plane, as code tells them. Assumes nothing.
-use Prim.Native.Nat.{ℕ, ◌+◌, ◌*◌, ◌/◌, ◌≤◌, ◌<◌}
-use mathlib.Core.Path.{◌≡◌, refl, ap, sym, ◌∙◌}
-use mathlib.Core.Bool.{Bool, true, false, ◌&&◌}
+-- How long an updated summary is, and a record's luma plane and entry, as code tells them. Assumes nothing.
+use Prim.Native.Nat.{ℕ, ◌+◌, ◌*◌, ◌/◌, ◌≤◌}
+use mathlib.Core.Path.{◌≡◌, refl, ◌∙◌}
+use mathlib.Core.Bool.{true}
 use mathlib.Core.List.{List, map}
 use native.Mathlib.Omega.{arith}
-use borrow.Author.Tests.{le-leb, lt-leb}
-use lib.Dec.{ltb, leb, eqb}
 use lib.ListN.{length, take, drop, length-map}
 use Rattle.little_endian.specs.Number.{number_in}
 use Rattle.luma_mean.specs.Mean.{sum}
@@ -15,45 +13,13 @@ use Rattle.summary_entry.specs.Grown.{grown, place}
 use Rattle.summary_entry.proofs.Entry.{length_entries, length_read}
 use Rattle.summary_entry.proofs.Order.{length-place}
 use Rattle.shift_file.specs.declared.ShiftForm.{ShiftForm}
-use Rattle.shift_file.specs.File.{ShiftRecord, Allowed, header_size}
-use Rattle.shift_file.specs.Read.{width_at, height_at, luma_at, size_at, record_at, records_in}
-use Rattle.shift_file.specs.Check.{record_stands, is_file}
+use Rattle.shift_file.specs.File.{Allowed, header_size}
+use Rattle.shift_file.specs.Read.{luma_at, size_at, record_at, records_in}
+use Rattle.shift_file.specs.Check.{record_stands}
 use Rattle.shift_file.proofs.Record.{Stands, Stands-true}
 use Rattle.shift_summary.specs.Summary.{mean_of, entry_of}
 use Rattle.shift_summary.proofs.Entries.{some_luma, most_luma}
-use Rattle.summary_check.specs.Check.{is_summary}
-use Rattle.summary_update.specs.Update.{is_record, may_grow, may_take, new_entry, updated}
-
--- ---- the tests
-
-module _ (form : ShiftForm) (l : List ℕ) where
-  pub no_record : record_stands form l ≡ false → false ≡ is_record form l
-  unfolding is_record
-  no_record h = rw h
-
-  pub a_record : (size : ℕ) → record_stands form l ≡ true → size ≡ size_at form l → eqb size (length l) ≡ is_record form l
-  unfolding is_record
-  a_record size h e = rw (h, e)
-
-module _ (form : ShiftForm) (file added : List ℕ) where
-  pub no_file : is_file form file ≡ false → false ≡ may_grow form file added
-  unfolding may_grow
-  no_file h = rw h
-
-  pub no_addition : is_file form file ≡ true → is_record form added ≡ false → false ≡ may_grow form file added
-  unfolding may_grow
-  no_addition h k = rw (h, k)
-
-  pub by_count : (n : ℕ) → is_file form file ≡ true → is_record form added ≡ true → length (records_in form file) ≡ n → ltb n 4096 ≡ may_grow form file added
-  unfolding may_grow
-  by_count n h k e = rw (h, k, e)
-
-module _ (form : ShiftForm) (file s : List ℕ) where
-  pub no_room : length s < 13 * (length (records_in form file) + 1) → may_take form file s ≡ false
-  no_room h = rw (lt-leb (13 * (length (records_in form file) + 1)) (length s) h)
-
-  pub room_told : 13 * (length (records_in form file) + 1) ≤ length s → may_take form file s ≡ is_summary form (records_in form file) s
-  room_told h = rw (le-leb (13 * (length (records_in form file) + 1)) (length s) h)
+use Rattle.summary_update.specs.Update.{new_entry, updated}
 
 -- ---- what is written
 

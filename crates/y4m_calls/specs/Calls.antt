@@ -1,12 +1,14 @@
 -- Y4M files for C and Rust: what the calls `segvartin_call_y4m_pictures`, `_write` and `_picture` answer and leave, which is the promise of the call
 -- under each. docs/RULES.md, 10.8.
 -- Assumes nothing.
-use Rattle.std.specs.Prelude.{ℕ, ◌≡◌, List, [], ◌∷◌, length, get_or}
+use Rattle.std.specs.Prelude.{ℕ, ◌≡◌, List, [], ◌∷◌, length, get_or, Result}
+use Rattle.yuv_error.specs.declared.YuvError.{YuvError}
 use Rattle.yuv_error.specs.Numbers.{numbers_of}
 use Rattle.yuv_error.specs.Rules.{Rule}
 use Rattle.y4m_reader.specs.declared.Y4mReading.{Y4mReading}
-use Rattle.y4m_reader.specs.Reading.{file_rules, ReadPost}
-use Rattle.y4m_writer.specs.declared.Y4mWritten.{Y4mWritten}
+use Rattle.y4m_reader.specs.Reading.{y4m_outcome, y4m_reading_of, file_rules, ReadPost}
+use Rattle.shift_writer.specs.declared.NotWritten.{NotWritten}
+use Rattle.shift_writer.specs.Output.{outcome_of, size_of}
 use Rattle.y4m_writer.specs.Writing.{write_rules, WritePost}
 use Rattle.y4m_picture.specs.declared.PictureFrame.{PictureFrame}
 use Rattle.y4m_picture.specs.Picture.{picture_rules, PicturePost}
@@ -31,11 +33,15 @@ exported_y4m_reading file first entries number told entries' =
 abbrev pub rules_of_y4m_reading : ExportedY4mReading → List Rule
 rules_of_y4m_reading k = file_rules k.file
 
+-- RULES 10.8: what is told of a reading
+abbrev pub y4m_told : Y4mReading → List ℕ
+y4m_told reading = reading.width ∷ reading.height ∷ reading.sampling ∷ reading.count ∷ reading.told ∷ []
+
 -- RULES 10.8: the promise of `read_pictures`; told are width, height, the sampling's code, the file's count and how many entries were written
 pub record Y4mReadingKept (k : ExportedY4mReading) : Type 0 where
-  pub reading : Y4mReading
-  pub number : k.number ≡ (numbers_of reading.answer).number
-  pub told : k.told ≡ reading.width ∷ reading.height ∷ reading.sampling ∷ reading.count ∷ reading.told ∷ []
+  pub reading : Result Y4mReading YuvError
+  pub number : k.number ≡ (numbers_of (y4m_outcome reading)).number
+  pub told : k.told ≡ y4m_told (y4m_reading_of reading)
   pub read : ReadPost k.file k.first k.entries reading k.entries'
 
 -- ---- `segvartin_call_y4m_write`
@@ -71,9 +77,9 @@ rules_of_y4m_writing k =
 
 -- RULES 10.8: the promise of `write_pictures`; told is the file's size
 pub record Y4mWritingKept (k : ExportedY4mWriting) : Type 0 where
-  pub written : Y4mWritten
-  pub number : k.number ≡ (numbers_of written.answer).number
-  pub told : k.told ≡ written.size ∷ []
+  pub written : Result ℕ NotWritten
+  pub number : k.number ≡ (numbers_of (outcome_of written)).number
+  pub told : k.told ≡ size_of written ∷ []
   pub wrote : WritePost (sampling_given k.numbers) (width_given k.numbers) (height_given k.numbers) k.pictures k.output written k.output'
 
 -- ---- `segvartin_call_y4m_picture`
@@ -111,7 +117,7 @@ rules_of_y4m_picture k = picture_rules (frame_of_picture k.numbers) k.y k.u k.v 
 
 -- RULES 10.8: the promise of `write_picture`; told is the picture's size
 pub record Y4mPictureKept (k : ExportedY4mPicture) : Type 0 where
-  pub written : Y4mWritten
-  pub number : k.number ≡ (numbers_of written.answer).number
-  pub told : k.told ≡ written.size ∷ []
+  pub written : Result ℕ NotWritten
+  pub number : k.number ≡ (numbers_of (outcome_of written)).number
+  pub told : k.told ≡ size_of written ∷ []
   pub wrote : PicturePost (frame_of_picture k.numbers) k.y k.u k.v k.output written k.output'

@@ -2,34 +2,36 @@
 // other numbers go to the array `told`.
 #![tactic(auto)]
 
-ghost use Rattle.std.specs.Prelude.{◌≡◌, ◌∷◌, []};
+ghost use Rattle.std.specs.Prelude.{◌≡◌};
 ghost use Rattle.yuv_error.specs.Numbers.{numbers_of};
-ghost use Rattle.y4m_calls.specs.Calls.{exported_y4m_reading, Y4mReadingKept, exported_y4m_writing, Y4mWritingKept};
+ghost use Rattle.y4m_reader.specs.Reading.{y4m_outcome, y4m_reading_of};
+ghost use Rattle.y4m_calls.specs.Calls.{y4m_told, exported_y4m_reading, Y4mReadingKept, exported_y4m_writing, Y4mWritingKept};
 ghost use Rattle.y4m_calls.specs.Calls.{exported_y4m_picture, Y4mPictureKept};
 
 use y4m_picture::PictureFrame;
 use y4m_reader::Y4mReading;
-use y4m_writer::Y4mWritten;
 use yuv_error::YuvError;
 
-fn number_of(answer: Result<(), YuvError>) -> u32
-    ensures { result ≡ (numbers_of answer).number }
+fn tell_reading(reading: Result<Y4mReading, YuvError>, told: &mut [usize; 5]) -> u32
+    ensures number { result ≡ (numbers_of (y4m_outcome reading)).number }
+    ensures told { told.new ≡ y4m_told (y4m_reading_of reading) }
 {
-    error_numbers::answer_numbers(answer).number
-}
-
-fn tell_reading(reading: Y4mReading, told: &mut [usize; 5]) -> u32
-    ensures number { result ≡ (numbers_of reading.answer).number }
-    ensures told { told.new ≡ reading.width ∷ reading.height ∷ reading.sampling ∷ reading.count ∷ reading.told ∷ [] }
-{
-    *told = [
-        reading.width,
-        reading.height,
-        reading.sampling as usize,
-        reading.count,
-        reading.told,
-    ];
-    number_of(reading.answer)
+    match reading {
+        Ok(reading) => {
+            *told = [
+                reading.width,
+                reading.height,
+                reading.sampling as usize,
+                reading.count,
+                reading.told,
+            ];
+            0
+        }
+        Err(error) => {
+            *told = [0; 5];
+            error_numbers::error_numbers(error).number
+        }
+    }
 }
 
 // What a file's header says and where its planes stand (0), or 19 where these bytes are no Y4M file, with nothing written. told: width, height, the
@@ -39,14 +41,6 @@ pub fn read_by_numbers(file: &[u8], first: usize, entries: &mut [u64], told: &mu
 {
     let reading = y4m_reader::read_pictures(file, first, entries);
     tell_reading(reading, told)
-}
-
-fn tell_size(written: Y4mWritten, told: &mut [usize; 1]) -> u32
-    ensures number { result ≡ (numbers_of written.answer).number }
-    ensures told { told.new ≡ written.size ∷ [] }
-{
-    *told = [written.size];
-    number_of(written.answer)
 }
 
 // Writes the file of pictures whose planes stand back to back (0); or answers 19 where a number is not allowed or the bytes are not whole pictures, 16
@@ -63,7 +57,7 @@ pub fn write_by_numbers(
     let width = numbers[0] as usize;
     let height = numbers[1] as usize;
     let written = y4m_writer::write_pictures(numbers[2], width, height, pictures, output);
-    tell_size(written, told)
+    shift_writer::tell_size(written, told)
 }
 
 // Writes one picture, a line FRAME and the planes without their padding (0); or answers 19 where a number is not allowed or a plane is not so many rows of
@@ -89,5 +83,5 @@ pub fn picture_by_numbers(
         v_stride: numbers[5],
     };
     let written = y4m_picture::write_picture(frame, y, u, v, output);
-    tell_size(written, told)
+    shift_writer::tell_size(written, told)
 }

@@ -6,30 +6,11 @@ use mathlib.Core.List.{List}
 use native.Mathlib.Omega.{arith}
 use lib.Dec.{ltb}
 use lib.ListN.{length, take}
-use borrow.Author.Tests.{lt-ltb, le-leb, lt-leb, ltb-true, leb-true}
+use borrow.Author.Tests.{lt-ltb, le-leb, ltb-true, leb-true}
 use Rattle.y4m_line.specs.Header.{is_line, line_end}
 use Rattle.shift_file.proofs.Record.{both}
 use Rattle.y4m_line.specs.Line.{frame}
 use Rattle.y4m_file.specs.Check.{picture_stands, picture_size}
-
-module _ (n : ℕ) (l : List ℕ) where
-  pub no_line : 256 ≡ line_end l → 0 ≡ picture_size n l
-  unfolding picture_size picture_stands
-  no_line h = rw (← h)
-
-  module _ (e : ℕ) (he : e ≡ line_end l) (h : e < 256) where
-    pub no_frame : is_line frame (take e l) ≡ false → 0 ≡ picture_size n l
-    unfolding picture_size picture_stands
-    no_frame z = rw (← he, lt-ltb e 256 h, z)
-
-    module _ (z : is_line frame (take e l) ≡ true) where
-      pub too_short : length l < e + 1 + n → 0 ≡ picture_size n l
-      unfolding picture_size picture_stands
-      too_short k = rw (← he, lt-ltb e 256 h, z, lt-leb (e + 1 + n) (length l) k)
-
-      pub stands : e + 1 + n ≤ length l → e + 1 + n ≡ picture_size n l
-      unfolding picture_size picture_stands
-      stands k = rw (← he, lt-ltb e 256 h, z, le-leb (e + 1 + n) (length l) k)
 
 -- ---- a picture that stands there
 

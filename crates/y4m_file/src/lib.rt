@@ -29,21 +29,15 @@ fn is_frame(line: &[u8]) -> bool
 }
 
 // The bytes of the picture at the front, its planes so many of them; none where none stands there whole.
+#[tactic(auto, unfolding(crate::specs::Check::picture_size, crate::specs::Check::picture_stands))]
 fn picture_size(bytes: &[u8], planes: usize) -> Option<usize>
     requires { planes ≤ 2 ^ 34 }
     ensures value { unwrap_or result 0 ≡ picture_size planes bytes.now }
     ensures inside { IfSome result (λ size. (0 < size) × (size ≤ length bytes.now)) }
 {
     let end = y4m_line::line_end(bytes)?;
-    if !is_frame(&bytes[..end]) {
-        return None;
-    }
     let size = end + 1 + planes;
-    if size <= bytes.len() {
-        Some(size)
-    } else {
-        None
-    }
+    (is_frame(&bytes[..end]) && size <= bytes.len()).then_some(size)
 }
 
 // How many pictures stand back to back to the end, if nothing else stands there.

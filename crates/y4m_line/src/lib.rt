@@ -25,7 +25,7 @@ enum Tag<'a> {
     Repeated,
 }
 
-// What a header's line says.
+// What a header's line says. `FrameSize` of `record_difference` has the same fields in 16 bits: a record's sides, which are never of a line.
 #[derive(Clone, Copy, Debug, PartialEq, Eq)]
 pub struct HeaderLine {
     pub width: usize,

@@ -19,6 +19,7 @@ use Rattle.y4m_file.specs.Check.{plane_bytes}
 use Rattle.y4m_writer.specs.Pictures.{sampling_of, is_shape}
 use Rattle.y4m_writer.proofs.Back.{shape}
 use Rattle.y4m_picture.specs.declared.PictureFrame.{PictureFrame}
+use Rattle.y4m_picture.specs.declared.planes.PicturePlanes.{PicturePlanes}
 use Rattle.y4m_picture.specs.Picture.{chroma_rows, picture_made, is_plane, planes_allowed, picture_allowed}
 use Rattle.y4m_picture.specs.Means.{planes_made}
 use Rattle.y4m_picture.specs.Known.{picture_size, IsFrame, PlanesFit}
@@ -86,3 +87,15 @@ module _ (f : PictureFrame) (y u v : List ℕ) (p : PlanesFit f (length y) (leng
       → out₄ ≡ sets d 0 (picture_bytes (picture_made f y u v))
   put_steps d out₁ out₂ out₃ out₄ width rows u_at v_at e₁ e₂ ew er ue e₃ ve e₄ =
       e₄ ∙ rw (e₃, e₂, e₁, ew, er) (put d u_at v_at ue ve)
+
+-- ---- planes that were checked, as a value
+
+module _ (p : PicturePlanes) where
+  pub planes_fit : PlanesFit p.frame (length p.y.now) (length p.u.now) (length p.v.now)
+  planes_fit = planes_Fit p.frame (length p.y.now) (length p.u.now) (length p.v.now) p.allowed
+
+  pub planes_frame : IsFrame p.frame
+  planes_frame = planes_fit.frame
+
+  pub planes_length : length (picture_bytes (picture_made p.frame p.y.now p.u.now p.v.now)) ≡ picture_size p.frame
+  planes_length = length_made p.frame p.y.now p.u.now p.v.now planes_fit

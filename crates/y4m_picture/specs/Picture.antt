@@ -1,13 +1,13 @@
 -- A picture from planes with strides: docs/RULES.md, 14.7.
 -- Assumes nothing.
-use Rattle.std.specs.Prelude.{ℕ, ◌*◌, ◌≡◌, Bool, not, ◌&&◌, List, [], ◌∷◌, leb, eqb, length}
+use Rattle.std.specs.Prelude.{ℕ, ◌*◌, ◌≡◌, Bool, not, ◌&&◌, List, [], ◌∷◌, leb, eqb, length, Result}
 use Rattle.yuv_support.specs.Sampling.{chroma_width, chroma_height}
 use Rattle.yuv_error.specs.Numbers.{numbers_of}
 use Rattle.yuv_error.specs.Rules.{Rule, rule, first_numbers}
-use Rattle.shift_writer.specs.Output.{overwritten, size_told, output_rules}
+use Rattle.shift_writer.specs.Output.{outcome_of, size_of, overwritten, size_told, output_rules}
 use Rattle.shift_record.specs.Record.{unpadded}
 use Rattle.y4m_file.specs.File.{Y4mPicture, picture_bytes}
-use Rattle.y4m_writer.specs.declared.Y4mWritten.{Y4mWritten}
+use Rattle.shift_writer.specs.declared.NotWritten.{NotWritten}
 use Rattle.y4m_writer.specs.Pictures.{sampling_of, is_shape}
 use Rattle.y4m_picture.specs.declared.PictureFrame.{PictureFrame}
 
@@ -47,7 +47,7 @@ picture_rules f y u v room =
     rule 19 (not (picture_allowed f (length y) (length u) (length v))) 0 0 ∷ output_rules (length (picture_bytes (picture_made f y u v))) room
 
 -- RULES 14.7: everything of a call: its answer, the picture's size, and each byte lent to it
-pub record PicturePost (f : PictureFrame) (y u v before : List ℕ) (r : Y4mWritten) (after : List ℕ) : Type 0 where
-  pub answered : numbers_of r.answer ≡ first_numbers (picture_rules f y u v (length before))
-  pub size : r.size ≡ size_told r.answer (length (picture_bytes (picture_made f y u v)))
-  pub written : after ≡ overwritten r.answer (picture_bytes (picture_made f y u v)) before
+pub record PicturePost (f : PictureFrame) (y u v before : List ℕ) (r : Result ℕ NotWritten) (after : List ℕ) : Type 0 where
+  pub answered : numbers_of (outcome_of r) ≡ first_numbers (picture_rules f y u v (length before))
+  pub size : size_of r ≡ size_told (outcome_of r) (length (picture_bytes (picture_made f y u v)))
+  pub written : after ≡ overwritten (outcome_of r) (picture_bytes (picture_made f y u v)) before

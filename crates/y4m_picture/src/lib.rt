@@ -2,19 +2,22 @@
 // after the file of no picture that `y4m_writer` makes. Lengths are checked, and the output is measured, before a byte is written.
 #![tactic(auto)]
 
-ghost use Rattle.std.specs.Prelude.{◌≡◌, ◌≤◌, length};
-ghost use Rattle.std.proofs.lemmas.List.Edits.{sets};
-ghost use Rattle.y4m_file.specs.File.{picture_bytes};
-ghost use Rattle.y4m_picture.specs.Picture.{picture_made, is_plane, planes_allowed, picture_allowed, PicturePost};
-ghost use Rattle.y4m_picture.specs.Known.{picture_size, IsFrame, PlanesFit};
+mod planes; // planes that were checked
 
-use y4m_writer::Y4mWritten;
-use yuv_error::YuvError;
+ghost use Rattle.std.specs.Prelude.{◌≡◌, ◌≤◌};
+ghost use Rattle.y4m_writer.specs.Pictures.{sampling_of};
+ghost use Rattle.y4m_picture.specs.Picture.{is_plane, planes_allowed, picture_allowed, PicturePost};
+ghost use Rattle.y4m_picture.specs.Known.{IsFrame};
+
+use planes::PicturePlanes;
+use shift_writer::NotWritten;
+use yuv_support::YuvChromaSubsampling;
 
 // The bytes of the line FRAME, its newline counted.
 const FRAME_LINE: usize = 6;
 
 // Sides, the sampling by its code (0: 4:2:0, 1: 4:2:2), and the strides of the planes.
+// A code and no YuvChromaSubsampling: a caller's own, which need not be allowed, comes in this type too and is then refused.
 #[derive(Clone, Copy, Debug, PartialEq, Eq)]
 pub struct PictureFrame {
     pub width: u32,
@@ -33,58 +36,35 @@ fn is_plane(row: usize, rows: usize, stride: u32, len: usize) -> bool
     row <= stride as usize && len == stride as usize * rows
 }
 
-#[tactic(auto, unfolding(crate::specs::Picture::planes_allowed))]
-fn are_planes(frame: PictureFrame, y: usize, u: usize, v: usize) -> bool
-    requires { IsFrame frame }
-    ensures { result ≡ planes_allowed frame y u v }
-{
-    let width = frame.width as usize;
-    let height = frame.height as usize;
-    let sampling = setting_codes::sampling_of(frame.sampling);
-    let chroma_width = yuv_support::chroma_width(width);
-    let chroma_height = sampling.chroma_height(height);
-    is_plane(width, height, frame.y_stride, y)
-        && is_plane(chroma_width, chroma_height, frame.u_stride, u)
-        && is_plane(chroma_width, chroma_height, frame.v_stride, v)
-}
+impl PictureFrame {
+    fn sampling(self) -> YuvChromaSubsampling
+        ensures { result ≡ sampling_of self.sampling }
+    {
+        setting_codes::sampling_of(self.sampling)
+    }
 
-// Whether planes of these lengths are a picture.
-#[tactic(auto, unfolding(crate::specs::Picture::picture_allowed))]
-fn is_picture(frame: PictureFrame, y: usize, u: usize, v: usize) -> bool
-    ensures { result ≡ picture_allowed frame y u v }
-{
-    y4m_writer::is_shape(frame.sampling, frame.width as usize, frame.height as usize)
-        && are_planes(frame, y, u, v)
-}
+    #[tactic(auto, unfolding(crate::specs::Picture::planes_allowed))]
+    fn are_planes(self, y: usize, u: usize, v: usize) -> bool
+        requires { IsFrame self }
+        ensures { result ≡ planes_allowed self y u v }
+    {
+        let width = self.width as usize;
+        let height = self.height as usize;
+        let chroma_width = yuv_support::chroma_width(width);
+        let chroma_height = self.sampling().chroma_height(height);
+        is_plane(width, height, self.y_stride, y)
+            && is_plane(chroma_width, chroma_height, self.u_stride, u)
+            && is_plane(chroma_width, chroma_height, self.v_stride, v)
+    }
 
-fn picture_size(frame: PictureFrame) -> usize
-    requires { IsFrame frame }
-    ensures { result ≡ picture_size frame }
-{
-    let sampling = setting_codes::sampling_of(frame.sampling);
-    FRAME_LINE + y4m_file::plane_bytes(sampling, frame.width as usize, frame.height as usize)
-}
-
-fn put_picture(frame: PictureFrame, y: &[u8], u: &[u8], v: &[u8], output: &mut [u8])
-    requires planes_fit { PlanesFit frame (length y.now) (length u.now) (length v.now) }
-    requires frame_in_bounds { picture_size frame ≤ length output.old }
-    ensures { output.new
-        ≡ sets output.old 0 (picture_bytes (picture_made frame y.now u.now v.now)) }
-{
-    let width = frame.width as usize;
-    let height = frame.height as usize;
-    let sampling = setting_codes::sampling_of(frame.sampling);
-    let chroma_width = yuv_support::chroma_width(width);
-    let chroma_height = sampling.chroma_height(height);
-    let y_stride = frame.y_stride as usize;
-    let u_stride = frame.u_stride as usize;
-    let v_stride = frame.v_stride as usize;
-    let u_at = FRAME_LINE + shift_file::luma_size(width, height);
-    let v_at = u_at + shift_file::chroma_size(sampling, width, height);
-    little_endian::put(output, 0, b"FRAME\n");
-    shift_record::copy_rows(y, width, y_stride, height, output, FRAME_LINE);
-    shift_record::copy_rows(u, chroma_width, u_stride, chroma_height, output, u_at);
-    shift_record::copy_rows(v, chroma_width, v_stride, chroma_height, output, v_at);
+    // Whether planes of these lengths are a picture.
+    #[tactic(auto, unfolding(crate::specs::Picture::picture_allowed))]
+    fn is_picture(self, y: usize, u: usize, v: usize) -> bool
+        ensures { result ≡ picture_allowed self y u v }
+    {
+        y4m_writer::is_shape(self.sampling, self.width as usize, self.height as usize)
+            && self.are_planes(y, u, v)
+    }
 }
 
 // Writes the picture of these planes, a line FRAME and then Y, U and V without padding, at the front of the output; or answers 19 where a side or the
@@ -96,25 +76,14 @@ pub fn write_picture(
     u: &[u8],
     v: &[u8],
     output: &mut [u8],
-) -> Y4mWritten
+) -> Result<usize, NotWritten>
     ensures { PicturePost frame y.now u.now v.now output.old result output.new }
 {
-    if !is_picture(frame, y.len(), u.len(), v.len()) {
-        return Y4mWritten {
-            answer: Err(YuvError::MalformedY4m),
-            size: 0,
-        };
-    }
-    let size = picture_size(frame);
+    let planes = PicturePlanes::open(frame, y, u, v)?;
+    let size = planes.picture_size();
     if output.len() < size {
-        return Y4mWritten {
-            answer: Err(YuvError::OutputTooShort),
-            size,
-        };
+        return Err(NotWritten::TooShort(size));
     }
-    put_picture(frame, y, u, v, output);
-    Y4mWritten {
-        answer: Ok(()),
-        size,
-    }
+    planes.put(output);
+    Ok(size)
 }

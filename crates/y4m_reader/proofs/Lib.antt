@@ -2,3 +2,4 @@
 pub mod Places
 pub mod Entries
 pub mod Said
+pub mod Files

@@ -16,11 +16,9 @@ use yuv_error::YuvError;
 // The numbers of an entry.
 const ENTRY: usize = 6;
 
-// What reading answers: the file's sides, its sampling by its code, its pictures, and how many of them were told.
-// The numbers stand beside the answer and not in an `Ok`, since a call tells each of them in each case: 0 with a refusal.
+// What was read: the file's sides, its sampling by its code, its pictures, and how many of them were told.
 #[derive(Clone, Copy, Debug, PartialEq, Eq)]
 pub struct Y4mReading {
-    pub answer: Result<(), YuvError>,
     pub width: usize,
     pub height: usize,
     pub sampling: u32,
@@ -36,7 +34,7 @@ pub struct PictureParts<'a> {
     pub v: &'a [u8],
 }
 
-// The bytes of Y, and of U or V.
+// The bytes of Y, and of U or V. `frame_request` has the same of the planes that it makes: another thing, of which no entry is told.
 #[derive(Clone, Copy, Debug, PartialEq, Eq)]
 struct PlaneSizes {
     luma: usize,
@@ -99,18 +97,19 @@ pub fn picture_parts<'a>(file: &Y4mRead<'a>, k: usize) -> PictureParts<'a>
 
 // ---- numbers
 
-// The six numbers of planes that stand from a place on.
-fn tell_entry(entries: &mut [u64], at: usize, y: usize, sizes: PlaneSizes)
-    requires room { at + 6 ≤ length entries.old }
-    requires small { (y ≤ 2 ^ 63) × (sizes.luma ≤ 2 ^ 33) × (sizes.chroma ≤ 2 ^ 33) }
-    ensures { entries.new ≡ sets entries.old at (plane_numbers y sizes.luma sizes.chroma) }
-{
-    let luma = sizes.luma as u64;
-    let chroma = sizes.chroma as u64;
-    let y = y as u64;
-    let u = y + luma;
-    let v = u + chroma;
-    little_endian::put(entries, at, &[y, luma, u, chroma, v, chroma])
+impl PlaneSizes {
+    // The six numbers of planes that stand from y on.
+    fn numbers(self, y: usize) -> [u64; 6]
+        requires { (y ≤ 2 ^ 63) × (self.luma ≤ 2 ^ 33) × (self.chroma ≤ 2 ^ 33) }
+        ensures { result ≡ plane_numbers y self.luma self.chroma }
+    {
+        let luma = self.luma as u64;
+        let chroma = self.chroma as u64;
+        let y = y as u64;
+        let u = y + luma;
+        let v = u + chroma;
+        [y, luma, u, chroma, v, chroma]
+    }
 }
 
 // So many entries from a picture on.
@@ -123,37 +122,27 @@ fn tell_entries(file: &Y4mRead, first: usize, count: usize, entries: &mut [u64])
     let mut at = place_of(file, first);
     for i in 0..count {
         let y = past_line(file.bytes, at);
-        tell_entry(entries, ENTRY * i, y, sizes);
+        little_endian::put(entries, ENTRY * i, &sizes.numbers(y));
         at = y + sizes.luma + 2 * sizes.chroma;
     }
 }
 
 // What a file's header says, how many pictures it has, and the entries of those from `first` on that have room; or 19 for bytes that are no Y4M file,
 // and nothing written.
-pub fn read_pictures(file: &[u8], first: usize, entries: &mut [u64]) -> Y4mReading
+pub fn read_pictures(file: &[u8], first: usize, entries: &mut [u64]) -> Result<Y4mReading, YuvError>
     ensures { ReadPost file.now first entries.old result entries.new }
 {
-    match Y4mRead::open(file) {
-        None => Y4mReading {
-            answer: Err(YuvError::MalformedY4m),
-            width: 0,
-            height: 0,
-            sampling: 0,
-            count: 0,
-            told: 0,
-        },
-        Some(read) => {
-            let from = first.min(read.count);
-            let told = (read.count - from).min(entries.len() / ENTRY);
-            tell_entries(&read, from, told, entries);
-            Y4mReading {
-                answer: Ok(()),
-                width: read.header.width,
-                height: read.header.height,
-                sampling: read.header.sampling.into(),
-                count: read.count,
-                told,
-            }
-        }
-    }
+    let Some(read) = Y4mRead::open(file) else {
+        return Err(YuvError::MalformedY4m);
+    };
+    let from = first.min(read.count);
+    let told = (read.count - from).min(entries.len() / ENTRY);
+    tell_entries(&read, from, told, entries);
+    Ok(Y4mReading {
+        width: read.header.width,
+        height: read.header.height,
+        sampling: read.header.sampling.into(),
+        count: read.count,
+        told,
+    })
 }

@@ -1,13 +1,14 @@
 -- Runs of stores: a decimal digit by digit, a line piece by piece. Assumes nothing.
 use Prim.Native.Nat.{ℕ, zero, suc, ◌+◌, ◌-◌, ◌/◌, ◌%◌, ◌≤◌, ◌<◌}
-use mathlib.Core.Path.{◌≡◌, sym, ◌∙◌}
+use mathlib.Core.Path.{◌≡◌, refl, sym, ap, ◌∙◌}
 use mathlib.Core.List.{List, [], ◌∷◌, ◌++◌, append_assoc}
-use native.Mathlib.Nat.{add-zero, add_assoc}
+use native.Mathlib.Nat.{zero-add}
 use native.Mathlib.Omega.{arith}
-use lib.ListN.{length, set, length-append}
-use lib.Seq.{sets}
+use lib.ListN.{length, take, drop, set, length-append}
+use lib.Seq.{sets, sets-eq, length-sets, take_at}
+use borrow.Rule.Slice.PartMut.{put_mid}
 use borrow.Author.Tests.{lt-ltb, le-ltb}
-use Rattle.little_endian.proofs.Stores.{sets-append}
+use Rattle.little_endian.proofs.Stores.{sets-append, sets_part}
 use Rattle.yuv_support.specs.declared.YuvChromaSubsampling.{YuvChromaSubsampling}
 use Rattle.yuv_support.specs.declared.YuvChromaSubsampling.TheVariants.{Yuv420, Yuv422}
 use Rattle.y4m_line.specs.Line.{line_of, text_of, tag_bytes, magic}
@@ -27,34 +28,42 @@ unfolding decimal
 put_more_case zero v h k = absurd (omega arith)
 put_more_case (suc f) v h k = let e : suc f - 1 ≡ f = omega arith in rw (le-ltb v 10 k, e)
 
-module _ (d : List ℕ) (at f v : ℕ) where
-  pub put_none : f ≡ 0 → (d ≡ sets d at (decimal f v)) × (at ≡ at + length (decimal f v))
+module _ (d : List ℕ) (f v : ℕ) where
+  pub put_none : f ≡ 0 → (d ≡ sets d 0 (decimal f v)) × (0 ≡ length (decimal f v))
   unfolding decimal
-  put_none e = (rw e, rw e (sym (add-zero at)))
+  put_none e = (rw e, rw e)
 
-  pub put_one : 0 < f → v < 10 → (set d at (48 + v) ≡ sets d at (decimal f v)) × (at + 1 ≡ at + length (decimal f v))
+  pub put_one : 0 < f → v < 10 → (set d 0 (48 + v) ≡ sets d 0 (decimal f v)) × (1 ≡ length (decimal f v))
   put_one h k = let e = put_one_case f v h k in (rw e, rw e)
 
-  pub put_more : (g : List ℕ) (r : ℕ) → 0 < f → 10 ≤ v → g ≡ sets d at (decimal (f - 1) (v / 10)) → r ≡ at + length (decimal (f - 1) (v / 10))
-      → (set g r (48 + v % 10) ≡ sets d at (decimal f v)) × (r + 1 ≡ at + length (decimal f v))
+  pub put_more : (g : List ℕ) (r : ℕ) → 0 < f → 10 ≤ v → g ≡ sets d 0 (decimal (f - 1) (v / 10)) → r ≡ length (decimal (f - 1) (v / 10))
+      → (set g r (48 + v % 10) ≡ sets d 0 (decimal f v)) × (r + 1 ≡ length (decimal f v))
   put_more g r h k eg er =
-      let e = put_more_case f v h k in (
-        rw (e, sets-append (decimal (f - 1) (v / 10)) ((48 + v % 10) ∷ []) d at, ← eg, ← er),
+      let e = put_more_case f v h k in
+      let tens = decimal (f - 1) (v / 10) in (
+        rw (e, sets-append tens ((48 + v % 10) ∷ []) d 0, ← eg, zero-add (length tens), ← er),
         rw (e, length-append) (omega arith),
       )
 
-pub short_part : (at f v n : ℕ) → 0 < f → at + f ≤ n → at + length (decimal (f - 1) (v / 10)) < n
-short_part at f v n h k = omega (arith, decimal-length (f - 1) (v / 10))
+pub short_part : (f v n : ℕ) → 0 < f → f ≤ n → length (decimal (f - 1) (v / 10)) < n
+short_part f v n h k = omega (arith, decimal-length (f - 1) (v / 10))
 
 -- ---- runs, one after the other
 
--- two runs are one
-module _ (d d₁ d₂ s t : List ℕ) (p q r : ℕ) (e₁ : d₁ ≡ sets d p s) (k₁ : q ≡ p + length s) (e₂ : d₂ ≡ sets d₁ q t) (k₂ : r ≡ q + length t) where
-  pub two_runs : d₂ ≡ sets d p (s ++ t)
-  two_runs = e₂ ∙ rw (e₁, k₁) (sym (sets-append s t d p))
+-- a run, and another behind it
+pub two_runs : (d s t : List ℕ) → sets (sets d 0 s) (length s) t ≡ sets d 0 (s ++ t)
+two_runs d s t = sym (rw (zero-add (length s)) at (sets-append s t d 0))
 
-  pub two_places : r ≡ p + length (s ++ t)
-  two_places = k₂ ∙ rw (k₁, length-append) (add_assoc p (length s) (length t))
+-- the same, where the second one is put at the front of what is behind the first
+pub behind : (d d₁ e s t : List ℕ) (at k : ℕ) → d₁ ≡ sets d 0 s → at ≡ length s → at + k ≡ length d → length t ≤ k → e ≡ sets (take k (drop at d₁)) 0 t
+    → put_mid at k d₁ e ≡ sets d 0 (s ++ t)
+behind d d₁ e s t at k is here whole room part =
+    ap (put_mid at k d₁) part ∙ sets_part d₁ t at k (omega (arith, ap length is ∙ length-sets d 0 s)) room ∙ rw (is, here) (two_runs d s t)
+
+-- what was put at the front, taken from there
+pub front_is : (d l t : List ℕ) (e : ℕ) → l ≡ sets d 0 t → e ≡ length t → length t ≤ length d → take e l ≡ t
+front_is d l t e is size h =
+    rw (is, size) (ap (take (length t)) (sets-eq t d 0 (rw (zero-add (length t)) h)) ∙ take_at t _ (length t) refl)
 
 -- the pieces of the header's line
 abbrev pub first : ℕ → List ℕ

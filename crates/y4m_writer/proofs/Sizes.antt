@@ -3,7 +3,7 @@ use Prim.Native.Nat.{ℕ, ◌*◌, ◌/◌, ◌^◌, ◌≤◌, ◌<◌}
 use mathlib.Core.Path.{◌≡◌}
 use native.Mathlib.Nat.{mul-le-mul, mul-div-le}
 use native.Mathlib.Omega.{arith}
-use borrow.Author.Tests.{lt-ltb, le-ltb}
+use borrow.Author.Tests.{lt-ltb}
 use Rattle.yuv_support.specs.declared.YuvChromaSubsampling.{YuvChromaSubsampling}
 use Rattle.yuv_support.specs.declared.YuvChromaSubsampling.TheVariants.{Yuv420, Yuv422}
 use Rattle.yuv_support.specs.Sampling.{chroma_width, chroma_height}
@@ -32,6 +32,3 @@ count_most n size h =
 
 pub fits : (size : ℕ) → size < 2 ^ 64 → in_word size ≡ size
 fits size h = rw (lt-ltb size (2 ^ 64) h)
-
-pub fits_not : (size : ℕ) → 2 ^ 64 ≤ size → in_word size ≡ 0
-fits_not size h = rw (le-ltb size (2 ^ 64) h)

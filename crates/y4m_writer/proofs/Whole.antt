@@ -1,42 +1,45 @@
--- The file put: its line, then its pictures. Assumes nothing.
-use Prim.Native.Nat.{ℕ, ◌+◌, ◌*◌, ◌/◌, ◌≤◌}
-use mathlib.Core.Path.{◌≡◌, refl, ap, sym, ◌∙◌}
-use mathlib.Core.List.{List, ◌++◌}
-use native.Mathlib.Nat.{zero-add}
-use lib.ListN.{length, take, drop, length-append}
-use lib.Seq.{sets, sets-eq, take_at}
+-- Planes that were checked, as a value: what is known of them, and of their file. Assumes nothing.
+use Prim.Native.Nat.{ℕ, zero, suc, ◌+◌, ◌*◌, ◌/◌, ◌≤◌, ◌<◌}
+use mathlib.Core.Path.{◌≡◌, refl, sym, ap, ◌∙◌}
+use mathlib.Core.List.{◌++◌}
+use native.Mathlib.Omega.{arith}
+use lib.ListN.{length, length-append}
 use Rattle.yuv_support.specs.declared.YuvChromaSubsampling.{YuvChromaSubsampling}
-use Rattle.y4m_line.specs.Line.{line_of, magic}
+use Rattle.yuv_support.specs.declared.YuvChromaSubsampling.TheVariants.{Yuv420, Yuv422}
+use Rattle.yuv_support.specs.Codes.{sampling_code}
 use Rattle.y4m_file.specs.Check.{plane_bytes}
-use Rattle.y4m_writer.specs.Text.{written_tags}
-use Rattle.y4m_writer.specs.Pictures.{sampling_of, file_made}
-use Rattle.y4m_writer.specs.Known.{frames_of, Exact}
-use Rattle.y4m_writer.proofs.Puts.{two_runs}
-use Rattle.y4m_writer.proofs.Back.{Written, made, length_made}
+use Rattle.y4m_writer.specs.declared.planes.WholePictures.{WholePictures}
+use Rattle.y4m_writer.specs.Pictures.{sampling_of}
+use Rattle.y4m_writer.specs.Known.{Exact, header_line, frames_in, file_in}
+use Rattle.y4m_writer.proofs.Back.{Written, written, made, length_made}
+use Rattle.y4m_writer.proofs.Sizes.{plane_least}
 
--- a text set at the front of a longer list is that list's front
-pub front_is : (d l t r : List ℕ) (e : ℕ) → l ≡ sets d 0 t → e ≡ length t → length t ≤ length d → r ≡ take e (drop 0 l) → r ≡ t
-front_is d l t r e is size h front =
-    front ∙ rw (is, size)
-    (ap (take (length t)) (sets-eq t d 0 (rw (zero-add (length t)) h)) ∙ take_at t _ (length t) refl)
+said_again : (s : YuvChromaSubsampling) → sampling_of (sampling_code s) ≡ s
+said_again Yuv420 = refl
+said_again Yuv422 = refl
 
-module _ (code w h : ℕ) (b before : List ℕ) (how : YuvChromaSubsampling) (eh : how ≡ sampling_of code) (n : ℕ) (en : n ≡ plane_bytes how w h)
-    (first : ℕ) (ef : first ≡ length (line_of magic (written_tags how w h))) where
-  made_is : line_of magic (written_tags how w h) ++ frames_of n (length b / n) b ≡ file_made code w h b
-  made_is = rw (en, eh) (sym (made code w h b))
+pub code_again : (code : ℕ) → code < 2 → sampling_code (sampling_of code) ≡ code
+code_again zero h = refl
+code_again (suc zero) h = refl
+code_again (suc (suc n)) h = absurd (omega arith)
 
-  pub size_is : Written code w h b → first + 6 * (length b / n) + length b ≡ length (file_made code w h b)
-  size_is k = rw (ef, en, eh) (sym (length_made code w h b k))
+module _ (p : WholePictures) where
+  pub planes_known : Written (sampling_code p.header.sampling) p.header.width p.header.height p.bytes.now
+  planes_known = written (sampling_code p.header.sampling) p.header.width p.header.height p.bytes.now p.whole
 
-  pub Exact-is : Written code w h b → Exact n (length b / n) b
-  Exact-is k = rw (en, eh) k.exact
+  pub planes_least : 3 ≤ plane_bytes p.header.sampling p.header.width p.header.height
+  planes_least = plane_least p.header.sampling p.header.width p.header.height planes_known.wide.0 planes_known.high.0
 
-  pub room_is : first + length (frames_of n (length b / n) b) ≡ length (file_made code w h b)
-  room_is = rw ef (sym (length-append (line_of magic (written_tags how w h)) (frames_of n (length b / n) b)) ∙ ap length made_is)
+  pub planes_exact : let n = plane_bytes p.header.sampling p.header.width p.header.height in Exact n (length p.bytes.now / n) p.bytes.now
+  planes_exact = rw (said_again p.header.sampling) at planes_known.exact
 
-  pub put_is : (d₁ d₂ : List ℕ) → d₁ ≡ sets before 0 (line_of magic (written_tags how w h)) → d₂ ≡ sets d₁ first (frames_of n (length b / n) b)
-      → d₂ ≡ sets before 0 (file_made code w h b)
-  put_is d₁ d₂ e₁ e₂ =
-      let line = line_of magic (written_tags how w h) in
-      two_runs before d₁ d₂ line (frames_of n (length b / n) b) 0 first _ e₁ (ef ∙ sym (zero-add (length line))) e₂ refl
-      ∙ ap (λ t. sets before 0 t) made_is
+  pub planes_file : header_line p.header ++ frames_in p.header p.bytes.now ≡ file_in p.header p.bytes.now
+  planes_file = sym (rw (said_again p.header.sampling) at (made (sampling_code p.header.sampling) p.header.width p.header.height p.bytes.now))
+
+  pub planes_size : length (file_in p.header p.bytes.now)
+      ≡ length (header_line p.header) + 6 * (length p.bytes.now / plane_bytes p.header.sampling p.header.width p.header.height) + length p.bytes.now
+  planes_size =
+      rw (said_again p.header.sampling) at (length_made (sampling_code p.header.sampling) p.header.width p.header.height p.bytes.now planes_known)
+
+  pub planes_parts : length (header_line p.header) + length (frames_in p.header p.bytes.now) ≡ length (file_in p.header p.bytes.now)
+  planes_parts = sym (length-append (header_line p.header) (frames_in p.header p.bytes.now)) ∙ ap length planes_file

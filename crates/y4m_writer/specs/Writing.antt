@@ -1,10 +1,10 @@
 -- What writing a Y4M file promises: docs/RULES.md, 14.6.
 -- Assumes nothing.
-use Rattle.std.specs.Prelude.{ℕ, ◌^◌, ◌≡◌, cond, not, List, ◌∷◌, ltb, length}
+use Rattle.std.specs.Prelude.{ℕ, ◌^◌, ◌≡◌, cond, not, List, ◌∷◌, ltb, length, Result}
 use Rattle.yuv_error.specs.Numbers.{numbers_of}
 use Rattle.yuv_error.specs.Rules.{Rule, rule, first_numbers}
-use Rattle.shift_writer.specs.Output.{overwritten, size_told, output_rules}
-use Rattle.y4m_writer.specs.declared.Y4mWritten.{Y4mWritten}
+use Rattle.shift_writer.specs.Output.{outcome_of, size_of, overwritten, size_told, output_rules}
+use Rattle.shift_writer.specs.declared.NotWritten.{NotWritten}
 use Rattle.y4m_writer.specs.Pictures.{can_write, file_made}
 
 -- RULES 14.6: 19, then 16
@@ -16,7 +16,7 @@ abbrev pub in_word : ℕ → ℕ
 in_word size = cond (ltb size (2 ^ 64)) size 0
 
 -- RULES 14.6: everything of a call: its answer, the file's size, and each byte lent to it
-pub record WritePost (code w h : ℕ) (pictures before : List ℕ) (r : Y4mWritten) (after : List ℕ) : Type 0 where
-  pub answered : numbers_of r.answer ≡ first_numbers (write_rules code w h pictures (length before))
-  pub size : r.size ≡ size_told r.answer (in_word (length (file_made code w h pictures)))
-  pub written : after ≡ overwritten r.answer (file_made code w h pictures) before
+pub record WritePost (code w h : ℕ) (pictures before : List ℕ) (r : Result ℕ NotWritten) (after : List ℕ) : Type 0 where
+  pub answered : numbers_of (outcome_of r) ≡ first_numbers (write_rules code w h pictures (length before))
+  pub size : size_of r ≡ size_told (outcome_of r) (in_word (length (file_made code w h pictures)))
+  pub written : after ≡ overwritten (outcome_of r) (file_made code w h pictures) before

@@ -198,6 +198,7 @@ impl LentBuffer {
         Ok(())
     }
 
+    // The planes' checks, under the Rust's names and one for each plane: what is alike in them is `check_wide` and `check_long`.
     fn check_y8_channel(self) -> Result<(), YuvError>
         ensures numbers { numbers_of result ≡ first_numbers (plane_rules 8 9 self) }
         ensures wide { OnOk result (self.row ≤ self.stride) }

@@ -21,6 +21,7 @@ pub enum YuvSourceChannels {
     Bgr,
 }
 
+// The rules state the count and each offset by itself, so each is a method: that two of them are alike for some orders is chance.
 impl YuvSourceChannels {
     // Bytes a pixel.
     pub fn get_channels_count(self) -> usize

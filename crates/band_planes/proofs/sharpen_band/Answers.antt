@@ -1,10 +1,9 @@
 -- `sharpen_band` meets its contract: what it works out once is what the rows ask for, and the conversion is the frame's.
 -- Assumes nothing.
 use lib.IntN.{ℤ}
-use Prim.Native.Nat.{ℕ, ◌+◌}
+use Prim.Native.Nat.{◌+◌}
 use mathlib.Core.Path.{◌≡◌, subst, subst⁻¹}
 use lib.Dec.{T}
-use lib.ListN.{length, length-replicate}
 use Rattle.forward_transform.specs.declared.CbCrForwardTransform.{CbCrForwardTransform}
 use Rattle.forward_transform.specs.Shape.{Shape}
 use Rattle.built_coefficients.proofs.Shapes.{forward_Shape}
@@ -15,7 +14,7 @@ use Rattle.definitions.specs.Pixel.{weights_of}
 use Rattle.definitions.specs.Bands.{band_image, Sharpened}
 use Rattle.pixel_pairs.specs.declared.tables.Conversion.{Conversion}
 use Rattle.pixel_pairs.specs.Weights.{Weighed}
-use Rattle.yuv_error.specs.Known.{Lent}
+use Rattle.pixel_pairs.proofs.Pairs.{summed_of}
 use Rattle.band_planes.proofs.sharpen_band.Goals as goal
 
 -- a band, with the frame of a conversion
@@ -29,23 +28,15 @@ weighed_of s matrix e = record { weights = e; shape = subst⁻¹ (λ (w : CbCrFo
 pub conversion_of-rows-requires : goal.conversion_of-rows-requires
 conversion_of-rows-requires c = weighed_of c.args.band.frame.settings c.requires.lent.sized.matrix c.search_forward_transform-t.ensures
 
-pub gamma_map_table-requires : goal.gamma_map_table-requires
-gamma_map_table-requires c = length-replicate {A = ℕ} 65536 0
+pub sum_tables-requires-clause-weighed : goal.sum_tables-requires-clause-weighed
+sum_tables-requires-clause-weighed c =
+    weighed_of c.args.band.frame.settings c.requires.lent.sized.matrix c.search_forward_transform-t.ensures
 
-pub sum_tables-requires : goal.sum_tables-requires
-sum_tables-requires c =
+pub invariant_of-luma : goal.invariant_of-luma
+invariant_of-luma c =
+    let settings = c.args.band.frame.settings in
     record {
-      weighed = weighed_of c.args.band.frame.settings c.requires.lent.sized.matrix c.search_forward_transform-t.ensures;
-      table_of = c.linear_map_table-linear.ensures;
-      sums_len = length-replicate {A = ℕ} 1536 0;
-    }
-
-pub rows_by_pixel-requires : goal.rows_by_pixel-requires
-rows_by_pixel-requires c =
-    record {
-      lent = subst⁻¹ (λ (rows : Conversion). Lent (band_by c.args.band rows) (length c.args.source.now) (length c.args.y.now) (length c.args.u.now)
-          (length c.args.v.now)) c.conversion_of-rows.ensures c.requires.lent;
-      carried_long = rw c.conversion_of-rows.ensures c.requires.width_in_bounds;
+      summed = summed_of c.args.band.frame (forward_Shape settings.range settings.matrix c.requires.lent.sized.matrix) c.conversion_of-rows.ensures c.sum_tables.ensures;
     }
 
 pub returns : goal.returns

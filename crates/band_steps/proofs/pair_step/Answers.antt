@@ -4,28 +4,17 @@
 use Prim.Native.Nat.{◌+◌, ◌*◌, ◌-◌, ◌/◌, min}
 use mathlib.Core.Path.{◌≡◌, ap, ◌∙◌}
 use native.Mathlib.Omega.{arith}
-use lib.ListN.{length-take, length-drop}
-use Rattle.band_steps.proofs.Steps.{source_row, next_source_row, chroma_room, row_seen, next_seen, lumas_are, chroma_420, pair_stepped}
+use Rattle.band_steps.specs.Steps.{band_of}
+use Rattle.band_steps.proofs.Steps.{row_seen, next_seen, lumas_are, chroma_420, pair_stepped}
 use Rattle.band_steps.proofs.pair_step.Goals as goal
-
-pub sharpen_rows420-requires : goal.sharpen_rows420-requires
-sharpen_rows420-requires g c =
-    record {
-      rows = record {
-        upper_row = source_row c.args.work.now c.args.source.now c.requires.for_step.in_source;
-        lower_row = next_source_row c.args.work.now c.args.source.now c.requires.for_step.in_source c.requires.pair_at.source_room;
-        luma = record { apart = c.requires.in_y.row; size = simp (length-take, length-drop) (omega (arith, c.requires.in_y.size, c.requires.pair_at.y_room)) };
-      };
-      chroma = chroma_room c.args.work.now c.args.u.now c.args.v.now c.requires.for_step.in_chroma;
-    }
 
 pub returns : goal.returns
 returns g c =
     let first : c.args.step.row ≡ 2 * (c.args.step.row / 2) = omega (arith, c.requires.pair_at.even) in
-    let below : c.args.step.row + 1 ≡ min (2 * (c.args.step.row / 2) + 1) (c.args.work.now.tables.rows.frame.height - 1) = omega (arith, c.requires.pair_at.even, c.requires.pair_at.height) in
+    let below : c.args.step.row + 1 ≡ min (2 * (c.args.step.row / 2) + 1) (c.args.work.now.tables.luma.rows.frame.height - 1) = omega (arith, c.requires.pair_at.even, c.requires.pair_at.height) in
     λ image sees.
-    let this = row_seen c.args.work.now c.args.source.now image c.requires.for_step.in_source sees in
-    let next = next_seen c.args.work.now c.args.source.now image c.requires.for_step.in_source sees in
+    let this = row_seen (band_of c.args.work.now) c.args.work.now.source.now image c.requires.for_step.in_source sees in
+    let next = next_seen (band_of c.args.work.now) c.args.work.now.source.now image c.requires.for_step.in_source sees in
     pair_stepped c.requires.for_step.sampling c.requires.pair_at.even c.requires.pair_at.height
-    (lumas_are c.args.work.now c.args.step image c.requires.in_y c.requires.pair_at this next c.sharpen_rows420.ensures.lumas_written)
-    (chroma_420 c.args.work.now c.args.step image c.requires.for_step.sampling c.requires.for_step.in_chroma (this ∙ ap image first) (next ∙ ap image below) c.sharpen_rows420.ensures.chroma_written)
+    (lumas_are (band_of c.args.work.now) c.args.step image c.requires.in_y c.requires.pair_at this next c.sharpen_rows420.ensures.lumas_written)
+    (chroma_420 (band_of c.args.work.now) c.args.step image c.requires.for_step.sampling c.requires.for_step.in_chroma (this ∙ ap image first) (next ∙ ap image below) c.sharpen_rows420.ensures.chroma_written)

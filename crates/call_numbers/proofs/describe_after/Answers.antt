@@ -2,7 +2,7 @@
 -- Assumes nothing.
 use Prim.Native.Nat.{◌+◌, ◌≤◌}
 use native.Mathlib.Omega.{arith}
-use lib.ListN.{length, length-drop}
+use lib.ListN.{length}
 use Rattle.call_numbers.proofs.Numbers.{counted}
 use Rattle.definitions.proofs.Windows.{rest}
 use Rattle.call_numbers.proofs.describe_after.Goals as goal
@@ -16,11 +16,6 @@ pub slice_bounds-describe-start : goal.slice_bounds-describe-start
 slice_bounds-describe-start c =
     let long : c.args.before + 10 ≤ length c.args.numbers.now = counted c.args.before c.args.numbers.now c.requires.1 in
     omega (arith, long)
-
-pub describe-requires : goal.describe-requires
-describe-requires c =
-    let long : c.args.before + 10 ≤ length c.args.numbers.now = counted c.args.before c.args.numbers.now c.requires.1 in
-    rw (rest c.args.before c.args.numbers.now) (omega (arith, length-drop c.args.before c.args.numbers.now, long))
 
 pub returns : goal.returns
 returns c = rw (rest c.args.before c.args.numbers.now) at c.describe.ensures

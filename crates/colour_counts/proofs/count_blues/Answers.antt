@@ -2,7 +2,7 @@ use Rattle.std.proofs.Common.{◌≡◌, ℕ, ◌+◌, ◌*◌, ◌/◌, ◌%◌
 use Rattle.forward_transform.proofs.Sums.{byte_times}
 use Rattle.definitions.proofs.Numbers.{next_row}
 use Rattle.definitions.proofs.Painted.{Painted-at}
-use Rattle.colour_counts.specs.declared.LumaWeights.{LumaWeights}
+use Rattle.colour_counts.specs.declared.luma.LumaWeights.{LumaWeights}
 use Rattle.colour_counts.specs.Known.{luma_by}
 use Rattle.colour_counts.proofs.Counting.{count_le, counted}
 use Rattle.colour_counts.proofs.count_blues.Goals as goal

@@ -10,11 +10,11 @@ pub returns-then-count-gt-MAX_FRAMES : goal.returns-then-count-gt-MAX_FRAMES
 returns-then-count-gt-MAX_FRAMES c =
     record {
       broken = λ _. (refl, refl);
-      run = λ e. absurd (true≢false (sym (convoy_many c.args.numbers.now c.args.customs.now c.args.parts.now c.args.count c.if-count-gt-MAX_FRAMES.true
+      run = λ e. absurd (true≢false (sym (convoy_many c.args.given.now.numbers.now c.args.given.now.customs.now c.args.given.now.parts.now c.args.count c.if-count-gt-MAX_FRAMES.true
           (lengths_of c.args.source.now c.args.y.now c.args.u.now c.args.v.now)) ∙ e));
     }
 
 pub returns : goal.returns
 returns c =
-    rw (convoy_first c.args.numbers.now c.args.customs.now c.args.parts.now c.args.count c.if-count-gt-MAX_FRAMES.false)
-    at (rw c.convoy_from_numbers-frames.ensures at c.convert_convoy.ensures)
+    rw (convoy_first c.args.given.now.numbers.now c.args.given.now.customs.now c.args.given.now.parts.now c.args.count c.if-count-gt-MAX_FRAMES.false)
+    at (rw c.frames-frames.ensures at c.convert_convoy.ensures)

@@ -6,4 +6,4 @@ use Rattle.crossing_keys.specs.Keys.{crossings_of, number_of}
 use Rattle.crossing_keys.proofs.write_keys.Given as goal
 
 abbrev pub invariant-loop-place : goal.invariant-loop-place
-invariant-loop-place l = map number_of (take l.place l.keys) ≡ take l.place (keys_from 0 (crossings_of (records_in l.form l.file)))
+invariant-loop-place l = map number_of (take l.place l.keys) ≡ take l.place (keys_from 0 (crossings_of (records_in l.file.form l.file.bytes.now)))

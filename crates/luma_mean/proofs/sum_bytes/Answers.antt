@@ -1,24 +1,25 @@
--- The invariant: the total and the sum of the bytes that are left are the sum of all, and a byte adds at most 255. Assumes nothing.
-use Prim.Native.Nat.{ℕ, ◌≤◌, ◌<◌, ◌+◌}
-use mathlib.Core.Path.{◌≡◌}
-use mathlib.Core.List.{List}
-use native.Mathlib.Numerals.{add-one}
-use native.Mathlib.Omega.{arith}
-use lib.ListN.{length, get_or, drop, drop_of_length-le}
-use lib.Seq.{drop-cons}
+-- std's sum of the bytes is that of the rules, and a byte adds at most 255. Assumes nothing.
+use Rattle.std.proofs.Common.{rules, arith, ◌∙◌, ◌≡◌, ℕ, suc, ◌+◌, ◌*◌, ◌≤◌, ◌<◌, List, [], ◌∷◌, length, get_or}
+use Rattle.std.specs.Prelude.{sum as std_sum}
+use Rattle.std.specs.List.{fold}
 use Rattle.luma_mean.specs.Mean.{sum}
 use Rattle.luma_mean.proofs.sum_bytes.Goals as goal
 
-one_more : (l : List ℕ) (i : ℕ) → i < length l → sum (drop i l) ≡ get_or l i 0 + sum (drop (i + 1) l)
+folded : (n : ℕ) (l : List ℕ) → fold ◌+◌ n l ≡ n + sum l
 unfolding sum
-one_more l i h = rw (add-one, drop-cons l i 0)
+folded n [] = omega arith
+folded n (x ∷ l) = folded (n + x) l ∙ omega arith
 
-none_left : (l : List ℕ) (i : ℕ) → length l ≤ i → sum (drop i l) ≡ 0
+as_std : (l : List ℕ) → std_sum l ≡ sum l
+as_std l = folded 0 l ∙ omega arith
+
+sum_most : (l : List ℕ) → ((i : ℕ) → get_or l i 0 < 256) → sum l ≤ 255 * length l
 unfolding sum
-none_left l i h = rw (drop_of_length-le l h)
-
-pub loop-byte-preserved : goal.loop-byte-preserved
-loop-byte-preserved c = omega (arith, c.type_inv.luma c.loop-byte.byte-index, one_more c.args.luma.now c.loop-byte.byte-index (omega arith))
+sum_most [] b = omega arith
+sum_most (x ∷ l) b = omega (arith, b 0, sum_most l (λ i. b (suc i)))
 
 pub returns : goal.returns
-returns c = omega (arith, none_left c.args.luma.now c.loop-byte.byte-index (omega arith))
+returns c =
+    let l = c.args.luma.now in
+    let is : c.sum.result ≡ std_sum l = search rules in
+    (is ∙ as_std l, omega (arith, is, as_std l, sum_most l (λ i. (c.type_inv.luma i).fits)))

@@ -6,93 +6,46 @@ use native.Mathlib.Omega.{arith}
 use lib.Dec.{lit<}
 use lib.IntN.{ℤ, pos, nat_abs}
 use Rattle.definitions.specs.Pixel.{weigh}
-use Rattle.pixel_pairs.specs.Weights.{InByte}
+use Rattle.pixel_pairs.specs.declared.Bytes.{Bytes}
+use Rattle.pixel_pairs.specs.declared.tables.Weights.{Weights}
+use Rattle.pixel_pairs.specs.Weights.{InByte, ByteWeights}
 use Rattle.pixel_pairs.proofs.Signed.{Exact, product, sum, literal, fits, shifted}
 use Rattle.pixel_pairs.proofs.weigh.Goals as goal
 
 byte_size : {z : ℤ} → InByte z → pos (nat_abs z) ≡ z
 byte_size b = rw b.is
 
-pub overflow_mul-result : goal.overflow_mul-result
-overflow_mul-result c =
-    let byte0 : c.args.b.b0 < 2 ^ 8 = omega arith in
-    let one : Exact = product c.args.b.b0 c.args.w.first byte0 c.requires.first in
-    fits one
+-- the sum, a product after the other
+module _ (b : Bytes) {w : Weights} (p : ByteWeights w) (b0 : b.b0 < 2 ^ 8) (b1 : b.b1 < 2 ^ 8) (b2 : b.b2 < 2 ^ 8) where
+  abbrev two : Exact
+  two = sum (product b.b0 w.first b0 p.first) (product b.b1 w.second b1 p.second) (lit< tt)
 
-pub overflow_mul-result-2 : goal.overflow_mul-result-2
-overflow_mul-result-2 c =
-    let byte1 : c.args.b.b1 < 2 ^ 8 = omega arith in
-    let other : Exact = product c.args.b.b1 c.args.w.second byte1 c.requires.second in
-    fits other
+  abbrev three : Exact
+  three = sum two (product b.b2 w.third b2 p.third) (lit< tt)
+
+  abbrev all : Exact
+  all = sum three (literal 1052671 (lit< tt)) (lit< tt)
+
+  in_byte : InByte (weigh w.first w.second w.third 128 b.b0 b.b1 b.b2)
+  in_byte = p.chroma b.b0 b.b1 b.b2 b0 b1 b2
 
 pub overflow_add-result : goal.overflow_add-result
-overflow_add-result c =
-    let byte0 : c.args.b.b0 < 2 ^ 8 = omega arith in
-    let byte1 : c.args.b.b1 < 2 ^ 8 = omega arith in
-    let one : Exact = product c.args.b.b0 c.args.w.first byte0 c.requires.first in
-    let other : Exact = product c.args.b.b1 c.args.w.second byte1 c.requires.second in
-    let two : Exact = sum one other (lit< tt) in
-    fits two
-
-pub overflow_mul-result-3 : goal.overflow_mul-result-3
-overflow_mul-result-3 c =
-    let byte2 : c.args.b.b2 < 2 ^ 8 = omega arith in
-    let last : Exact = product c.args.b.b2 c.args.w.third byte2 c.requires.third in
-    fits last
+overflow_add-result c = fits (two c.args.b c.requires (omega arith) (omega arith) (omega arith))
 
 pub overflow_add-result-2 : goal.overflow_add-result-2
-overflow_add-result-2 c =
-    let byte0 : c.args.b.b0 < 2 ^ 8 = omega arith in
-    let byte1 : c.args.b.b1 < 2 ^ 8 = omega arith in
-    let byte2 : c.args.b.b2 < 2 ^ 8 = omega arith in
-    let one : Exact = product c.args.b.b0 c.args.w.first byte0 c.requires.first in
-    let other : Exact = product c.args.b.b1 c.args.w.second byte1 c.requires.second in
-    let last : Exact = product c.args.b.b2 c.args.w.third byte2 c.requires.third in
-    let two : Exact = sum one other (lit< tt) in
-    let three : Exact = sum two last (lit< tt) in
-    fits three
+overflow_add-result-2 c = fits (three c.args.b c.requires (omega arith) (omega arith) (omega arith))
 
 pub overflow_add-result-3 : goal.overflow_add-result-3
-overflow_add-result-3 c =
-    let byte0 : c.args.b.b0 < 2 ^ 8 = omega arith in
-    let byte1 : c.args.b.b1 < 2 ^ 8 = omega arith in
-    let byte2 : c.args.b.b2 < 2 ^ 8 = omega arith in
-    let one : Exact = product c.args.b.b0 c.args.w.first byte0 c.requires.first in
-    let other : Exact = product c.args.b.b1 c.args.w.second byte1 c.requires.second in
-    let last : Exact = product c.args.b.b2 c.args.w.third byte2 c.requires.third in
-    let two : Exact = sum one other (lit< tt) in
-    let three : Exact = sum two last (lit< tt) in
-    let all : Exact = sum three (literal 1052671 (lit< tt)) (lit< tt) in
-    fits all
+overflow_add-result-3 c = fits (all c.args.b c.requires (omega arith) (omega arith) (omega arith))
 
 pub overflow_cast-result-4 : goal.overflow_cast-result-4
 unfolding weigh
 overflow_cast-result-4 c =
-    let byte0 : c.args.b.b0 < 2 ^ 8 = omega arith in
-    let byte1 : c.args.b.b1 < 2 ^ 8 = omega arith in
-    let byte2 : c.args.b.b2 < 2 ^ 8 = omega arith in
-    let one : Exact = product c.args.b.b0 c.args.w.first byte0 c.requires.first in
-    let other : Exact = product c.args.b.b1 c.args.w.second byte1 c.requires.second in
-    let last : Exact = product c.args.b.b2 c.args.w.third byte2 c.requires.third in
-    let two : Exact = sum one other (lit< tt) in
-    let three : Exact = sum two last (lit< tt) in
-    let all : Exact = sum three (literal 1052671 (lit< tt)) (lit< tt) in
-    let in_byte : InByte (weigh c.args.w.first c.args.w.second c.args.w.third 128 c.args.b.b0 c.args.b.b1 c.args.b.b2) =
-    c.requires.chroma c.args.b.b0 c.args.b.b1 c.args.b.b2 byte0 byte1 byte2 in
-    let b = in_byte in rw (shifted all, b.is) (tt, record { fits = b.below })
+    let b = in_byte c.args.b c.requires (omega arith) (omega arith) (omega arith) in
+    rw (shifted (all c.args.b c.requires (omega arith) (omega arith) (omega arith)), b.is) (tt, record { fits = b.below })
 
 pub returns : goal.returns
 unfolding weigh
 returns c =
-    let byte0 : c.args.b.b0 < 2 ^ 8 = omega arith in
-    let byte1 : c.args.b.b1 < 2 ^ 8 = omega arith in
-    let byte2 : c.args.b.b2 < 2 ^ 8 = omega arith in
-    let one : Exact = product c.args.b.b0 c.args.w.first byte0 c.requires.first in
-    let other : Exact = product c.args.b.b1 c.args.w.second byte1 c.requires.second in
-    let last : Exact = product c.args.b.b2 c.args.w.third byte2 c.requires.third in
-    let two : Exact = sum one other (lit< tt) in
-    let three : Exact = sum two last (lit< tt) in
-    let all : Exact = sum three (literal 1052671 (lit< tt)) (lit< tt) in
-    let in_byte : InByte (weigh c.args.w.first c.args.w.second c.args.w.third 128 c.args.b.b0 c.args.b.b1 c.args.b.b2) =
-    c.requires.chroma c.args.b.b0 c.args.b.b1 c.args.b.b2 byte0 byte1 byte2 in
-    ap (λ (z : ℤ). pos (nat_abs z)) (shifted all) ∙ byte_size in_byte
+    ap (λ (z : ℤ). pos (nat_abs z)) (shifted (all c.args.b c.requires (omega arith) (omega arith) (omega arith)))
+    ∙ byte_size (in_byte c.args.b c.requires (omega arith) (omega arith) (omega arith))

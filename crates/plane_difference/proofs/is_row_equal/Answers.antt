@@ -1,8 +1,8 @@
--- Both loops: the planes are equal up to the place. A number or a byte that differs below the end stops the front below it. Assumes nothing.
-use Rattle.std.proofs.Common.{arith, sym, ◌∙◌}
-use borrow.Author.Tests.{le-leb}
+-- The loop: the planes are equal up to the place. A number that differs below the end stops the front below it; the tail tells the rest. Assumes nothing.
+use Rattle.std.proofs.Common.{arith, ap, sym, ◌∙◌, ◌≡◌, ℕ, ◌+◌, ◌-◌}
+use lib.Dec.{leb}
 use Rattle.plane_difference.specs.Difference.{equal_front}
-use Rattle.plane_difference.proofs.Front.{front_more, front_number, word_differs, byte_differs}
+use Rattle.plane_difference.proofs.Front.{front_number, word_differs, tail_told}
 use Rattle.plane_difference.proofs.is_row_equal.Goals as goal
 
 pub returns-then-read_u64 : goal.returns-then-read_u64
@@ -16,11 +16,8 @@ loop-at-preserved c = (
       (omega arith) (omega arith) (sym c.read_u64.ensures ∙ c.if-read_u64.false ∙ c.read_u64-in-loop-at.ensures) c.loop-at.invariant.1,
 )
 
-pub returns-then-ours-tail : goal.returns-then-ours-tail
-returns-then-ours-tail c = byte_differs c.loop-tail.tail c.args.end _ _ (omega arith) c.if-ours-tail.true
-
-pub loop-tail-preserved : goal.loop-tail-preserved
-loop-tail-preserved c = front_more _ _ c.loop-tail.tail (omega arith) (omega arith) c.if-ours-tail.false c.loop-tail.invariant
-
 pub returns : goal.returns
-returns c = sym (le-leb c.args.end (equal_front c.args.ours.now c.args.theirs.now) (omega arith))
+returns c =
+    let whole : c.loop-at.at + (c.args.end - c.loop-at.at) ≡ c.args.end = omega arith in
+    c.eq.ensures ∙ tail_told (c.args.end - c.loop-at.at) c.loop-at.at c.args.ours.now c.args.theirs.now (omega arith) (omega arith) c.loop-at.invariant.1
+    ∙ ap (λ (n : ℕ). leb n (equal_front c.args.ours.now c.args.theirs.now)) whole

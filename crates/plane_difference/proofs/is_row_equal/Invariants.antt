@@ -1,4 +1,4 @@
--- Both loops: the planes are equal up to the place. A number or a byte that differs below the end stops the front below it. Assumes nothing.
+-- The loop: the planes are equal up to the place. Assumes nothing.
 use Rattle.std.proofs.Common.{◌-◌, ◌≤◌}
 use Rattle.plane_difference.specs.Difference.{equal_front}
 use Rattle.plane_difference.proofs.is_row_equal.Given as goal
@@ -8,6 +8,3 @@ invariant-loop-at l = (l.at ≤ l.end) × (l.at ≤ equal_front l.ours l.theirs)
 
 abbrev pub decreases-loop-at : goal.decreases-loop-at
 decreases-loop-at l = l.end - l.at
-
-abbrev pub invariant-loop-tail : goal.invariant-loop-tail
-invariant-loop-tail l = l.tail ≤ equal_front l.ours l.theirs

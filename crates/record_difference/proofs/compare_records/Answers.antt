@@ -4,7 +4,7 @@ use Rattle.record_difference.proofs.Compared.{sizes_differ, told_sizes, planes_t
 use Rattle.record_difference.proofs.compare_records.Goals as goal
 
 pub returns-then-ne : goal.returns-then-ne
-returns-then-ne c = told_sizes _ _ _ _ _ _ c.size_of-a.ensures c.size_of-b.ensures (sizes_differ _ _ c.if-ne.ensures)
+returns-then-ne c = told_sizes _ _ _ _ _ _ c.of-a.ensures.size c.of-b.ensures.size (sizes_differ _ _ c.if-ne.ensures)
 
 pub loop-plane-init : goal.loop-plane-init
-loop-plane-init c = planes_tell _ _ _ _ _ _ c.size_of-a.ensures c.size_of-b.ensures (search rules)
+loop-plane-init c = planes_tell _ _ _ _ _ _ c.of-a.ensures.size c.of-b.ensures.size (search rules)

@@ -7,6 +7,6 @@ use Rattle.record_difference.proofs.compare_records.Given as goal
 
 abbrev pub invariant-loop-plane : goal.invariant-loop-plane
 invariant-loop-plane l =
-    let r = record_of l.form_a l.ours l.i in
-    let s = record_of l.form_b l.theirs l.j in
-    from_plane l.plane-index l.a r s ≡ record_difference l.form_a r l.form_b s
+    let r = record_of l.ours.form l.ours.bytes.now l.i in
+    let s = record_of l.theirs.form l.theirs.bytes.now l.j in
+    from_plane l.plane-index l.a.size r s ≡ record_difference l.ours.form r l.theirs.form s

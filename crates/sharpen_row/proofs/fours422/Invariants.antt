@@ -5,4 +5,4 @@ use Rattle.pixel_pairs.specs.Rows.{Begun422}
 use Rattle.sharpen_row.proofs.fours422.Given as goal
 
 abbrev pub invariant-loop-k : goal.invariant-loop-k
-invariant-loop-k g l = Begun422 l.fn.tables.rows.frame g.row.N l.fn.this (2 * l.k) l.fn.y l.fn.u l.fn.v l.y l.u l.v
+invariant-loop-k g l = Begun422 l.fn.tables.luma.rows.frame g.row.N l.fn.this (2 * l.k) l.fn.y l.fn.u l.fn.v l.y l.u l.v

@@ -4,50 +4,56 @@ use native.Mathlib.Omega.{arith}
 use mathlib.Core.Path.{◌≡◌, refl, sym, ◌∙◌}
 use mathlib.Core.Bool.{true, false}
 use lib.ListN.{length}
-use borrow.Author.Tests.{lt-ltb, le-ltb, not-true, not-false}
+use borrow.Author.Tests.{lt-ltb, le-ltb}
 use Rattle.shift_file.specs.Read.{records_in}
 use Rattle.shift_writer.proofs.Answers.{from_start}
 use Rattle.shift_move.specs.Move.{may_move, moved_file}
-use Rattle.shift_move.proofs.Files.{HasRecords, has_records, moved_most, asked_in_order}
+use Rattle.shift_move.proofs.Files.{file_records, moved_most, asked_in_order}
 use Rattle.shift_move.proofs.move_file.Goals.{Else-not-may_move}
 use Rattle.shift_move.proofs.move_file.Goals as goal
 
-moves_on : (c : Else-not-may_move) → may_move c.in-Ok.file.form (records_in c.in-Ok.file.form c.in-Ok.file.bytes.now) ≡ true
-moves_on c = sym c.may_move.ensures ∙ not-false _ c.if-not-may_move.false-raw
-
-pub returns-in-Err : goal.returns-in-Err
-returns-in-Err c = record { answered = rw (c.in-Err.ensures.refused.0, c.in-Err.ensures.refused.1); size = rw c.in-Err.ensures.refused.0; written = refl }
+moves_on : (c : Else-not-may_move) → may_move c.in_ok-file.file.form (records_in c.in_ok-file.file.form c.in_ok-file.file.bytes.now) ≡ true
+moves_on c = sym c.may_move.ensures ∙ search
 
 pub returns-then-not-may_move : goal.returns-then-not-may_move
 returns-then-not-may_move c =
-    let f = c.in-Ok.file in
-    let s = c.in-Ok.ensures.same in
-    let no : may_move f.form (records_in f.form f.bytes.now) ≡ false = sym c.may_move.ensures ∙ not-true _ c.if-not-may_move.true-raw in
-    rw (← s.0, ← s.1) (record { answered = rw (asked_in_order f.form f.bytes.now (length c.args.output.now), f.checked, no); size = refl; written = refl })
+    let f = c.in_ok-file.file in
+    let s = c.in_ok-file.ensures.same in
+    let no : may_move f.form (records_in f.form f.bytes.now) ≡ false = sym c.may_move.ensures ∙ search in
+    rw (← s.0, ← s.1) (record {
+      answered = rw (asked_in_order f.form f.bytes.now (length c.args.output.now), f.checked, no);
+      size = refl;
+      written = refl;
+    })
 
 pub file_size-size-requires : goal.file_size-size-requires
 file_size-size-requires c =
-    let f = c.in-Ok.file in
-    let h : HasRecords f.form f.bytes.now f.count = has_records f.form f.bytes.now f.count f.checked f.are_bytes f.counted in
+    let f = c.in_ok-file.file in
+    let h = file_records f in
     moved_most f.form f.bytes.now (records_in f.form f.bytes.now) h.is_file_lem (moves_on (goal.at.file_size-size-requires c).Else-not-may_move)
 
 pub returns-then-output-size : goal.returns-then-output-size
 returns-then-output-size c =
-    let f = c.in-Ok.file in
-    let s = c.in-Ok.ensures.same in
+    let f = c.in_ok-file.file in
+    let s = c.in_ok-file.ensures.same in
+    let room = length c.args.output.now in
+    let file = moved_file f.form f.bytes.now in
+    let may = moves_on (goal.at.returns-then-output-size c).Else-not-may_move in
     rw (← s.0, ← s.1) (record {
-      answered = rw (asked_in_order f.form f.bytes.now (length c.args.output.now), f.checked, moves_on (goal.at.returns-then-output-size c).Else-not-may_move, lt-ltb (length c.args.output.now) (length (moved_file f.form f.bytes.now)) (omega (arith, c.file_size-size.ensures)));
+      answered = rw (asked_in_order f.form f.bytes.now room, f.checked, may, lt-ltb room (length file) (omega (arith, c.file_size-size.ensures)));
       size = c.file_size-size.ensures;
       written = refl;
     })
 
 pub returns : goal.returns
 returns c =
-    let f = c.in-Ok.file in
-    let s = c.in-Ok.ensures.same in
+    let f = c.in_ok-file.file in
+    let s = c.in_ok-file.ensures.same in
+    let room = length c.args.output.now in
     let file = moved_file f.form f.bytes.now in
+    let may = moves_on (goal.at.returns c).Else-not-may_move in
     rw (← s.0, ← s.1) (record {
-      answered = rw (asked_in_order f.form f.bytes.now (length c.args.output.now), f.checked, moves_on (goal.at.returns c).Else-not-may_move, le-ltb (length c.args.output.now) (length file) (omega (arith, c.file_size-size.ensures)));
+      answered = rw (asked_in_order f.form f.bytes.now room, f.checked, may, le-ltb room (length file) (omega (arith, c.file_size-size.ensures)));
       size = c.file_size-size.ensures;
       written = from_start file c.args.output.now _ c.put_file.ensures (omega (arith, c.file_size-size.ensures));
     })

@@ -7,7 +7,7 @@ use lib.ListN.{length}
 use Rattle.shift_file.specs.File.{mark_size, record_bytes}
 use Rattle.shift_file.specs.Read.{records_in}
 use Rattle.shift_move.specs.Move.{other_form, moved}
-use Rattle.shift_move.proofs.Files.{HasRecords, has_records, room, file_steps}
+use Rattle.shift_move.proofs.Files.{file_records, room, file_steps}
 use Rattle.shift_move.proofs.put_file.Goals.{After-mark_size-counted}
 use Rattle.shift_move.proofs.put_file.Goals as goal
 
@@ -16,7 +16,7 @@ sizes : (c : After-mark_size-counted) → let f = c.args.file.now in (c.mark_siz
     × (c.mark_size-counted.result + 4 + 12 * f.count + length (record_bytes (moved (other_form f.form) (records_in f.form f.bytes.now))) ≤ length c.args.output.now)
 sizes c =
     let f = c.args.file.now in
-    let h : HasRecords f.form f.bytes.now f.count = has_records f.form f.bytes.now f.count f.checked f.are_bytes f.counted in
+    let h = file_records f in
     let is : c.mark_size-counted.result ≡ mark_size (other_form f.form) = rw c.other_form-to.ensures at c.mark_size-counted.ensures.0 in
     (is, omega (arith, is, c.requires, room f.form f.bytes.now f.count h))
 
@@ -41,6 +41,6 @@ put_records-requires c =
 pub returns : goal.returns
 returns c =
     let f = c.args.file.now in
-    let h : HasRecords f.form f.bytes.now f.count = has_records f.form f.bytes.now f.count f.checked f.are_bytes f.counted in
+    let h = file_records f in
     file_steps f.form f.bytes.now f.count h c.args.output.now _ _ _ _ _ _ c.other_form-to.ensures
     c.write_mark.ensures (sizes (goal.at.returns c).After-mark_size-counted).0 c.write_number.ensures c.write_pairs.ensures c.put_records.ensures

@@ -8,7 +8,7 @@ use lib.ListN.{length, drop}
 use Rattle.shift_file.specs.File.{record_bytes}
 use Rattle.shift_file.specs.Read.{records_in}
 use Rattle.shift_move.specs.Move.{other_form, moved}
-use Rattle.shift_move.proofs.Files.{HasRecords, has_records}
+use Rattle.shift_move.proofs.Files.{file_records}
 use Rattle.shift_move.proofs.Steps.{left_next, pair_next, pair_last}
 use Rattle.shift_move.proofs.write_pairs.Goals.{In-loop-k}
 use Rattle.shift_move.proofs.write_pairs.Goals.{After-moved_size-size}
@@ -17,7 +17,7 @@ use Rattle.shift_move.proofs.write_pairs.Goals as goal
 below : (c : In-loop-k) → c.loop-k.k < length (records_in c.args.file.now.form c.args.file.now.bytes.now)
 below c =
     let f = c.args.file.now in
-    let h : HasRecords f.form f.bytes.now f.count = has_records f.form f.bytes.now f.count f.checked f.are_bytes f.counted in
+    let h = file_records f in
     omega (arith, h.count, c.loop-k-test.true)
 
 -- what is left behind this record
@@ -25,7 +25,7 @@ inside : (c : After-moved_size-size) → let f = c.args.file.now in let rs = rec
     c.loop-k.at + c.moved_size-size.result + length (record_bytes (moved to (drop (c.loop-k.k + 1) rs))) ≡ c.args.first + length (record_bytes (moved to rs))
 inside c =
     let f = c.args.file.now in
-    let h : HasRecords f.form f.bytes.now f.count = has_records f.form f.bytes.now f.count f.checked f.are_bytes f.counted in
+    let h = file_records f in
     omega (arith, c.moved_size-size.ensures, c.loop-k.invariant.here, left_next (records_in f.form f.bytes.now) c.loop-k.k (other_form f.form) (omega (arith, h.count, c.loop-k-test.true)))
 
 pub loop-k-init : goal.loop-k-init
@@ -46,5 +46,5 @@ loop-k-preserved c =
 pub returns : goal.returns
 returns c =
     let f = c.args.file.now in
-    let h : HasRecords f.form f.bytes.now f.count = has_records f.form f.bytes.now f.count f.checked f.are_bytes f.counted in
+    let h = file_records f in
     sym (pair_last (records_in f.form f.bytes.now) c.loop-k.k (other_form f.form) c.loop-k.output c.loop-k.at _ (omega (arith, h.count, c.loop-k-test.false))) ∙ c.loop-k.invariant.same

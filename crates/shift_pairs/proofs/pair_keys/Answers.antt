@@ -2,15 +2,16 @@
 use Rattle.std.proofs.Common.{rules, arith, sym, ◌+◌, ◌≤◌, length}
 use lib.ListN.{length-map}
 use Rattle.crossing_keys.specs.Keys.{number_of}
-use Rattle.shift_pairs.proofs.Walking.{place_inside, keys_few, Walking-none, so_far, next_ours, next_theirs, next_both}
+use Rattle.crossing_keys.proofs.Places.{its_file, keys_counted}
+use Rattle.shift_pairs.proofs.Walking.{Walking-none, so_far, next_ours, next_theirs, next_both}
 use Rattle.shift_pairs.proofs.Walking.{all_ours, all_theirs, reported}
 use Rattle.shift_pairs.proofs.pair_keys.Goals.{At-loop-i}
 use Rattle.shift_pairs.proofs.pair_keys.Goals.{else-loop-i-test, then-loop-i-test+then-j-b}
 use Rattle.shift_pairs.proofs.pair_keys.Goals as goal
 
 -- no more pairs than keys on either side
-pairs_few : (c : At-loop-i) → (c.loop-i.tally.equal + c.loop-i.tally.differing ≤ length c.args.a.now)
-    × (c.loop-i.tally.equal + c.loop-i.tally.differing ≤ length c.args.b.now)
+pairs_few : (c : At-loop-i) → (c.loop-i.tally.equal + c.loop-i.tally.differing ≤ length c.args.ours.now.keys.now)
+    × (c.loop-i.tally.equal + c.loop-i.tally.differing ≤ length c.args.theirs.now.keys.now)
 pairs_few c =
     let pairs = so_far _ _ _ c.loop-i.i c.loop-i.j c.loop-i.tally c.loop-i.invariant.2 in
     (omega (arith, c.loop-i.invariant.2.few_ours), omega (arith, c.loop-i.invariant.2.few_theirs))
@@ -32,12 +33,9 @@ loop-i-preserved-then-y-x c = (
   next_theirs _ _ _ c.loop-i.i c.loop-i.j c.loop-i.tally _ _ c.loop-i.invariant.2 (omega arith) (omega arith) c.index-a-i.is c.index-b-j.is c.if-y-x.true,
 )
 
-pub with_pair-tally-requires : goal.with_pair-tally-requires
-with_pair-tally-requires c = record {
-  our_record = record { is_file_lem = c.requires.our_keys.is_file_lem; below = place_inside _ _ _ c.requires.our_keys c.loop-i.i _ (omega arith) c.index-a-i.is };
-  their_record = record { is_file_lem = c.requires.their_keys.is_file_lem; below = place_inside _ _ _ c.requires.their_keys c.loop-i.j _ (omega arith) c.index-b-j.is };
-  few_pairs = omega (arith, so_far _ _ _ c.loop-i.i c.loop-i.j c.loop-i.tally c.loop-i.invariant.2, c.loop-i.invariant.2.few_ours, keys_few _ _ _ c.requires.our_keys);
-}
+pub with_pair-tally-requires-clause-few_pairs : goal.with_pair-tally-requires-clause-few_pairs
+with_pair-tally-requires-clause-few_pairs c =
+    omega (arith, so_far _ _ _ c.loop-i.i c.loop-i.j c.loop-i.tally c.loop-i.invariant.2, c.loop-i.invariant.2.few_ours, keys_counted c.args.ours.now, c.args.ours.now.file.few)
 
 pub loop-i-preserved : goal.loop-i-preserved
 loop-i-preserved c = (
@@ -57,9 +55,11 @@ overflow_sub-result-2 c = omega (arith, pairs_few (goal.at.overflow_sub-result-2
 
 pub returns : goal.returns
 returns c =
-    let long_a = length-map c.args.a.now number_of in
-    let long_b = length-map c.args.b.now number_of in
-    reported _ _ _ c.requires.our_keys.keys_are c.requires.their_keys.keys_are c.requires.our_keys.is_file_lem.has c.requires.their_keys.is_file_lem.has
+    let o = c.args.ours.now in
+    let t = c.args.theirs.now in
+    let long_a = length-map o.keys.now number_of in
+    let long_b = length-map t.keys.now number_of in
+    reported _ _ _ o.in_order t.in_order (its_file o.file).its.has (its_file t.file).its.has
     _ _ (sym long_a) (sym long_b) c.loop-i.tally c.loop-i.invariant.2.done
     c.loop-i.invariant.2.tallied (elim c.loop-i-test.branch [
       | else-loop-i-test w ↦ all_ours _ _ _ c.loop-i.i c.loop-i.j c.loop-i.tally c.loop-i.invariant.2 (omega arith)

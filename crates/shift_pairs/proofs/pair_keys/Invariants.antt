@@ -8,7 +8,11 @@ use Rattle.shift_pairs.proofs.Walking.{Walking}
 use Rattle.shift_pairs.proofs.pair_keys.Given as goal
 
 abbrev pub invariant-loop-i : goal.invariant-loop-i
-invariant-loop-i l = (l.i ≤ length l.a) × (l.j ≤ length l.b) × Walking (files_of l.form_a l.ours l.form_b l.theirs) (map number_of l.a) (map number_of l.b) l.i l.j l.tally
+invariant-loop-i l =
+    let f = l.ours.file in
+    let g = l.theirs.file in
+    (l.i ≤ length l.a) × (l.j ≤ length l.b)
+    × Walking (files_of f.form f.bytes.now g.form g.bytes.now) (map number_of l.ours.keys.now) (map number_of l.theirs.keys.now) l.i l.j l.tally
 
 abbrev pub decreases-loop-i : goal.decreases-loop-i
 decreases-loop-i l = (length l.a - l.i) + (length l.b - l.j)

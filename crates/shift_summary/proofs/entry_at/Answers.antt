@@ -1,16 +1,16 @@
 -- The reader tells crossing, offset and luma plane of record k, and the mean is of that plane. Assumes nothing.
 use Rattle.shift_file.specs.Read.{records_in}
-use Rattle.shift_reader.proofs.Places.{allowed}
+use Rattle.crossing_keys.proofs.Places.{record_below, record_allowed}
 use Rattle.shift_summary.proofs.Entries.{luma_bounds, entry_told}
 use Rattle.shift_summary.proofs.entry_at.Goals as goal
 
 pub mean_luma-requires : goal.mean_luma-requires
 mean_luma-requires c =
-    let rs = records_in c.args.form c.args.file.now in
-    luma_bounds c.args.form rs c.args.k c.requires.below (allowed c.args.form c.args.file.now rs c.args.k c.requires.is_file_lem c.requires.below) _ c.y_part-luma.ensures
+    let f = c.args.file.now in
+    luma_bounds f.form (records_in f.form f.bytes.now) c.args.k (record_below f c.args.k c.requires) (record_allowed f c.args.k c.requires) _ c.y.ensures
 
 pub returns : goal.returns
 returns c =
-    let rs = records_in c.args.form c.args.file.now in
-    entry_told c.args.form rs c.args.k c.requires.below (allowed c.args.form c.args.file.now rs c.args.k c.requires.is_file_lem c.requires.below) _ _ _ _
-    c.entry_of-entry.ensures.crossing c.entry_of-entry.ensures.offset c.y_part-luma.ensures c.mean_luma.ensures
+    let f = c.args.file.now in
+    entry_told f.form (records_in f.form f.bytes.now) c.args.k (record_below f c.args.k c.requires) (record_allowed f c.args.k c.requires) _ _ _ _
+    c.entry-entry.ensures.crossing c.entry-entry.ensures.offset c.y.ensures c.mean_luma.ensures

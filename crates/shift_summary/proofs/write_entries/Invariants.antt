@@ -10,6 +10,7 @@ use Rattle.shift_summary.proofs.write_entries.Given as goal
 
 abbrev pub invariant-loop-i : goal.invariant-loop-i
 invariant-loop-i l =
-    let es = entries_of l.form (records_in l.form l.file) in
-    let names = map number_of l.keys in
+    let f = l.ordered.file in
+    let es = entries_of f.form (records_in f.form f.bytes.now) in
+    let names = map number_of l.ordered.keys.now in
     sets l.summary (13 * l.i) (entries_bytes (by_keys no_entry (drop l.i names) es)) ≡ sets l.initial.summary 0 (entries_bytes (by_keys no_entry names es))

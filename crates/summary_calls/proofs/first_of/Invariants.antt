@@ -6,5 +6,5 @@ use Rattle.summary_calls.proofs.first_of.Given as goal
 
 abbrev pub invariant-loop-k : goal.invariant-loop-k
 invariant-loop-k l =
-    let rs = records_in l.form l.file in
+    let rs = records_in l.file.form l.file.bytes.now in
     l.k + place_of_first l.crossing (drop l.k rs) ≡ place_of_first l.crossing rs

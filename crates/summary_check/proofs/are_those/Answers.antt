@@ -1,33 +1,48 @@
 -- The invariant: whether the entries from place i on are those that the keys name is what is asked. Assumes nothing.
-use Rattle.std.proofs.Common.{arith, ap₂, sym, ◌∙◌, length}
+use Rattle.std.proofs.Common.{arith, ap, ap₂, sym, ◌∙◌, ◌≡◌, ◌+◌, Bool, true, false, ◌&&◌, length}
 use borrow.Author.Tests.{not-true, not-false}
 use Rattle.summary_entry.specs.Entry.{entries_in, same_entry}
 use Rattle.summary_entry.proofs.Entry.{length_read, entry_at}
 use Rattle.shift_file.specs.Read.{records_in}
 use Rattle.shift_summary.specs.Summary.{entries_of}
-use Rattle.summary_check.proofs.Tests.{same_step, same_done}
+use Rattle.shift_summary.proofs.Loops.{ordered_entries}
+use Rattle.summary_check.specs.Check.{same_entries}
+use Rattle.summary_check.proofs.Tests.{same_from, same_step, same_done}
+use Rattle.summary_check.proofs.are_those.Goals.{After-entry_at-of_file}
 use Rattle.summary_check.proofs.are_those.Goals as goal
 
-pub returns-then-not-is_same : goal.returns-then-not-is_same
-returns-then-not-is_same c =
-    let n = length c.args.keys.now in
+-- the test from place i on is this one, and the later ones
+step : (c : After-entry_at-of_file) → let keys = c.args.ordered.now.keys.now in let f = c.args.ordered.now.file in
+    let es = entries_in (length keys) c.args.summary.now in let fs = entries_of f.form (records_in f.form f.bytes.now) in
+    same_from keys es fs 0 ≡ (same_entry c.read_entry-entry.result c.entry_at-of_file.result && same_from keys es fs (c.loop-i.i + 1))
+step c =
+    let keys = c.args.ordered.now.keys.now in
+    let f = c.args.ordered.now.file in
+    let n = length keys in
     let es = entries_in n c.args.summary.now in
-    let step = same_step c.args.keys.now es (entries_of c.args.form (records_in c.args.form c.args.file.now)) c.loop-i.i
-    c.index-keys-i.result c.index-keys-i.is (omega arith) (omega (arith, length_read n c.args.summary.now)) in
-    let same = sym (ap₂ same_entry (c.read_entry-entry.ensures ∙ sym (entry_at n c.loop-i.i c.args.summary.now (omega arith))) c.entry_at-of_file.ensures) ∙ sym c.is_same.ensures in
-    sym (step ∙ rw (same ∙ not-true _ c.if-not-is_same.true-raw)) ∙ c.loop-i.invariant
+    let fs = entries_of f.form (records_in f.form f.bytes.now) in
+    sym c.loop-i.invariant
+    ∙ same_step keys es fs c.loop-i.i c.index-keys-i.result c.index-keys-i.is (omega arith) (omega (arith, length_read n c.args.summary.now))
+    ∙ ap (λ (b : Bool). b && same_from keys es fs (c.loop-i.i + 1))
+    (sym (ap₂ same_entry (c.read_entry-entry.ensures ∙ sym (entry_at n c.loop-i.i c.args.summary.now (omega arith))) c.entry_at-of_file.ensures))
+
+pub returns-then-ne : goal.returns-then-ne
+returns-then-ne c =
+    let o = c.args.ordered.now in
+    let differ : same_entry c.read_entry-entry.result c.entry_at-of_file.result ≡ false = not-true _ (sym c.if-ne.ensures) in
+    sym (rw differ at (step (goal.at.returns-then-ne c).After-entry_at-of_file))
+    ∙ ap (same_entries _) (ordered_entries o.file.form (records_in o.file.form o.file.bytes.now) o.keys.now o.in_order)
 
 pub loop-i-preserved : goal.loop-i-preserved
 loop-i-preserved c =
-    let n = length c.args.keys.now in
-    let es = entries_in n c.args.summary.now in
-    let step = same_step c.args.keys.now es (entries_of c.args.form (records_in c.args.form c.args.file.now)) c.loop-i.i
-    c.index-keys-i.result c.index-keys-i.is (omega arith) (omega (arith, length_read n c.args.summary.now)) in
-    let same = sym (ap₂ same_entry (c.read_entry-entry.ensures ∙ sym (entry_at n c.loop-i.i c.args.summary.now (omega arith))) c.entry_at-of_file.ensures) ∙ sym c.is_same.ensures in
-    sym (step ∙ rw (same ∙ not-false _ c.if-not-is_same.false-raw)) ∙ c.loop-i.invariant
+    let same : same_entry c.read_entry-entry.result c.entry_at-of_file.result ≡ true = not-false _ (sym c.if-ne.ensures) in
+    sym (rw same at (step (goal.at.loop-i-preserved c).After-entry_at-of_file))
 
 pub returns : goal.returns
 returns c =
-    let n = length c.args.keys.now in
-    sym (same_done c.args.keys.now (entries_in n c.args.summary.now) (entries_of c.args.form (records_in c.args.form c.args.file.now)) c.loop-i.i
-    (omega arith) (omega (arith, length_read n c.args.summary.now))) ∙ c.loop-i.invariant
+    let o = c.args.ordered.now in
+    let n = length o.keys.now in
+    let rs = records_in o.file.form o.file.bytes.now in
+    let es = entries_in n c.args.summary.now in
+    sym (same_done o.keys.now es (entries_of o.file.form rs) c.loop-i.i (omega arith) (omega (arith, length_read n c.args.summary.now)))
+    ∙ c.loop-i.invariant ∙ ap (same_entries es) (ordered_entries o.file.form rs o.keys.now o.in_order)

@@ -8,6 +8,8 @@ use Rattle.summary_check.proofs.are_those.Given as goal
 
 abbrev pub invariant-loop-i : goal.invariant-loop-i
 invariant-loop-i l =
-    let es = entries_in (length l.keys) l.summary in
-    let fs = entries_of l.form (records_in l.form l.file) in
-    same_from l.keys es fs l.i ≡ same_from l.keys es fs 0
+    let f = l.ordered.file in
+    let keys = l.ordered.keys.now in
+    let es = entries_in (length keys) l.summary in
+    let fs = entries_of f.form (records_in f.form f.bytes.now) in
+    same_from keys es fs l.i ≡ same_from keys es fs 0

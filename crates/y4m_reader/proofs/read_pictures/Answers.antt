@@ -12,14 +12,14 @@ use Rattle.y4m_reader.proofs.Entries.{told_entries}
 use Rattle.y4m_reader.proofs.Said.{Said, said, not_read}
 use Rattle.y4m_reader.proofs.read_pictures.Goals as goal
 
-pub returns-in-None : goal.returns-in-None
+pub returns-in_default : goal.returns-in_default
 unfolding entries_of
-returns-in-None c =
-    let other : is_y4m c.args.file.now ≡ false = not_read _ (λ file. true≢false (sym (c.in-None.ensures.is_file.1 file))) in
+returns-in_default c =
+    let other : is_y4m c.args.file.now ≡ false = not_read _ (λ file. true≢false (sym (rw c.in_default.is at (c.open.ensures.is_file.1 file)))) in
     record { answered = rw other; width = refl; height = refl; sampling = refl; count = refl; told = refl; entries = refl }
 
-pub returns-in-Some : goal.returns-in-Some
-returns-in-Some c =
+pub returns : goal.returns
+returns c =
     let r : IsRead c.args.file.now c.in-Some.read.header c.in-Some.read.count = rw c.in-Some.ensures.bytes at c.in-Some.read.is_read in
     let s : Said c.args.file.now c.in-Some.read.header c.in-Some.read.count = said r in
     let pictures = length (file_in c.args.file.now).pictures in

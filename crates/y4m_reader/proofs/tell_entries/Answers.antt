@@ -1,35 +1,28 @@
-use Rattle.std.proofs.Common.{arith, ◌≡◌, ◌+◌, ◌<◌, sym, ◌∙◌, length}
-use Rattle.y4m_file.specs.Read.{file_in}
-use Rattle.y4m_reader.proofs.Said.{Said, said}
-use Rattle.y4m_reader.proofs.Places.{entry_is, next_Stood}
+-- Assumes nothing.
+use native.Mathlib.Omega.{arith}
+use Prim.Native.Nat.{◌+◌}
+use mathlib.Core.Path.{◌≡◌, sym, ◌∙◌}
+use Rattle.y4m_reader.proofs.Files.{Here, picture_here}
 use Rattle.y4m_reader.proofs.Entries.{entry_more, entries_done}
+use Rattle.y4m_reader.proofs.tell_entries.Goals.{After-past_line-y}
 use Rattle.y4m_reader.proofs.tell_entries.Goals as goal
 
-pub tell_entry-requires-clause-small : goal.tell_entry-requires-clause-small
-tell_entry-requires-clause-small c =
-    let s : Said c.args.file.now.bytes.now c.args.file.now.header c.args.file.now.count = said c.args.file.now.is_read in
-    let below : c.args.first + c.loop-i.i < length (file_in c.args.file.now.bytes.now).pictures = omega (arith, s.count) in
-    let next =
-    next_Stood _ _ s.is_file_lem c.plane_sizes-sizes.ensures (c.args.first + c.loop-i.i) c.loop-i.at below c.loop-i.invariant.2 _
-    c.past_line-y.ensures.place in
-    (omega (arith, next.within), c.plane_sizes-sizes.ensures.luma_most_lem, c.plane_sizes-sizes.ensures.chroma_most)
+here : (c : After-past_line-y) → Here c.args.file.now.bytes.now c.plane_sizes-sizes.result (c.args.first + c.loop-i.i) c.past_line-y.result
+here c =
+    picture_here c.args.file.now _ c.plane_sizes-sizes.ensures (c.args.first + c.loop-i.i) c.loop-i.at _ (omega (arith, c.requires.pictures, c.loop-i-test.true))
+    c.loop-i.invariant.2 c.past_line-y.ensures.place
+
+pub numbers-requires : goal.numbers-requires
+numbers-requires c =
+    (omega (arith, (here (goal.at.numbers-requires c).After-past_line-y).inside), c.plane_sizes-sizes.ensures.luma_most_lem, c.plane_sizes-sizes.ensures.chroma_most)
 
 pub loop-i-preserved : goal.loop-i-preserved
 loop-i-preserved c =
-    let s : Said c.args.file.now.bytes.now c.args.file.now.header c.args.file.now.count = said c.args.file.now.is_read in
-    let below : c.args.first + c.loop-i.i < length (file_in c.args.file.now.bytes.now).pictures = omega (arith, s.count) in
-    let next =
-    next_Stood _ _ s.is_file_lem c.plane_sizes-sizes.ensures (c.args.first + c.loop-i.i) c.loop-i.at below c.loop-i.invariant.2 _
-    c.past_line-y.ensures.place in
+    let h = here (goal.at.loop-i-preserved c).After-past_line-y in
     let one : c.args.first + (c.loop-i.i + 1) ≡ c.args.first + c.loop-i.i + 1 = omega arith in (
-      rw c.tell_entry.ensures
-          (entry_more _ _ _ c.args.first c.args.count c.loop-i.i
-          (entry_is _ _ s.is_file_lem c.plane_sizes-sizes.ensures (c.args.first + c.loop-i.i) c.loop-i.at below c.loop-i.invariant.2 _
-          c.past_line-y.ensures.place)
-          (omega arith)
-          ∙ c.loop-i.invariant.0),
-      c.tell_entry.auto.entries ∙ c.loop-i.invariant.1,
-      rw one next,
+      rw c.put.ensures (entry_more _ _ _ c.args.first c.args.count c.loop-i.i (c.numbers.ensures ∙ h.entry) (omega arith) ∙ c.loop-i.invariant.0),
+      c.put.auto.output ∙ c.loop-i.invariant.1,
+      rw one h.next,
     )
 
 pub returns : goal.returns

@@ -1,16 +1,18 @@
 -- `put_side` meets its contract: two runs are one. Assumes nothing.
-use Prim.Native.Nat.{◌+◌}
+use native.Mathlib.Omega.{arith}
 use mathlib.Core.Path.{refl}
-use lib.ListN.{length}
 use Rattle.y4m_writer.specs.Text.{decimal}
-use Rattle.y4m_writer.proofs.Puts.{two_runs, two_places}
+use Rattle.y4m_writer.proofs.Decimal.{decimal-length}
+use Rattle.y4m_writer.proofs.Puts.{behind}
 use Rattle.y4m_writer.proofs.put_side.Goals as goal
 
-pub returns : goal.returns
-returns c =
-    let side = decimal 5 c.args.side in
-    let q = c.args.at + length c.args.text.now in
-    record {
-      output_after = two_runs c.args.output.now c.put.new.output c.put_decimal.new.output c.args.text.now side c.args.at q c.put_decimal.result c.put.ensures refl c.put_decimal.ensures.output_after c.put_decimal.ensures.value;
-      value = two_places c.args.output.now c.put.new.output c.put_decimal.new.output c.args.text.now side c.args.at q c.put_decimal.result c.put.ensures refl c.put_decimal.ensures.output_after c.put_decimal.ensures.value;
-    }
+pub overflow_add-result : goal.overflow_add-result
+overflow_add-result c = omega (arith, c.put_decimal.ensures.value, decimal-length 5 c.args.side)
+
+pub returns-clause-output_after : goal.returns-clause-output_after
+returns-clause-output_after c =
+    behind c.args.output.now c.put.new.output _ c.args.text.now (decimal 5 c.args.side) _ _ c.put.ensures refl (omega (arith, c.requires, c.put.auto.output))
+    (omega (arith, decimal-length 5 c.args.side, c.requires, c.put.auto.output)) c.put_decimal.ensures.output_after
+
+pub returns-clause-upper_bound : goal.returns-clause-upper_bound
+returns-clause-upper_bound c = omega (arith, c.put_decimal.ensures.value, decimal-length 5 c.args.side)

@@ -13,7 +13,7 @@ use Rattle.pixel_pairs.specs.declared.tables.Weights.{Weights}
 use Rattle.pixel_pairs.specs.Weights.{by_place, luma_weights}
 use Rattle.pixel_pairs.specs.Tables.{luma_part}
 use Rattle.pixel_pairs.proofs.Signed.{kept}
-use Rattle.pixel_pairs.proofs.Weights.{Small, luma_Small, placed_Small, placed_kept, size_kept, bias_small}
+use Rattle.pixel_pairs.proofs.Weights.{Small, luma_Small, placed_Small, placed_kept, size_kept}
 use Rattle.pixel_pairs.proofs.TableSums.{Places-none, Places-more}
 use Rattle.pixel_pairs.proofs.tables.sum_tables.Goals as goal
 
@@ -22,37 +22,12 @@ small_placed : (s : YuvSettings) {t : CbCrForwardTransform ℤ} {w : Weights} �
     → Small w.first w.second w.third
 small_placed s shape e = rw (e ∙ placed_kept s.channels (luma_Small shape)) (placed_Small s.channels (luma_Small shape))
 
-pub fill-requires : goal.fill-requires
-fill-requires c =
-    let weights : Weights = c.by_place-weights.result in
-    let small = small_placed c.args.frame.settings c.requires.weighed.shape c.by_place-weights.ensures in
-    let bias_is : c.get_yuv_range.result.bias_y ≡ bias_y c.args.frame.settings =
-    ap (λ (l : YuvChromaRange). l.bias_y) c.get_yuv_range.ensures in
-    let first_is : c.unsigned_abs.result ≡ nat_abs weights.first = size_kept weights.first small.r c.unsigned_abs.ensures.value in
-    record {
-      at_bound = (omega arith, omega (arith, first_is, small.r), omega (arith, bias_is, bias_small c.args.frame.settings.range));
-      sums_len = c.requires.sums_len;
-    }
-
-pub fill-requires-2 : goal.fill-requires-2
-fill-requires-2 c =
-    let weights : Weights = c.by_place-weights.result in
-    let small = small_placed c.args.frame.settings c.requires.weighed.shape c.by_place-weights.ensures in
-    let second_is : c.unsigned_abs-2.result ≡ nat_abs weights.second = size_kept weights.second small.g c.unsigned_abs-2.ensures.value in
-    record {
-      at_bound = (omega arith, omega (arith, second_is, small.g), omega arith);
-      sums_len = c.fill.ensures.size ∙ c.requires.sums_len;
-    }
-
-pub fill-requires-3 : goal.fill-requires-3
-fill-requires-3 c =
+pub fill-requires-3-clause-at_bound : goal.fill-requires-3-clause-at_bound
+fill-requires-3-clause-at_bound c =
     let weights : Weights = c.by_place-weights.result in
     let small = small_placed c.args.frame.settings c.requires.weighed.shape c.by_place-weights.ensures in
     let third_is : c.unsigned_abs-3.result ≡ nat_abs weights.third = size_kept weights.third small.b c.unsigned_abs-3.ensures.value in
-    record {
-      at_bound = (omega arith, omega (arith, third_is, small.b), omega arith);
-      sums_len = c.fill-2.ensures.size ∙ c.fill.ensures.size ∙ c.requires.sums_len;
-    }
+    (omega arith, omega (arith, third_is, small.b), omega arith)
 
 pub returns : goal.returns
 unfolding luma_part

@@ -24,8 +24,8 @@ pub returns : goal.returns
 returns g c =
     record {
       colours_at = (c.block420-first.ensures.colour_at, c.block420-second.ensures.colour_at);
-      luma_more = luma_both (LumasPainted c.args.self.now.rows.frame g.row.N c.args.this.now c.args.below.now)
-          c.args.self.now.rows.frame c.args.j c.block420-first.ensures.luma_more c.block420-second.ensures.luma_more;
-      y_after = c.block420-second.ensures.y_after ∙ ap (put_block420 c.args.self.now.rows.frame g.row.N c.args.this.now c.args.below.now (block_at (c.args.j + 1)))
+      luma_more = luma_both (LumasPainted c.args.self.now.luma.rows.frame g.row.N c.args.this.now c.args.below.now)
+          c.args.self.now.luma.rows.frame c.args.j c.block420-first.ensures.luma_more c.block420-second.ensures.luma_more;
+      y_after = c.block420-second.ensures.y_after ∙ ap (put_block420 c.args.self.now.luma.rows.frame g.row.N c.args.this.now c.args.below.now (block_at (c.args.j + 1)))
           c.block420-first.ensures.y_after;
     }

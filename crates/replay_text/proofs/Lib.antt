@@ -1,0 +1,2 @@
+-- Lemmas of the lines and their calls.
+pub mod Made

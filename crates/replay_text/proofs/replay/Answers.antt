@@ -1,0 +1,46 @@
+-- `replay` meets its contract: a line more was read, and its call made between its name and a newline.
+use Rattle.std.proofs.Common.{◌≡◌, ◌++◌, ◌∷◌, [], length, length-append, rules, arith, of_calls, refl, ap, ◌∙◌, OnOk, Result, Ok, Err}
+use Rattle.std.proofs.lemmas.Fn.{FoldsTo-push}
+use Rattle.std.specs.Vec.{vec_items}
+use Rattle.replay_text.specs.Lines.{IsLine, Replies}
+use Rattle.replay_text.proofs.Made.{line_read, replies}
+use Rattle.replay_text.proofs.replay.Goals as goal
+
+pub loop-line-init : goal.loop-line-init
+loop-line-init g c = (λ a. a, search rules, ([], search rules, refl, refl))
+
+pub loop-line-preserved : goal.loop-line-preserved
+loop-line-preserved g c =
+    let before = c.loop-line.invariant in
+    let lines = before.2.0 in
+    let line = c.in_ok-line.line.items in
+    let is_cut = rw c.deref.ensures.value at c.cut.ensures in (
+      search of_calls,
+      c.next.ensures.steps.1 ∙ before.1,
+      (
+        lines ++ line ∷ [],
+        FoldsTo-push IsLine _ lines _ line _ before.2.1 (line_read vec_items _ _ _ c.in_ok-line.line _ c.in-Some.ensures.steps.2 c.in_ok-line.was before.1),
+        FoldsTo-push (Replies g.F.FnMut g.W.Write.contents) _ lines _ line _ before.2.2
+            (replies g.F.FnMut g.W.Write.contents _ is_cut c.in_ok-write_all.ensures.bytes c.in_ok-write_all-2.ensures.bytes c.call.ensures c.in_ok-call.was
+            c.in_ok-write_all-3.ensures.bytes),
+        omega (arith, length-append lines (line ∷ []), before.2.3),
+      ),
+    )
+
+on_ok : {E P : Type 0} (r : Result Unit E) → P → OnOk r P
+on_ok (Ok done) p = p
+on_ok (Err e) p = tt
+
+pub returns : goal.returns
+returns g c =
+    let after = c.loop-line.invariant in
+    on_ok c.flush.result (
+      after.2.0,
+      c.loop-line.call,
+      c.loop-line.out,
+      c.writeln.new.self,
+      (_, after.2.1, c.in-None.ensures.steps.2),
+      after.2.2,
+      rw after.2.3 at c.in_ok-writeln.ensures.bytes,
+      c.flush.ensures.bytes,
+    )
