@@ -210,8 +210,10 @@ for title, patterns in TOGETHER.items():
 say("functions of more than five parameters", [(f.crate, f.name) for f in functions if len(f.parameters) > 5])
 
 print("point 6: buffers with a length beside them, parallel arrays, packed numbers")
-say("fixed arrays that are filled in part", [(crate, f"line {text.count(chr(10), 0, m.start()) + 1}")
-                                             for crate, _, _, text in texts for m in re.finditer(r"\[0u(?:8|64); \w+\]|large_buffer\(\)|io::buffer\(\)", text)])
+ARRAY = r"\[(?:\d[\w.]*|[A-Z_]{2,}|[\w:]+(?:\(\d*\)|\s*\{[^{}]*\})); \w+\]|large_buffer\(\)|io::buffer\(\)"
+say("arrays of a fixed size, filled in part or whole, but for those of tests", [
+    (crate, f"line {text.count(chr(10), 0, m.start()) + 1}")
+    for crate, _, _, text in texts for m in re.finditer(ARRAY, text.partition("#[cfg(test)]")[0])])
 say("an array beside a count of what is in it", [(c, n) for c, n, fields in structs if any(re.search(r": \[", field) for field in fields) and any(re.match(r"(pub )?(count|len|length|size)\s*:", field) for field in fields)])
 
 print("point 7: switches on the step to run")

@@ -16,7 +16,8 @@ use Rattle.yuv_error.specs.Lent.{opening_rules, lent_rules}
 use Rattle.yuv_error.specs.Known.{Sized, Given, PlanesLent}
 use Rattle.definitions.specs.declared.FrameDescription.{FrameDescription}
 use Rattle.yuv_error.proofs.First.{append_finished}
-use Rattle.yuv_error.proofs.Accepted.{neither, none_holds, opened, buffers}
+use Rattle.std.proofs.lemmas.Bool.{or_parts}
+use Rattle.yuv_error.proofs.Accepted.{none_holds, opened, buffers}
 use Rattle.yuv_error.proofs.Accepts.{both_pass, opening_passes, lent_passes}
 use Rattle.band_calls.specs.declared.FrameState.{FrameState}
 use Rattle.band_calls.specs.BandCall.{band_of, row_rules, carried_rules, band_rules, is_carried, carried_bytes, BandCall, lent_to}
@@ -24,7 +25,7 @@ use Rattle.band_calls.specs.BandCall.{band_of, row_rules, carried_rules, band_ru
 -- 5: how many rows the band has
 pub rows_given : (h done rows : ℕ) → (first_numbers (row_rules h done rows)).number ≡ 0 → (1 ≤ rows) × (done + rows ≤ h)
 rows_given h done rows e =
-    let none = neither (eqb rows 0) (ltb (h - done) rows) (neither _ _ (none_holds (row_rules h done rows) refl e 5)).0 in
+    let none = or_parts (eqb rows 0) (ltb (h - done) rows) (or_parts _ _ (none_holds (row_rules h done rows) refl e 5)).0 in
     let some = eqb-false rows 0 none.0 in
     let few = ltb-false (h - done) rows none.1 in
     (omega arith, omega arith)
@@ -53,7 +54,7 @@ module _ (s : FrameState) (rows stride : ℕ) (n : Lengths) (carried : ℕ) wher
         given = record { rows_least = r.0; rows_most = r.1; source_row = l.source_row; source_size = omega (arith, l.source_size) };
         whole = l.source_size;
         planes = l.planes;
-        carried_size = ltb-false _ _ (neither _ _ (none_holds last refl a.1 13)).0;
+        carried_size = ltb-false _ _ (or_parts _ _ (none_holds last refl a.1 13)).0;
       }
 
   pub band_passes : AcceptedBand s rows stride n carried → first_numbers (band_rules s rows stride n carried) ≡ numbers 0 0 0

@@ -24,7 +24,8 @@ pub struct FrameState {
     pub done: u32,
 }
 
-// What an opening or a band call hands back: the state in any case, refused or not, so this is no `Result`.
+// What an opening or a band call hands back. By RULES 8.1 and 8.5 that is the state in any case, refused or not, and a state by value with methods on it
+// is a form that the project names (docs/PROMISES.md, B2 and F6): so this is no `Result`.
 #[derive(Clone, Copy, Debug, PartialEq)]
 pub struct FrameAnswer {
     pub state: FrameState,
@@ -88,7 +89,8 @@ fn is_carried(sampling: YuvChromaSubsampling, height: u32, end: u32) -> bool
     }
 }
 
-// The first three bytes of each of a row's `width` pixels, one pixel after another.
+// The first three bytes of each of a row's `width` pixels, one pixel after another. By number: `chunks_exact` of both slices would name the same three bytes
+// of a pixel by number still, once both were cut to `width` pixels.
 fn carry_row(row: &[u8], count: usize, width: usize, carried: &mut [u8])
     requires le_count { (3 ≤ count) × (width * count ≤ length row.now) }
     requires width_in_bounds { 3 * width ≤ length carried.old }

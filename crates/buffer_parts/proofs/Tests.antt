@@ -6,6 +6,7 @@ use mathlib.Core.Path.{◌≡◌, refl, sym, ◌∙◌}
 use mathlib.Core.Bool.{Bool, true, false, ◌&&◌, true≢false}
 use native.Mathlib.Omega.{arith}
 use borrow.Author.Tests.{ltb-true, leb-true, lt-ltb, le-leb}
+use Rattle.std.proofs.lemmas.Bool.{and_parts}
 use Rattle.buffer_parts.specs.declared.BufferPart.{BufferPart}
 use Rattle.buffer_parts.specs.Parts.{Inside, Overlap, is_inside, are_overlapping, TestsAreExact}
 
@@ -14,10 +15,6 @@ pub same_test : (x y : Bool) → (x ≡ true → y ≡ true) → (y ≡ true →
 same_test true y f g = sym (f refl)
 same_test false true f g = g refl
 same_test false false f g = refl
-
-pub both : (x y : Bool) → x && y ≡ true → (x ≡ true) × (y ≡ true)
-both true y e = (refl, e)
-both false y e = absurd (true≢false (sym e))
 
 pub Inside-yes : (p : BufferPart) (n : ℕ) → is_inside p n ≡ true → Inside p n
 Inside-yes p n e = leb-true (p.offset + p.length) n e
@@ -46,7 +43,7 @@ pub later_starts : (a b : BufferPart) → a.offset ≤ b.offset
     → (ltb (b.offset - a.offset) a.length && ltb 0 b.length) ≡ are_overlapping a b
 later_starts a b l =
     same_test (ltb (b.offset - a.offset) a.length && ltb 0 b.length) (are_overlapping a b)
-    (λ e. let z = both (ltb (b.offset - a.offset) a.length) (ltb 0 b.length) e in
+    (λ e. let z = and_parts (ltb (b.offset - a.offset) a.length) (ltb 0 b.length) e in
     lt-ltb (max a.offset b.offset) (min (a.offset + a.length) (b.offset + b.length))
     (omega (arith, ltb-true (b.offset - a.offset) a.length z.0, ltb-true 0 b.length z.1)))
     (λ e. let s = overlap_starts a b e in rw (lt-ltb (b.offset - a.offset) a.length (omega arith), lt-ltb 0 b.length (omega arith)))

@@ -152,7 +152,8 @@ fn stored_pair(first: usize, range: YuvRange) -> CbCrForwardTransform<i32>
     }
 }
 
-// The stored set of a matrix in a range, if it has one.
+// The stored set of a matrix in a range, if it has one. Range and matrix come as two parameters, here, in `colour_counts` and in `counts_request`: weights
+// turn on these two of a frame's settings alone, and a struct of both would be made for a call and taken apart in it.
 pub fn get_built_forward_transform(
     range: YuvRange,
     matrix: YuvStandardMatrix,
@@ -178,8 +179,7 @@ pub fn search_forward_transform(
     requires { T (accepted matrix) }
     ensures { result ≡ forward_transform range matrix }
 {
-    match get_built_forward_transform(range, matrix) {
-        Some(transform) => transform,
-        None => forward_transform::computed_transform(range, matrix.get_kr_kb()),
-    }
+    get_built_forward_transform(range, matrix).unwrap_or_else(
+        || forward_transform::computed_transform(range, matrix.get_kr_kb()),
+    )
 }

@@ -25,11 +25,18 @@ const RANGE_AND_MATRIX: usize = 2;
 // The code of a matrix of the caller's own kr and kb; those below it are the named ones.
 const CUSTOM: u32 = 6;
 
+// Item i, or another where it is not given.
+pub fn item_or<T: Copy>(items: &[T], i: usize, other: T) -> T
+    ensures { result ≡ get_or items.now i other }
+{
+    items.get(i).copied().unwrap_or(other)
+}
+
 // Number i, or 0 where it is not given.
 pub fn number_at(numbers: &[u32], i: usize) -> u32
     ensures { result ≡ get_or numbers.now i 0 }
 {
-    numbers.get(i).copied().unwrap_or(0)
+    item_or(numbers, i, 0)
 }
 
 // Whether one of a description's codes has no meaning. A test of numbers: `settings_of` takes the first meaning of such a code, since a desk's numbers come
@@ -165,7 +172,7 @@ pub fn tell_answer(answer: Result<(), YuvError>, told: &mut [usize]) -> u32
     numbered.number
 }
 
-// What an opening or a band call has to tell: its answer, and the rows done, which are told beside a refusal too, so this is no `Result`.
+// What an opening or a band call has to tell: its answer, and the rows done. By RULES 10.3 C is told these beside a refusal too, so this is no `Result`.
 #[derive(Clone, Copy, Debug, PartialEq, Eq)]
 pub struct Told {
     pub answer: Result<(), YuvError>,

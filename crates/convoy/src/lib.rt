@@ -10,8 +10,8 @@ ghost use Rattle.convoy.specs.Called.{FrameInside, AllInside, Called};
 use convoy_parts::ConvoyFrame;
 use yuv_error::{Lengths, YuvError};
 
-// What a convoy is answered: how many frames are finished, which is the place from 0 of the one that was refused, and its refusal. How many
-// are finished is told beside a refusal too, so this is no `Result`. `Told` of `call_numbers` has the rows of one frame in its place.
+// What a convoy is answered: how many frames are finished, which is the place from 0 of the one that was refused, and its refusal. By RULES 15.3 and 10.9
+// how many are finished is told beside a refusal too, so this is no `Result`. `Told` of `call_numbers` has the rows of one frame in its place.
 #[derive(Clone, Copy, Debug, PartialEq, Eq)]
 pub struct ConvoyAnswer {
     pub answer: Result<(), YuvError>,
@@ -35,17 +35,15 @@ fn convert_frame(
     let past_y = frame.y.offset + frame.y.length;
     let past_u = frame.u.offset + frame.u.length;
     let past_v = frame.v.offset + frame.v.length;
-    match frame.described {
-        None => Err(YuvError::MalformedRequest),
-        Some(description) => sharp_rgba_to_yuv::rgbx_to_sharp_yuv(
-            description,
-            &source[frame.source.offset..past_source],
-            frame.stride,
-            &mut y[frame.y.offset..past_y],
-            &mut u[frame.u.offset..past_u],
-            &mut v[frame.v.offset..past_v],
-        ),
-    }
+    let description = frame.described.ok_or(YuvError::MalformedRequest)?;
+    sharp_rgba_to_yuv::rgbx_to_sharp_yuv(
+        description,
+        &source[frame.source.offset..past_source],
+        frame.stride,
+        &mut y[frame.y.offset..past_y],
+        &mut u[frame.u.offset..past_u],
+        &mut v[frame.v.offset..past_v],
+    )
 }
 
 // The frames in order, up to the first that is refused.

@@ -31,7 +31,7 @@ const FRAME_PARTS: usize = 8;
 fn float_at(customs: &[f32], i: usize) -> f32
     ensures { result ≡ get_or customs.now i nan }
 {
-    customs.get(i).copied().unwrap_or(f32::NAN)
+    call_numbers::item_or(customs, i, f32::NAN)
 }
 
 // No conversion of a type of ours: `usize` is std's, and its `TryFrom<u64>` would answer a `Result` that never is an error where this is built.
@@ -45,7 +45,7 @@ pub fn as_place(n: u64) -> usize
 fn place_at(places: &[u64], i: usize) -> usize
     ensures { result ≡ get_or places.now i 0 }
 {
-    as_place(places.get(i).copied().unwrap_or(0))
+    as_place(call_numbers::item_or(places, i, 0))
 }
 
 pub fn part_at(parts: &[u64], i: usize) -> BufferPart

@@ -10,6 +10,7 @@ use borrow.Author.Tests.{ltb-true, ltb-false, lt-ltb, not-true}
 use lib.Dec.{ltb}
 use lib.ListN.{length}
 use Rattle.std.specs.List.{list_any}
+use Rattle.std.proofs.lemmas.Bool.{or_left, or_right, or_parts, false_from_ne_true}
 use Rattle.yuv_error.specs.declared.Lengths.{Lengths}
 use Rattle.buffer_parts.specs.declared.BufferPart.{BufferPart}
 use Rattle.buffer_parts.specs.Parts.{Inside, is_inside, are_overlapping}
@@ -24,24 +25,9 @@ or-true : (a b : Bool) → a || b ≡ true → (a ≡ true) ⊎ (b ≡ true)
 or-true true b e = inl refl
 or-true false b e = inr e
 
-or_left : (a b : Bool) → a ≡ true → a || b ≡ true
-or_left a b e = ap (λ (x : Bool). x || b) e
-
-or_right : (a b : Bool) → b ≡ true → a || b ≡ true
-or_right true b e = refl
-or_right false b e = e
-
-or-false : (a b : Bool) → a || b ≡ false → (a ≡ false) × (b ≡ false)
-or-false true b e = absurd (true≢false e)
-or-false false b e = (refl, e)
-
 -- what is not so where a test that it would pass says no
 no : {a : Bool} → a ≡ false → (a ≡ true → ⊥)
 no e t = true≢false (sym t ∙ e)
-
-not_yes : (a : Bool) → (a ≡ true → ⊥) → a ≡ false
-not_yes true f = absurd (f refl)
-not_yes false f = refl
 
 -- ---- of one frame, and of two
 
@@ -49,7 +35,7 @@ not-Inside : (p : BufferPart) (n : ℕ) → not (is_inside p n) ≡ true → Ins
 not-Inside p n e i = no (not-true (is_inside p n) e) ((tests_are_exact.inside p n).1 i)
 
 is_not-Inside : (p : BufferPart) (n : ℕ) → (Inside p n → ⊥) → not (is_inside p n) ≡ true
-is_not-Inside p n f = ap not (not_yes (is_inside p n) (λ e. f ((tests_are_exact.inside p n).0 e)))
+is_not-Inside p n f = ap not (false_from_ne_true (is_inside p n) (λ e. f ((tests_are_exact.inside p n).0 e)))
 
 outside_yes : (f : ConvoyFrame) (n : Lengths) → is_frame_outside f n ≡ true → FrameOutside f n
 outside_yes f n e = go (or-true _ (not (is_inside f.v n.v)) e)
@@ -189,7 +175,7 @@ pub record Unbroken (c : List ConvoyFrame) (n : Lengths) : Type 0 where
 pub unbroken : (c : List ConvoyFrame) (n : Lengths) → broken_parts c n ≡ false → Unbroken c n
 unfolding broken_parts
 unbroken c n e = record {
-  few = ltb-false 64 (length c) (or-false (ltb 64 (length c)) (any_outside n c || any_overlap c) e).0;
+  few = ltb-false 64 (length c) (or_parts (ltb 64 (length c)) (any_outside n c || any_overlap c) e).0;
   inside = λ k l x. no e (Broken-found c n (outside k l x));
   apart = λ j k l m x. no e (Broken-found c n (overlapping j k l m x));
 }

@@ -47,6 +47,8 @@ impl Text<'_> {
         self.put_byte(b'0' + digit as u8);
     }
 
+    // A number of any size, behind what was put before. `y4m_writer` puts at most so many digits at the front of a slice, `frame_request` one or two at a
+    // fixed place: one function for the three would have to be given what each of them settles for itself.
     #[tactic(auto, using(crate::proofs::Decimal::decimal_last, crate::proofs::Decimal::decimal_longer))]
     fn put_decimal(&mut self, number: u32)
         requires { self.old.at + length (decimal number) ≤ length self.old.output.now }

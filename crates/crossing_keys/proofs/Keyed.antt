@@ -3,7 +3,7 @@
 use Rattle.std.proofs.Common.{◌≡◌, sym, ◌∙◌, ap, ap₂, arith, ℕ, zero, suc, ◌+◌, ◌/◌, ◌%◌, ◌^◌, ◌≤◌, ◌<◌, false, List, [], ◌∷◌, ◌++◌, map, length, get_or, take, set, take-suc, add-one}
 use lib.ListN.{length-map, get_or-map}
 use Rattle.std.specs.List.Sorted.{IsSortedBy, IsNonDecreasingBy}
-use Rattle.std.specs.Ordering.{is_lt, nat_cmp, ordering_then}
+use Rattle.std.specs.Ordering.{is_lt, nat_cmp}
 use Rattle.std.proofs.lemmas.List.{take_more_set, take_all, map-append, get_or-map as get_or-mapped}
 use Rattle.std.proofs.lemmas.List.Sorted.{IsNonDecreasingBy-from_all_adjacent}
 use Rattle.merge_sort.specs.Order.{All, Sorted}
@@ -66,33 +66,23 @@ keys_more ns keys i k h n e done =
 pub keys_all : (ns : List ℕ) (keys : List Key) (i : ℕ) → length keys ≤ i → length ns ≤ i → map number_of (take i keys) ≡ take i ns → map number_of keys ≡ ns
 keys_all ns keys i h n done = ap (map number_of) (sym (take_all i keys h)) ∙ done ∙ take_all i ns n
 
--- a key has its crossing and its place in its number
-module _ (keys : List Key) (i : ℕ) (d : Key) (h : i < length keys) where
-  its_number : get_or (map number_of keys) i 0 ≡ number_of (get_or keys i d)
-  its_number = get_or-mapped number_of keys i d 0 h
-
-  pub its_crossing : get_or (map number_of keys) i 0 / 4096 ≡ (get_or keys i d).crossing
-  its_crossing = let below = (get_or keys i d).in_file in omega (arith, its_number)
-
-  pub its_place : get_or (map number_of keys) i 0 % 4096 ≡ (get_or keys i d).place
-  its_place = let below = (get_or keys i d).in_file in omega (arith, its_number)
+-- number i of the keys is that of key i
+pub its_number : (keys : List Key) (i : ℕ) (d : Key) → i < length keys → get_or (map number_of keys) i 0 ≡ (get_or keys i d).0
+its_number keys i d h = get_or-mapped number_of keys i d 0 h
 
 -- the places of a file's keys are those of its records
 module _ (rs : List ShiftRecord) (keys : List Key) (few : length rs ≤ 4096) (e : map number_of keys ≡ sorted (keys_from 0 (crossings_of rs))) where
-  pub place_below : (i : ℕ) (d : Key) → i < length keys → (get_or keys i d).place < length rs
+  pub place_below : (i : ℕ) (d : Key) → i < length keys → (get_or keys i d).0 % 4096 < length rs
   place_below i d h =
-      let long = length-map keys number_of in
-      let named : All (λ k. k % 4096 < length rs) (map number_of keys) = rw e (keys_place rs few) in
-      let within = All-at (λ k. k % 4096 < length rs) 0 (map number_of keys) i named (omega (arith, long, h)) in
-      omega (arith, its_place keys i d h, within)
+      let named : All (λ n. n % 4096 < length rs) (map number_of keys) = rw e (keys_place rs few) in
+      rw (its_number keys i d h) at (All-at (λ n. n % 4096 < length rs) 0 (map number_of keys) i named (omega (arith, length-map keys number_of, h)))
 
   pub as_many : length keys ≡ length rs
   as_many = sym (length-map keys number_of) ∙ ap length e ∙ sorted_long rs
 
 -- keys compare as their numbers do
-by_number : (a b : Key) → is_lt (ordering_then (nat_cmp a.crossing b.crossing) (nat_cmp a.place b.place)) ≡ false → number_of b ≤ number_of a
+by_number : (a b : Key) → is_lt (nat_cmp a.0 b.0) ≡ false → number_of b ≤ number_of a
 by_number a b h = grind arith
 
-pub keys_in_order : (keys : List Key) → IsSortedBy (λ (a b : Key). is_lt (ordering_then (nat_cmp a.crossing b.crossing) (nat_cmp a.place b.place))) keys
-    → IsNonDecreasingBy number_of keys
+pub keys_in_order : (keys : List Key) → IsSortedBy (λ (a b : Key). is_lt (nat_cmp a.0 b.0)) keys → IsNonDecreasingBy number_of keys
 keys_in_order keys s = IsNonDecreasingBy-from_all_adjacent number_of keys (λ k d h. by_number (get_or keys (k + 1) d) (get_or keys k d) (s k d (omega arith) h))

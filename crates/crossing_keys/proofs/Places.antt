@@ -1,5 +1,5 @@
 -- Record k of a file that was checked; and the keys of a file in order: each names a record, and there are as many. Assumes nothing.
-use Rattle.std.proofs.Common.{◌≡◌, ap, arith, ℕ, ◌≤◌, ◌<◌, length, get_or}
+use Rattle.std.proofs.Common.{◌≡◌, arith, ℕ, ◌%◌, ◌≤◌, ◌<◌, length, get_or}
 use Rattle.shift_file.specs.File.{Allowed}
 use Rattle.shift_file.specs.Read.{records_in}
 use Rattle.shift_reader.specs.declared.file.ShiftFile.{ShiftFile}
@@ -30,7 +30,6 @@ module _ (o : OrderedFile) where
   pub keys_counted : length o.keys.now ≡ o.file.count
   keys_counted = omega (arith, as_many (records_in o.file.form o.file.bytes.now) o.keys.now (records_few o.file) o.in_order, records_counted o.file)
 
-  pub record_named : (i : ℕ) (k : Key) → i < length o.keys.now → k ≡ get_or o.keys.now i k → k.place < o.file.count
-  record_named i k h is =
-      let below = place_below (records_in o.file.form o.file.bytes.now) o.keys.now (records_few o.file) o.in_order i k h in
-      omega (arith, below, ap (λ (x : Key). x.place) is, records_counted o.file)
+  pub record_named : (i : ℕ) (d : Key) → i < length o.keys.now → (get_or o.keys.now i d).0 % 4096 < o.file.count
+  record_named i d h =
+      omega (arith, place_below (records_in o.file.form o.file.bytes.now) o.keys.now (records_few o.file) o.in_order i d h, records_counted o.file)

@@ -1,7 +1,6 @@
 -- The crossings of a list of records, and a key as a number.
 -- Assumes nothing.
 use Rattle.std.specs.Prelude.{ℕ, List, map}
-use Rattle.merge_sort.specs.Ascending.{key}
 use Rattle.shift_file.specs.File.{ShiftRecord}
 use Rattle.crossing_keys.specs.declared.key.Key.{Key}
 
@@ -13,6 +12,6 @@ crossing_of r = r.crossing
 abbrev pub crossings_of : List ShiftRecord → List ℕ
 crossings_of rs = map crossing_of rs
 
--- a crossing above a place
+-- a key's number
 abbrev pub number_of : Key → ℕ
-number_of k = key k.crossing k.place
+number_of k = k.0

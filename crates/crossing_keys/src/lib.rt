@@ -13,17 +13,14 @@ pub use key::Key;
 pub use ordered::OrderedFile;
 use shift_reader::file::ShiftFile;
 
-// The key of each record, in ascending order.
+// The key of each record, in ascending order. By number: a key is written at its record's place and holds that place, so each step needs the number.
 pub fn write_keys(file: &ShiftFile, keys: &mut [Key])
     requires { length keys.old ≡ file.now.count }
     ensures { map number_of keys.new ≡ sorted (keys_from 0 (crossings_of (records_in file.now.form file.now.bytes.now))) }
 {
     for place in 0..keys.len() {
         let entry = file.entry(place);
-        keys[place] = Key {
-            crossing: entry.crossing,
-            place: place as u16,
-        };
+        keys[place] = Key::new(entry.crossing, place);
     }
     keys.sort_unstable();
 }

@@ -2,13 +2,11 @@
 -- Assumes nothing.
 use Prim.Native.Nat.{ℕ}
 use mathlib.Core.Path.{◌≡◌, sym, ap, subst, ◌∙◌}
-use mathlib.Core.List.{List}
 use Rattle.std.specs.Prelude.{Result}
 use Rattle.yuv_error.specs.declared.YuvError.{YuvError}
-use Rattle.yuv_error.specs.Numbers.{Numbers, numbers_of, answer_of}
+use Rattle.yuv_error.specs.Numbers.{numbers_of, answer_of}
 use Rattle.yuv_error.proofs.Numbers.{found}
 use Rattle.frame_calls.specs.Lists.{numbers_told, answer_told, done_told}
-use Rattle.convoy.specs.declared.ConvoyAnswer.{ConvoyAnswer}
 use Rattle.convoy.specs.Run.{ConvoyPost}
 use Rattle.convoy_calls.specs.Calls.{ExportedConvoy, convoy_with, ConvoyKept}
 use Rattle.demands.specs.Demands.{as_convoy}

@@ -3,7 +3,7 @@
 -- Assumes nothing.
 use Prim.Native.Nat.{ℕ, ◌≤◌}
 use mathlib.Core.Path.{◌≡◌, refl, sym, ap, subst, ◌∙◌}
-use mathlib.Core.Bool.{Bool, true, false, cond, not, ◌&&◌}
+use mathlib.Core.Bool.{Bool, true, false}
 use mathlib.Core.List.{List, [], ◌∷◌}
 use native.Mathlib.Omega.{arith}
 use lib.Dec.{T}
@@ -12,7 +12,7 @@ use lib.ListN.{length, take}
 use Rattle.yuv_support.specs.Matrix.{accepted as accepted_matrix}
 use Rattle.yuv_error.specs.declared.YuvError.{YuvError}
 use Rattle.std.specs.Prelude.{Option, None, Result, Ok, Err}
-use Rattle.yuv_error.specs.Numbers.{Numbers, numbers, numbers_of}
+use Rattle.yuv_error.specs.Numbers.{Numbers, numbers_of}
 use Rattle.yuv_error.specs.Rules.{Rule, rule, first_numbers, matrix_rules}
 use Rattle.yuv_error.specs.Lowest.{Lowest, in_order}
 use Rattle.yuv_error.proofs.Numbers.{is_finished}

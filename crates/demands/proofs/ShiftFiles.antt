@@ -3,8 +3,8 @@
 -- Assumes nothing.
 use Prim.Native.Nat.{ℕ, ◌+◌, ◌*◌, ◌≤◌, ◌<◌}
 use mathlib.Core.Path.{◌≡◌, refl, sym, ap, subst, ◌∙◌}
-use mathlib.Core.Bool.{Bool, true, false, cond, not, ◌&&◌, true≢false}
-use mathlib.Core.List.{List, [], ◌∷◌, ◌++◌}
+use mathlib.Core.Bool.{Bool, true, false, cond, not, true≢false}
+use mathlib.Core.List.{List, ◌++◌}
 use mathlib.Core.Logic.{◌↔◌}
 use native.Mathlib.Omega.{arith}
 use lib.Dec.{ltb, leb}
@@ -24,7 +24,7 @@ use Rattle.yuv_support.specs.Sampling.{chroma_height}
 use Rattle.std.specs.Prelude.{Result, Ok}
 use Rattle.yuv_error.specs.declared.YuvError.{YuvError}
 use Rattle.yuv_error.specs.Numbers.{Numbers, numbers, numbers_of}
-use Rattle.yuv_error.specs.Rules.{Rule, rule, first_numbers}
+use Rattle.yuv_error.specs.Rules.{Rule, first_numbers}
 use Rattle.yuv_error.proofs.Numbers.{is_finished}
 use Rattle.yuv_error.proofs.First.{append_finished}
 use Rattle.yuv_error.proofs.Accepts.{both_pass, planes_pass}
@@ -36,7 +36,7 @@ use Rattle.little_endian.specs.Number.{Bytes}
 use Rattle.shift_file.specs.declared.ShiftForm.{ShiftForm}
 use Rattle.shift_file.specs.declared.ShiftForm.TheVariants.{WithSettings}
 use Rattle.shift_file.specs.declared.SettingCodes.{SettingCodes}
-use Rattle.shift_file.specs.File.{ShiftRecord, Allowed, is_code, codes_allowed, is_side, records_at, record_bytes, bytes_of, file_of, IsFileOf}
+use Rattle.shift_file.specs.File.{ShiftRecord, Allowed, is_code, codes_allowed, is_side, records_at, bytes_of, file_of, IsFileOf}
 use Rattle.shift_file.specs.Read.{records_in}
 use Rattle.shift_file.specs.Check.{is_file}
 use Rattle.shift_file.proofs.Record.{both, also}
@@ -46,8 +46,8 @@ use Rattle.shift_reader.specs.declared.EntryKind.{EntryKind}
 use Rattle.shift_reader.specs.Entry.{entry_size, entries_of}
 use Rattle.shift_reader.specs.Reading.{read_outcome, reading_of, ReadPost}
 use Rattle.shift_writer.specs.declared.NotWritten.{NotWritten}
-use Rattle.shift_writer.specs.Records.{BackToBack, are_records, records_back, file_made}
-use Rattle.shift_writer.specs.Output.{outcome_of, size_of, overwritten, size_told, output_rules}
+use Rattle.shift_writer.specs.Records.{BackToBack, are_records, file_made}
+use Rattle.shift_writer.specs.Output.{outcome_of, size_of, output_rules}
 use Rattle.shift_writer.specs.Writing.{WritePost}
 use Rattle.shift_writer.proofs.Count.{some_records, these_records}
 use Rattle.shift_record.specs.declared.RecordFrame.{RecordFrame}
@@ -56,7 +56,7 @@ use Rattle.shift_record.specs.Record.{chroma_rows as rows_of_record, RecordPost}
 use Rattle.shift_record.specs.Known.{PlanesFit}
 use Rattle.shift_record.proofs.Rows.{length-unpadded, unpadded_at}
 use Rattle.shift_record.proofs.Made.{length_made, planes_Fit, is_frame, made_Allowed, rows_bounds}
-use Rattle.demands.specs.Demands.{NoFile, NoRecords, OfFrame, codes_of, RecordBytes, WholeFrame, FrameBytes, ShiftFiles}
+use Rattle.demands.specs.Demands.{OfFrame, codes_of, RecordBytes, ShiftFiles}
 use Rattle.demands.proofs.Demands.{whole, bytes}
 
 -- ---- 15 by a test that says whether there is something

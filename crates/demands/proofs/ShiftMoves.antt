@@ -28,7 +28,7 @@ use Rattle.shift_writer.specs.Output.{outcome_of, size_of}
 use Rattle.shift_move.specs.Move.{other_form, is_plain, are_plain, may_move, moved, moved_file}
 use Rattle.shift_move.specs.Moving.{MovePost}
 use Rattle.shift_move.proofs.Files.{moved_is_file, may_return, there_and_back, asked_in_order}
-use Rattle.demands.specs.Demands.{NoFile, NothingRecorded, ShiftMoves}
+use Rattle.demands.specs.Demands.{NothingRecorded, ShiftMoves}
 use Rattle.demands.proofs.ShiftFiles.{by_test}
 
 -- ---- the answer by its three tests

@@ -1,6 +1,6 @@
 -- What is claimed of two shift files paired: the two checks say whose records there are, and the call's report is that of these. Assumes nothing.
 use Prim.Native.Nat.{ℕ}
-use mathlib.Core.Path.{◌≡◌, refl, sym, ap, ap₂, ◌∙◌}
+use mathlib.Core.Path.{◌≡◌, refl, sym, ap, ◌∙◌}
 use mathlib.Core.Bool.{Bool, true, false, cond, not, true≢false}
 use mathlib.Core.List.{List, [], ◌∷◌}
 use mathlib.Core.Logic.{◌↔◌, ◌⊎◌, inl, inr, ⊎_elim}
@@ -23,7 +23,7 @@ use Rattle.shift_pairs.specs.Report.{report_of}
 use Rattle.shift_pairs.specs.Pairing.{pairing_outcome, broken_file, broken_number, broken_told, PairingPost}
 use Rattle.shift_pairs.proofs.Counts.{one_or_none, counts_add_up}
 use Rattle.shift_pairs.proofs.First.{first_or_none}
-use Rattle.report_numbers.specs.Numbers.{report_numbers, pairing_numbers}
+use Rattle.report_numbers.specs.Numbers.{pairing_numbers}
 use Rattle.shift_calls.specs.Pairs.{ExportedPairing, PairingKept}
 use Rattle.shift_calls.proofs.Pairs.{pairing_writes_nothing}
 use Rattle.demands.specs.Demands.{NoFile, ShiftPairs}

@@ -3,20 +3,20 @@
 -- Assumes nothing.
 use Prim.Native.Nat.{ℕ, ◌+◌, ◌*◌, ◌≤◌, ◌<◌}
 use mathlib.Core.Path.{◌≡◌, refl, sym, ap, ap₂, ◌∙◌}
-use mathlib.Core.Bool.{Bool, true, false, cond, not, ◌&&◌, true≢false}
+use mathlib.Core.Bool.{Bool, true, false, cond, not, true≢false}
 use mathlib.Core.List.{List, [], ◌∷◌, ◌++◌, append_assoc, append-nil}
 use mathlib.Core.Logic.{◌↔◌}
 use native.Mathlib.Omega.{arith}
-use lib.Dec.{ltb, leb, eqb}
+use lib.Dec.{ltb, leb}
 use lib.ListN.{length, take, drop, length-append, drop_of_length-le}
 use borrow.Author.Tests.{ltb-true, ltb-false, lt-ltb, leb-true, le-leb, eq-eqb}
 use Rattle.std.specs.Prelude.{Option, Some, None, Result, Ok}
 use Rattle.std.specs.Result.{is_ok}
 use Rattle.yuv_error.specs.declared.YuvError.{YuvError}
-use Rattle.yuv_error.specs.Numbers.{Numbers, numbers, numbers_of}
+use Rattle.yuv_error.specs.Numbers.{Numbers, numbers}
 use Rattle.little_endian.specs.Number.{Bytes}
 use Rattle.shift_file.specs.declared.ShiftForm.{ShiftForm}
-use Rattle.shift_file.specs.File.{ShiftRecord, Allowed, EachAllowed, records_at, record_bytes, bytes_of, file_of, HasFile, IsFileOf}
+use Rattle.shift_file.specs.File.{ShiftRecord, Allowed, EachAllowed, records_at, record_bytes, bytes_of}
 use Rattle.shift_file.specs.Read.{size_at, record_at, records_in}
 use Rattle.shift_file.specs.Check.{record_stands, is_file}
 use Rattle.shift_file.proofs.Record.{both, also, Stands-true, size_bytes, stands_bytes, record_bytes_lem}

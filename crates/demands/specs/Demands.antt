@@ -45,7 +45,7 @@ use Rattle.little_endian.specs.Number.{Bytes}
 use Rattle.shift_file.specs.declared.ShiftForm.{ShiftForm}
 use Rattle.shift_file.specs.declared.ShiftForm.TheVariants.{WithoutSettings, WithSettings}
 use Rattle.setting_codes.specs.Codes.{sampling_code, range_code, matrix_code, transfer_code}
-use Rattle.shift_file.specs.File.{ShiftRecord, Allowed, codes_allowed, sampling_of, records_at, bytes_of, file_of, HasFile, IsFileOf}
+use Rattle.shift_file.specs.File.{ShiftRecord, Allowed, codes_allowed, sampling_of, records_at, bytes_of, HasFile, IsFileOf}
 use Rattle.shift_file.specs.Check.{form_in}
 use Rattle.shift_file.specs.Means.{SomeList, OneList, ReadBack, Rewritten, OneForm, FormOfFile, SomeForm}
 use Rattle.shift_reader.specs.declared.ShiftReading.{ShiftReading}
@@ -98,9 +98,7 @@ use Rattle.y4m_calls.specs.Calls.{ExportedY4mWriting, width_given, height_given,
 use Rattle.y4m_calls.specs.Calls.{ExportedY4mPicture, frame_of_picture, rules_of_y4m_picture, Y4mPictureKept}
 use Rattle.frame_calls.specs.Lists.{answer_told}
 use Rattle.buffer_parts.specs.Parts.{part_of, TestsAreExact}
-use Rattle.convoy_parts.specs.declared.ConvoyFrame.{ConvoyFrame}
 use Rattle.convoy_parts.specs.Parts.{frame_at, Broken, BrokenIsExact}
-use Rattle.convoy.specs.declared.ConvoyAnswer.{ConvoyAnswer}
 use Rattle.convoy.specs.Run.{planes_of as three_planes, parts_of, Run, ConvoyCall, ConvoyPost}
 use Rattle.convoy.specs.Turn.{turn_rules, convoy_rules}
 use Rattle.convoy.specs.Alone.{Unwritten as ConvoyUnwritten, AsAlone, OneOutcome}

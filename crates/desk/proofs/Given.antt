@@ -10,7 +10,8 @@ use lib.Dec.{ltb}
 use Rattle.yuv_error.specs.Rules.{first_numbers}
 use Rattle.yuv_error.specs.Lent.{opening_rules}
 use Rattle.yuv_error.proofs.First.{append_finished}
-use Rattle.yuv_error.proofs.Accepted.{neither, none_holds}
+use Rattle.std.proofs.lemmas.Bool.{or_parts}
+use Rattle.yuv_error.proofs.Accepted.{none_holds}
 use Rattle.buffer_parts.specs.Parts.{is_inside}
 use Rattle.desk_places.specs.declared.OpenFrame.{OpenFrame}
 use Rattle.desk_places.specs.declared.Slot.{Slot}
@@ -35,12 +36,12 @@ open_given k e =
     let ps = k.desk.places in
     let a = append_finished (number_rules ps k.camera ++ part_rules ps k.parts k.lens) (opening_rules k.frame) refl e in
     let none = none_holds (number_rules ps k.camera ++ part_rules ps k.parts k.lens) refl a.0 in
-    let parts = neither (not (are_inside k.parts k.lens)) _ (none 18) in
+    let parts = or_parts (not (are_inside k.parts k.lens)) _ (none 18) in
     record {
-      below = omega (arith, ltb-false 31 k.camera (neither (ltb 31 k.camera) _ (none 21)).0);
-      free = is_free (slot_at k.desk k.camera) (neither (is_open (slot_at k.desk k.camera)) _ (none 23)).0;
+      below = omega (arith, ltb-false 31 k.camera (or_parts (ltb 31 k.camera) _ (none 21)).0);
+      free = is_free (slot_at k.desk k.camera) (or_parts (is_open (slot_at k.desk k.camera)) _ (none 23)).0;
       inside = not-false _ parts.0;
-      clear = (neither (overlaps_open ps k.parts 32) _ parts.1).0;
+      clear = (or_parts (overlaps_open ps k.parts 32) _ parts.1).0;
       opening = a.1;
     }
 
@@ -59,11 +60,11 @@ pub offer_given : (k : OfferCall) → (first_numbers (offer_rules k)).number ≡
 offer_given k e =
     let none = none_holds (offer_rules k) refl e in
     let s = slot_at k.desk k.camera in
-    let number = neither (ltb 31 k.camera) _ (none 21) in
-    let i = is_idle s (neither (not (is_open s)) _ number.1).0 (neither (is_waiting s) _ (none 22)).0 in
+    let number = or_parts (ltb 31 k.camera) _ (none 21) in
+    let i = is_idle s (or_parts (not (is_open s)) _ number.1).0 (or_parts (is_waiting s) _ (none 22)).0 in
     record {
       below = omega (arith, ltb-false 31 k.camera number.0);
       frame = i.0;
       idle = i.1;
-      inside = not-false _ (neither (not (is_inside k.band.source k.len)) _ (none 18)).0;
+      inside = not-false _ (or_parts (not (is_inside k.band.source k.len)) _ (none 18)).0;
     }

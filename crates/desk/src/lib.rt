@@ -147,19 +147,13 @@ impl Desk {
             (buffers_of source.now y.old u.old v.old carried.old) (step_result self.new result)
             (buffers_of source.now y.new u.new v.new carried.new)) }
     {
-        match desk_places::next_waiting(self.places, self.from) {
-            None => None,
-            Some(turn) => {
-                let served = desk_bands::serve_band(
-                    turn.frame, turn.band, source, y, u, v, carried,
-                );
-                self.places[turn.camera] = turn.frame.after_band(served.state);
-                self.from = (turn.camera + 1) % 32;
-                Some(Served {
-                    camera: turn.camera,
-                    answer: served.answer,
-                })
-            }
-        }
+        let turn = desk_places::next_waiting(self.places, self.from)?;
+        let served = desk_bands::serve_band(turn.frame, turn.band, source, y, u, v, carried);
+        self.places[turn.camera] = turn.frame.after_band(served.state);
+        self.from = (turn.camera + 1) % 32;
+        Some(Served {
+            camera: turn.camera,
+            answer: served.answer,
+        })
     }
 }

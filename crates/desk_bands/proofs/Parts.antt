@@ -1,26 +1,24 @@
 -- A band call on parts of the buffers that were lent and came back.
 -- Assumes nothing.
-use Prim.Native.Nat.{ℕ, ◌+◌, ◌-◌, ◌≤◌}
+use Prim.Native.Nat.{ℕ, ◌+◌, ◌-◌}
 use mathlib.Core.Path.{◌≡◌, refl, sym, ap, subst, ◌∙◌}
-use mathlib.Core.Bool.{Bool, true, false, ◌&&◌, and-eq-true_iff}
+use mathlib.Core.Bool.{true, false, and-eq-true_iff}
 use mathlib.Core.List.{List}
-use native.Mathlib.Omega.{arith}
 use borrow.Rule.Slice.PartMut.{mid_of, put_mid}
 use lib.ListN.{length, take, drop}
 use Rattle.yuv_error.specs.declared.YuvError.TheVariants.{PartsMismatch}
 use Rattle.std.specs.Prelude.{Err}
 use Rattle.band_calls.specs.declared.FrameAnswer.{FrameAnswer}
-use Rattle.band_calls.specs.BandCall.{BandCall, band_call, BandPost}
+use Rattle.band_calls.specs.BandCall.{band_call, BandPost}
 use Rattle.buffer_parts.specs.declared.BufferPart.{BufferPart}
 use Rattle.buffer_parts.specs.Parts.{Inside, is_inside, part_of, with_part}
 use Rattle.buffer_parts.proofs.Tests.{Inside-yes}
 use Rattle.buffer_parts.proofs.Parts.{part_length, part_size, put_is, with_part_lem, with_Elsewhere}
 use Rattle.desk_places.specs.declared.FrameParts.{FrameParts}
-use Rattle.desk_places.specs.declared.BufferLengths.{BufferLengths}
 use Rattle.desk_places.specs.declared.OpenFrame.{OpenFrame}
 use Rattle.desk_places.specs.declared.WaitingBand.{WaitingBand}
 use Rattle.desk_places.specs.Places.{are_inside}
-use Rattle.desk_bands.specs.Buffers.{Buffers, buffers_of, lengths_of, are_lent, AllInside, band_call_in, Converted, ServePost}
+use Rattle.desk_bands.specs.Buffers.{Buffers, buffers_of, lengths_of, are_lent, AllInside, Converted, ServePost}
 
 -- every part lies in its buffer
 pub all_inside : (f : OpenFrame) (b : WaitingBand) (p : Buffers) → are_lent f b p ≡ true → AllInside f b p

@@ -8,10 +8,8 @@ use mathlib.Core.List.{List}
 use native.Mathlib.Omega.{arith}
 use borrow.Author.Tests.{ltb-true, ltb-false}
 use lib.Dec.{ltb}
-use lib.ListN.{length, get_or}
+use lib.ListN.{get_or}
 use lib.Seq.{ext_get_or}
-use Rattle.yuv_error.specs.declared.YuvError.{YuvError}
-use Rattle.yuv_error.specs.declared.YuvError.TheVariants.{PartsMismatch}
 use Rattle.yuv_error.specs.Numbers.{numbers, numbers_of}
 use Rattle.yuv_error.specs.Rules.{first_numbers}
 use Rattle.yuv_error.specs.Lent.{taken}
@@ -23,7 +21,7 @@ use Rattle.buffer_parts.specs.Parts.{part_of, Elsewhere}
 use Rattle.buffer_parts.proofs.Parts.{part_byte}
 use Rattle.desk_places.specs.declared.OpenFrame.{OpenFrame}
 use Rattle.desk_places.specs.declared.WaitingBand.{WaitingBand}
-use Rattle.desk_bands.specs.Buffers.{Buffers, buffers_of, are_lent, band_call_in, Converted, Outside, IfLent, ServePost, serve_rules, ServedRight}
+use Rattle.desk_bands.specs.Buffers.{Buffers, buffers_of, are_lent, band_call_in, Converted, Outside, IfLent, ServePost, ServedRight}
 
 -- a byte of the part
 in_part : (p : BufferPart) (x y : List ℕ) (i : ℕ) → p.offset ≤ i → i < p.offset + p.length → part_of p y ≡ part_of p x → get_or y i 0 ≡ get_or x i 0

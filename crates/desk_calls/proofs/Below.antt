@@ -11,7 +11,8 @@ use Rattle.yuv_error.specs.declared.YuvError.{YuvError}
 use Rattle.std.specs.Prelude.{Result, Ok, Err, OnOk, Option, None, Some}
 use Rattle.yuv_error.specs.Lent.{opening_rules}
 use Rattle.yuv_error.proofs.First.{append_finished, finished_number}
-use Rattle.yuv_error.proofs.Accepted.{neither, none_holds}
+use Rattle.std.proofs.lemmas.Bool.{or_parts}
+use Rattle.yuv_error.proofs.Accepted.{none_holds}
 use Rattle.call_numbers.specs.Codes.{description_of, number_rules as code_rules}
 use Rattle.desk_places.specs.declared.FrameParts.{FrameParts}
 use Rattle.desk_places.specs.declared.BufferLengths.{BufferLengths}
@@ -29,7 +30,7 @@ opened_below d c described custom w n r p is =
     let ps = d.places in
     let e = finished_number (described_rules d c described custom w n) is p.answered in
     let a = append_finished (number_rules ps c) (part_rules ps w n ++ code_rules 0 described ++ opening_rules (description_of described custom)) refl e in
-    omega (arith, ltb-false 31 c (neither (ltb 31 c) _ (none_holds (number_rules ps c) refl a.0 21)).0)
+    omega (arith, ltb-false 31 c (or_parts (ltb 31 c) _ (none_holds (number_rules ps c) refl a.0 21)).0)
 
 pub offered_below : (k : OfferCall) → OfferPost k → k.result.answer ≡ Ok tt → k.camera < 32
 offered_below k p is = (offer_given k (finished_number (offer_rules k) is p.answered)).below

@@ -19,12 +19,9 @@ fn put_answer(camera: u32, desk: Desk, answer: Result<(), YuvError>, lent: &mut 
     requires { OnOk answer (camera < 32) }
     ensures { Leaves (place_left (numbers_in lent.old) camera (desk_answer desk answer)) lent.old lent.new }
 {
-    match answer {
-        Err(_) => {}
-        Ok(()) => {
-            let c = camera as usize;
-            lent.put_place(c, desk.places[c]);
-        }
+    if answer.is_ok() {
+        let c = camera as usize;
+        lent.put_place(c, desk.places[c]);
     }
 }
 

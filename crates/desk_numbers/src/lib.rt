@@ -2,7 +2,7 @@
 #![tactic(auto)]
 
 ghost use Rattle.std.specs.Prelude.{◌≡◌, ◌+◌, ◌*◌, ◌≤◌, ◌<◌, length};
-ghost use Rattle.desk_numbers.specs.Numbers.{of_camera, with_camera, frame_of, band_of, place_of, desk_of, state_numbers};
+ghost use Rattle.desk_numbers.specs.Numbers.{desk_numbers, of_camera, with_camera, frame_of, band_of, place_of, desk_of, state_numbers};
 ghost use Rattle.desk_numbers.specs.Numbers.{matrix_customs, part_numbers, put_place, ask_first};
 ghost use Rattle.desk_numbers.specs.Lent.{numbers_in, Leaves};
 
@@ -183,6 +183,29 @@ fn part_numbers(source: BufferPart, parts: FrameParts) -> [u64; 10]
 
 // ---- the desk in the three arrays
 
+#[tactic(auto, unfolding(crate::specs::Numbers::place_of))]
+fn place_of(numbers: &[u32; 609], customs: &[f32; 64], parts: &[u64; 320], k: usize) -> Slot
+    requires { k < 32 }
+    ensures { result ≡ place_of (desk_numbers numbers.now customs.now parts.now) k }
+{
+    let place = PlaceNumbers {
+        numbers: of_camera(numbers, k),
+        customs: of_camera(customs, k),
+        parts: of_camera(parts, k),
+    };
+    place.into()
+}
+
+// The desk that the numbers are.
+pub fn desk_of(numbers: &[u32; 609], customs: &[f32; 64], parts: &[u64; 320]) -> Desk
+    ensures { result ≡ desk_of (desk_numbers numbers.now customs.now parts.now) }
+{
+    Desk {
+        places: std::array::from_fn(|k| place_of(numbers, customs, parts, k)),
+        from: call_numbers::number_at(numbers, ASKED_FIRST) as usize,
+    }
+}
+
 // The three arrays that are a desk, as C lends them.
 #[derive(Drop)]
 pub struct LentDesk<'a> {
@@ -192,27 +215,11 @@ pub struct LentDesk<'a> {
 }
 
 impl LentDesk<'_> {
-    #[tactic(auto, unfolding(crate::specs::Numbers::place_of))]
-    fn place(&self, k: usize) -> Slot
-        requires { k < 32 }
-        ensures { result ≡ place_of (numbers_in self.now) k }
-    {
-        let place = PlaceNumbers {
-            numbers: of_camera(self.numbers, k),
-            customs: of_camera(self.customs, k),
-            parts: of_camera(self.parts, k),
-        };
-        place.into()
-    }
-
     // The desk that the numbers are.
     pub fn desk(&self) -> Desk
         ensures { result ≡ desk_of (numbers_in self.now) }
     {
-        Desk {
-            places: std::array::from_fn(|k| self.place(k)),
-            from: call_numbers::number_at(self.numbers, ASKED_FIRST) as usize,
-        }
+        desk_of(self.numbers, self.customs, self.parts)
     }
 
     // Writes the place of camera c anew.

@@ -138,6 +138,7 @@ pub fn next_waiting(places: [Slot; 32], from: usize) -> Option<Turn>
     ensures { result ≡ next_waiting places from }
 {
     let start = from % 32;
+    // a `find_map` would have the same match in a closure, and say of the two other states that they give nothing
     for asked in 0..32 {
         let camera = (start + asked) % 32;
         match places[camera] {

@@ -16,12 +16,9 @@ fn put_served(desk: Desk, served: Option<Served>, lent: &mut LentDesk)
     requires { ServedBelow served desk }
     ensures { Leaves (step_left (numbers_in lent.old) served desk) lent.old lent.new }
 {
-    match served {
-        None => {}
-        Some(turn) => {
-            lent.put_place(turn.camera, desk.places[turn.camera]);
-            lent.put_asked_first(desk.from);
-        }
+    if let Some(turn) = served {
+        lent.put_place(turn.camera, desk.places[turn.camera]);
+        lent.put_asked_first(desk.from);
     }
 }
 

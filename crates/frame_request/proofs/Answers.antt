@@ -16,7 +16,7 @@ use Rattle.yuv_error.specs.declared.LentBuffer.{LentBuffer}
 use Rattle.yuv_error.specs.Numbers.{Numbers, numbers}
 use Rattle.yuv_error.specs.Rules.{first_numbers, matrix_rules, least_of, whole_of, too_short, too_narrow, not_whole, buffer_rules as Rules·bufferRules}
 use Rattle.yuv_error.specs.Lowest.{Lowest}
-use Rattle.yuv_error.proofs.Accepted.{neither}
+use Rattle.std.proofs.lemmas.Bool.{or_parts}
 use Rattle.yuv_error.proofs.Lowest.{first_is_lowest}
 use Rattle.setting_codes.specs.Codes.{matrix_codes}
 use Rattle.definitions.specs.declared.FrameDescription.{FrameDescription}
@@ -106,7 +106,7 @@ buffers_answer input tall =
     (least_whole (source_stride d) d.height tall)
     ∙ by_length (rows_size d) came (numbers 6 (rows_size d) came) (numbers 12 (rows_size d) came)
 
--- with neither side 0, a side above 16,384 makes an area above it
+-- with or_parts side 0, a side above 16,384 makes an area above it
 area_answer : (w h : ℕ) (a b : Numbers) → 1 ≤ w → 1 ≤ h → cond (ltb 16384 w || ltb 16384 h) a (cond (ltb 16384 (w * h)) a b) ≡ cond (ltb 16384 (w * h)) a b
 area_answer w h a b some tall = go (ltb 16384 (w * h)) refl
   where
@@ -133,7 +133,7 @@ sized_answer w h a b x y same = go (eqb w 0 || eqb h 0) refl
         (cond (ltb 16384 (w * h)) b y)
     go true e = refl
     go false e =
-        let some = neither (eqb w 0) (eqb h 0) e in
+        let some = or_parts (eqb w 0) (eqb h 0) e in
         let tall : 1 ≤ h = omega (arith, eqb-false h 0 some.1) in
         area_answer w h b x (omega (arith, eqb-false w 0 some.0)) tall ∙ ap (λ (n : Numbers). cond (ltb 16384 (w * h)) b n) (same tall)
 

@@ -1,15 +1,16 @@
 -- The frame call of a request, lent three parts of the output, one behind the other. Refused, the output is as it was; finished, it is painted.
 -- Assumes nothing.
-use Prim.Native.Nat.{ℕ, ◌+◌, ◌≤◌}
+use Prim.Native.Nat.{ℕ, ◌+◌}
 use mathlib.Core.Path.{◌≡◌, refl, sym, ap, subst, ◌∙◌}
 use mathlib.Core.List.{List, ◌++◌, append_assoc}
 use native.Mathlib.Nat.{le_refl}
 use native.Mathlib.Omega.{arith}
 use borrow.Rule.Slice.PartMut.{put_mid}
-use lib.ListN.{length, take, drop, length-take, length-drop, length-append, take-append-drop}
+use lib.ListN.{length, take, drop, length-drop, length-append, take-append-drop}
 use lib.Seq.{take_at, drop_at}
 use Rattle.yuv_error.specs.declared.YuvError.{YuvError}
 use Rattle.std.specs.Prelude.{Result, Ok, Err}
+use Rattle.std.proofs.lemmas.List.{length-take-le}
 use Rattle.definitions.specs.Painted.{Painted}
 use Rattle.definitions.proofs.Painted.{Painted-none}
 use Rattle.definitions.specs.declared.FrameDescription.{FrameDescription}
@@ -22,9 +23,6 @@ use Rattle.frame_request.specs.declared.PlaneSizes.{PlaneSizes}
 use Rattle.frame_request.specs.Request.{output_at, output_size}
 use Rattle.frame_request.specs.Packed.{Packed}
 use Rattle.frame_request.proofs.Output.{output_Painted}
-
-pub first_size : (k : ℕ) (xs : List ℕ) → k ≤ length xs → length (take k xs) ≡ k
-first_size k xs h = length-take k xs ∙ omega arith
 
 -- ---- the parts of the output
 
@@ -70,13 +68,13 @@ module _ (d : FrameDescription) (sizes : PlaneSizes) (stride : ℕ) (source outp
   image = frame_image d stride source
 
   ysize : length (y_in sizes output) ≡ sizes.luma
-  ysize = first_size sizes.luma output (omega (arith, packed, room))
+  ysize = length-take-le sizes.luma output (omega (arith, packed, room))
 
   usize : length (u_in sizes output) ≡ sizes.chroma
-  usize = first_size sizes.chroma (drop sizes.luma output) (omega (arith, packed, room, length-drop sizes.luma output))
+  usize = length-take-le sizes.chroma (drop sizes.luma output) (omega (arith, packed, room, length-drop sizes.luma output))
 
   vsize : length (v_in sizes output) ≡ sizes.chroma
-  vsize = first_size sizes.chroma (drop sizes.chroma (drop sizes.luma output))
+  vsize = length-take-le sizes.chroma (drop sizes.chroma (drop sizes.luma output))
       (omega (arith, packed, room, length-drop sizes.luma output, length-drop sizes.chroma (drop sizes.luma output)))
 
   call_refused : {e : YuvError} → a ≡ Err e → with_planes sizes output y' u' v' ≡ output

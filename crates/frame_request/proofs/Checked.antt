@@ -11,7 +11,8 @@ use lib.Dec.{ltb, eqb}
 use lib.ListN.{length, drop}
 use Rattle.yuv_error.specs.Rules.{Rule, first_numbers, size_rules}
 use Rattle.yuv_error.proofs.First.{numbered, first_append, append_finished}
-use Rattle.yuv_error.proofs.Accepted.{none_holds, neither}
+use Rattle.std.proofs.lemmas.Bool.{or_parts}
+use Rattle.yuv_error.proofs.Accepted.{none_holds}
 use Rattle.definitions.proofs.Numbers.{chroma_rows}
 use Rattle.definitions.specs.Image.{whole_source}
 use Rattle.sharp_rgba_to_yuv.specs.FrameCall.{frame_rules}
@@ -31,22 +32,22 @@ pub record Checked (input : List ℕ) : Type 0 where
 
 pub header_long : (input : List ℕ) → (first_numbers (header_rules input)).number ≡ 0 → 9 ≤ length input
 unfolding malformed
-header_long input e = ltb-false _ _ (neither (ltb (length input) 9) _ (neither (malformed input) false (none_holds (header_rules input) refl e 1)).0).0
+header_long input e = ltb-false _ _ (or_parts (ltb (length input) 9) _ (or_parts (malformed input) false (none_holds (header_rules input) refl e 1)).0).0
 
 pub checked : (input : List ℕ) → (first_numbers (opening_rules input)).number ≡ 0 → Checked input
 checked input e =
     let d = frame_of input in
     let none = none_holds (opening_rules input) refl e in
-    let some = neither (eqb d.width 0) (eqb d.height 0) (neither (eqb d.width 0 || eqb d.height 0) false (none 2)).0 in
-    let few = neither (ltb 16384 d.width || ltb 16384 d.height) (ltb 16384 (luma_size d) || false) (none 3) in
-    let sides = neither (ltb 16384 d.width) (ltb 16384 d.height) few.0 in
+    let some = or_parts (eqb d.width 0) (eqb d.height 0) (or_parts (eqb d.width 0 || eqb d.height 0) false (none 2)).0 in
+    let few = or_parts (ltb 16384 d.width || ltb 16384 d.height) (ltb 16384 (luma_size d) || false) (none 3) in
+    let sides = or_parts (ltb 16384 d.width) (ltb 16384 d.height) few.0 in
     record {
       header = header_long input (append_finished (header_rules input) (size_rules d.width d.height ++ area_rules d.width d.height) refl e).0;
       width_least = omega (arith, eqb-false d.width 0 some.0);
       width_most = ltb-false _ _ sides.0;
       height_least = omega (arith, eqb-false d.height 0 some.1);
       height_most = ltb-false _ _ sides.1;
-      area = ltb-false _ _ (neither (ltb 16384 (luma_size d)) false few.1).0;
+      area = ltb-false _ _ (or_parts (ltb 16384 (luma_size d)) false few.1).0;
     }
 
 -- a chroma plane is not longer than the luma plane

@@ -23,7 +23,8 @@ const HEADER: usize = 9;
 // The most pixels of a side, and of the frame (RULES 7.3, 9.2).
 const MOST_PIXELS: u32 = 16384;
 
-// Byte i, or 0 where the input is shorter.
+// Byte i, or 0 where the input is shorter: `item_or` of `call_numbers` says it too, but a program's bytes are no call's numbers, and this crate does not
+// stand on that one.
 fn byte_at(input: &[u8], i: usize) -> u8
     ensures { result ≡ get_or input.now i 0 }
 {
@@ -34,7 +35,7 @@ fn byte_at(input: &[u8], i: usize) -> u8
 fn word(low: u8, high: u8) -> u32
     ensures { result ≡ low + 256 * high }
 {
-    low as u32 + 256 * high as u32
+    u32::from(u16::from_le_bytes([low, high]))
 }
 
 #[tactic(auto, unfolding(crate::specs::Request::settings_of))]
@@ -194,7 +195,7 @@ fn digit(value: u32) -> u8
 }
 
 // Puts the line of a refusal at the start of the output, and answers how many bytes it has. By hand, as std's writer into a slice does not say which bytes
-// it leaves.
+// it leaves. Its number has one digit or two: `put_decimal` of `counts_request`, which stands above this crate, puts numbers of any size.
 fn put_refusal(number: u32, output: &mut [u8; 49152]) -> usize
     requires { number < 100 }
     ensures { Begins (refusal_line number) output.old result output.new }

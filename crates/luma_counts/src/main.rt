@@ -28,8 +28,8 @@ fn write_reply<W: Write>(writer: &mut W, input: &[u8], bytes: &[u8]) -> Result<(
 
 // Reads a request to its end, and writes the reply to it: all of it, or the start of it where a write fails. Where a read fails
 // nothing is written.
-// The program frame has this over its own reply. One function for both would take a trait of programs, with the reply as its ghost member, the three
-// clauses as its laws and two impls: longer than the two, for two programs.
+// The program frame has this over its own reply. One function for both, and for `write_reply`, would take a trait of programs with the reply as its
+// ghost member, or a closure with a clause that says its reply, beside the three clauses that it would have still: longer than the two.
 fn answer<R: Read, W: Write>(reader: &mut R, writer: &mut W) -> Result<(), Failure>
     ensures answered { OnOk result (IfSome (R.remaining reader.old) (λ input.
         Appends (W.contents writer.old) (W.contents writer.new) (reply input))) }
@@ -39,14 +39,9 @@ fn answer<R: Read, W: Write>(reader: &mut R, writer: &mut W) -> Result<(), Failu
 {
     let mut input = [0; 3]; // one byte past a request: what stands further on changes nothing (`reply_enough` of counts_request)
     let mut output = output_buffer();
-    let Ok(size) = standard_streams::read_input(reader, &mut input) else {
-        return Err(Failure::CannotRead);
-    };
+    let size = standard_streams::read_input(reader, &mut input).map_err(|_| Failure::CannotRead)?;
     let bytes = counts_request::reply_to(&input[..size], &mut output);
-    match write_reply(writer, &input[..size], &output[..bytes]) {
-        Ok(()) => Ok(()),
-        Err(_) => Err(Failure::CannotWrite),
-    }
+    write_reply(writer, &input[..size], &output[..bytes]).map_err(|_| Failure::CannotWrite)
 }
 
 // The program frame has such a main too, over its own `answer` and under its own name.

@@ -49,7 +49,8 @@ pub struct Colours {
 }
 
 // For each byte of a colour the entries of a pair of pixels, added. This, `Bytes` and `Weights` stay three types: no function takes either for another,
-// and one type over the kind of number would say no more than their names do.
+// and one type over the kind of number would say no more than their names do. Nor are they arrays: each place has a table of its own, which a `map` over
+// the places would have to be told beside them.
 #[derive(Clone, Copy, Debug, PartialEq, Eq)]
 pub struct Sums {
     pub e0: u64,

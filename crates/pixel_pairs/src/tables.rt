@@ -83,6 +83,7 @@ fn fill(linear: &[u16; 256], at: usize, weight: u64, start: u64, sums: &mut [u64
         (λ x. right_entry (x * weight + start) (get_or linear.now x 0)) sums.old sums.new }
 {
     let right = 768 + at;
+    // by number: a step writes two entries of one array, and x is in what it writes
     for x in 0..256 {
         let value = u64::from(linear[x]);
         let luma = weighed(x, weight, start);

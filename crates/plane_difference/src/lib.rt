@@ -51,7 +51,7 @@ pub fn compare_planes(
     ensures { result ≡ plane_difference width ours.now theirs.now }
 {
     let mut found = None;
-    // Nested loops left by a label: the form that the rules of the project name.
+    // Nested loops left by a label: the form that the project names (docs/PROMISES.md, E6.4).
     'rows: for row in equal_rows(ours, theirs, width, height)..height {
         let at = width * row;
         for column in 0..width {

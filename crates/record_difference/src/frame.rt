@@ -43,6 +43,7 @@ impl<'a> Frame<'a> {
         }
     }
 
+    // A match, and no array of three planes: an array would be asked by a plane's number, which takes the same match.
     pub fn plane(&self, plane: Plane) -> &'a [u8]
         ensures { result.now ≡ pick plane self.now.y.now self.now.u.now self.now.v.now }
     {

@@ -1,21 +1,25 @@
 -- A call that was made and refused nothing.
-use Rattle.std.proofs.Common.{◌≡◌, ℕ, List, [], ◌∷◌, refl, ap, subst, decimal, Result, Ok}
+use Rattle.std.proofs.Common.{◌≡◌, ℕ, List, [], ◌∷◌, ◌++◌, refl, ap, subst, decimal, Result, Ok}
 use Rattle.std.specs.List.{FoldsTo}
+use Rattle.std.proofs.lemmas.Fn.{FoldsTo-push}
 use Rattle.std.specs.Borrow.{MutBor}
-use Rattle.std.specs.Fn.{Mut, Called, CalledAtMut}
+use Rattle.std.specs.Fn.{Mut, Called}
 use Rattle.std.specs.Io.KnownBytes.{Appends}
 use Rattle.std.specs.declared.option.Option.{Option}
-use Rattle.replay.specs.Calls.{Gives, CallsAt, Prints}
+use Rattle.replay.specs.Calls.{Gives, EndsAt, Prints}
 
-module _ {F L T E : Type 0} (g : Mut F (MutBor L × Unit {0}) (Result T E × (MutBor L × Unit {0}))) where
-  pub gives : {f f' : F} {r : Result T E} {value : T} {l m : MutBor L} → Called g f (l, tt) (r, (m, tt)) f' → r ≡ Ok value → Gives g (f, l.now) value (f', m.now)
-  gives {f} {f'} {l = l} {m = m} h e =
-      record { shown = l; shows = refl; left = m; called = subst (λ k. Called g f (l, tt) (k, (m, tt)) f') e h; leaves = refl }
+module _ {F L T : Type 0} (g : Mut F (MutBor L × Unit {0}) (T × (MutBor L × Unit {0}))) where
+  pub gives : {f f' : F} {value : T} {l m : MutBor L} → Called g f (l, tt) (value, (m, tt)) f' → Gives g (f, l.now) value (f', m.now)
+  gives {f} {f'} {l = l} {m = m} h = record { shown = l; shows = refl; left = m; called = h; leaves = refl }
+
+  -- after the values so far, one more
+  pub pushed : (p r q : F × L) (xs ys : List T) (x : T) → ys ≡ xs ++ (x ∷ []) → FoldsTo (Gives g) p xs r → Gives g r x q → FoldsTo (Gives g) p ys q
+  pushed p r q xs ys x e h k = rw e (FoldsTo-push (Gives g) p xs r x q h k)
 
 module _ {F L W E : Type 0} (g : Mut F (ℕ × (MutBor L × (MutBor W × Unit {0}))) (Result Unit E × (MutBor L × (MutBor W × Unit {0})))) where
-  pub calls_at : {f f' : F} {number : ℕ} {r : Result Unit E} {l m : MutBor L} {o q : MutBor W}
-      → Called g f (number, (l, (o, tt))) (r, (m, (q, tt))) f' → r ≡ Ok tt → CallsAt g (f, l.now, o.now) number (f', m.now, q.now)
-  calls_at {f} {f'} {number} {l = l} {m = m} {o = o} {q = q} h e = record {
+  pub ends_at : {f f' : F} {number : ℕ} {r given : Result Unit E} {l m : MutBor L} {o q : MutBor W}
+      → Called g f (number, (l, (o, tt))) (r, (m, (q, tt))) f' → r ≡ given → EndsAt g given (f, l.now, o.now) number (f', m.now, q.now)
+  ends_at {f} {f'} {number} {l = l} {m = m} {o = o} {q = q} h e = record {
     list = l;
     out = o;
     list_left = m;

@@ -6,4 +6,4 @@ mod list;
 mod printed;
 
 pub use list::{List, each, over_streams, replay};
-pub use printed::{Answer, Digest, Left, Numbers, Planes};
+pub use printed::{Answer, Digest, Left, Numbers, Planes, crc32};

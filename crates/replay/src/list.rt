@@ -1,21 +1,21 @@
 // A stored list, and the loop over its calls.
-ghost use Rattle.std.specs.Prelude.{◌≡◌, ℕ, ◌≤◌, length, take, min, vec_len, IfOk, OnOk};
+ghost use Rattle.std.specs.Prelude.{◌≡◌, ℕ, ◌≤◌, length, take, drop, min, replicate, IfOk, IfErr, OnOk, IfSome};
 ghost use Rattle.std.specs.List.{FoldsTo, range_with_len};
-ghost use Rattle.replay.specs.Stored.{IsRead, IsNumber, IsWide, IsFilled, Repeats, float_of, IsFloat, IsFrame, AreFilled};
+ghost use Rattle.replay.specs.Stored.{next_bytes, read_over, next_number, next_room, IsNumber, IsWide, IsFilled, Repeats, float_of, IsFloat, IsFrame, AreFilled};
 ghost use Rattle.std.specs.Io.KnownBytes.{Keeps};
-ghost use Rattle.std.specs.Io.Buffered.{reader_remaining, writer_contents};
-ghost use Rattle.replay.specs.Calls.{Gives, CallsAt, Prints};
+ghost use Rattle.std.specs.Io.Buffered.{writer_contents};
+ghost use Rattle.replay.specs.Calls.{Gives, CallsAt, StopsAt, Prints};
 
 use super::Planes;
 use definitions::FrameDescription;
-use std::alloc::Global;
+use std::alloc::{AllocError, Global};
 use std::io;
-use std::io::{BufReader, BufWriter, Read, Write};
+use std::io::{BufWriter, Read, Write};
 
-// A list, read one part after the other. Past its end each number is 0.
+// What is left to read of a list, whose bytes are all at hand: so reading cannot fail. Past its end each number is 0.
 #[derive(Drop)]
-pub struct List<R: Read + Drop> {
-    pub from: R,
+pub struct List<'a> {
+    pub rest: &'a [u8],
     pub alloc: Global,
 }
 
@@ -23,6 +23,8 @@ fn repeat(buffer: &mut [u8], block: usize)
     requires { block ≤ length buffer.old }
     ensures repeats { Repeats block buffer.new }
     ensures front { take block buffer.new ≡ take block buffer.old }
+    ensures as_long { length buffer.new ≡ length buffer.old }
+    ensures none { block ≡ 0 → buffer.new ≡ buffer.old }
 {
     // By index: each byte is one that the loop wrote before, which no iterator lends beside the place to write.
     for k in block..buffer.len() {
@@ -40,78 +42,87 @@ fn float_of(bits: u32) -> f32
     f32::from_bits(bits)
 }
 
-impl<R: Read + Drop> List<R> {
+impl<'a> List<'a> {
     // Fills a buffer with the next bytes. Past the list's end it stays as it was.
-    fn bytes(&mut self, buffer: &mut [u8]) -> io::Result<()>
-        ensures { OnOk result (IsRead (R.remaining self.old.from) (R.remaining self.new.from) buffer.new) }
+    fn bytes(&mut self, buffer: &mut [u8])
+        ensures filled { buffer.new ≡ read_over self.old.rest.now buffer.old }
+        ensures left { self.new.rest.now ≡ drop (length buffer.old) self.old.rest.now }
     {
-        standard_streams::read_input(&mut self.from, buffer)?;
-        Ok(())
+        let size = buffer.len().min(self.rest.len());
+        let (read, rest) = self.rest.split_at(size);
+        buffer[..size].copy_from_slice(read);
+        self.rest = rest;
     }
 
     // The next so many bytes, or zeros past the list's end.
-    fn array<const N: usize>(&mut self) -> io::Result<[u8; N]>
-        ensures { IfOk result (IsRead (R.remaining self.old.from) (R.remaining self.new.from)) }
+    fn array<const N: usize>(&mut self) -> [u8; N]
+        ensures value { result ≡ next_bytes N self.old.rest.now }
+        ensures left { self.new.rest.now ≡ drop N self.old.rest.now }
     {
         let mut bytes = [0; N];
-        self.bytes(&mut bytes)?;
-        Ok(bytes)
+        self.bytes(&mut bytes);
+        bytes
     }
 
     // The next number: four bytes, low byte first.
-    pub fn number(&mut self) -> io::Result<u32>
-        ensures { IfOk result (IsNumber (R.remaining self.old.from) (R.remaining self.new.from)) }
+    pub fn number(&mut self) -> u32
+        ensures { IsNumber self.old.rest.now self.new.rest.now result }
     {
-        Ok(u32::from_le_bytes(self.array()?))
+        u32::from_le_bytes(self.array())
     }
 
     // The next two numbers as one of 64 bits, the low half first.
-    pub fn wide(&mut self) -> io::Result<u64>
-        ensures { IfOk result (IsWide (R.remaining self.old.from) (R.remaining self.new.from)) }
+    pub fn wide(&mut self) -> u64
+        ensures { IsWide self.old.rest.now self.new.rest.now result }
     {
-        Ok(u64::from_le_bytes(self.array()?))
+        u64::from_le_bytes(self.array())
     }
 
     // The next number, at most this one.
-    pub fn room(&mut self, most: usize) -> io::Result<usize>
-        ensures bound { IfOk result (λ room. room ≤ most) }
-        ensures read { IfOk result (λ room. (n : ℕ)
-            × IsNumber (R.remaining self.old.from) (R.remaining self.new.from) n × (room ≡ min n most)) }
+    pub fn room(&mut self, most: usize) -> usize
+        ensures bound { result ≤ most }
+        ensures value { result ≡ next_room most self.old.rest.now }
+        ensures left { self.new.rest.now ≡ drop 4 self.old.rest.now }
     {
-        Ok((self.number()? as usize).min(most))
+        (self.number() as usize).min(most)
     }
 
     // The next number as the bits of a float.
-    pub fn float(&mut self) -> io::Result<f32>
-        ensures { IfOk result (IsFloat (R.remaining self.old.from) (R.remaining self.new.from)) }
+    pub fn float(&mut self) -> f32
+        ensures { IsFloat self.old.rest.now self.new.rest.now result }
     {
-        Ok(float_of(self.number()?))
+        float_of(self.number())
     }
 
     // The numbers of a description, in their order; the bits of kr and kb stand behind the code of the matrix.
-    pub fn frame(&mut self) -> io::Result<FrameDescription>
-        ensures { IfOk result (IsFrame (R.remaining self.old.from) (R.remaining self.new.from)) }
+    pub fn frame(&mut self) -> FrameDescription
+        ensures { IsFrame self.old.rest.now self.new.rest.now result }
     {
         let mut numbers = [0u32; 15];
         let mut custom = [0f32; 2];
         let (front, rest) = numbers.split_at_mut(6);
-        self.row(front, |list| list.number())?;
-        self.row(&mut custom, |list| list.float())?;
-        self.row(rest, |list| list.number())?;
-        Ok(call_numbers::describe(&numbers, &custom))
+        self.row(front, |list| list.number());
+        self.row(&mut custom, |list| list.float());
+        self.row(rest, |list| list.number());
+        call_numbers::describe(&numbers, &custom)
     }
 
     // Zeros, as many as the next number says, at most this many.
-    pub fn buffer(&mut self, most: usize) -> io::Result<Vec<u8>>
-        ensures { IfOk result (λ buffer. vec_len buffer ≤ most) }
+    pub fn buffer(&mut self, most: usize) -> Result<Vec<u8>, AllocError>
+        ensures zeros { IfOk result (λ buffer. buffer.items ≡ replicate (next_room most self.old.rest.now) 0) }
+        ensures left { self.new.rest.now ≡ drop 4 self.old.rest.now }
     {
-        let length = self.room(most)?;
-        Ok(vec![in self.alloc; 0u8; length]?)
+        let length = self.room(most);
+        vec![in self.alloc; 0u8; length]
     }
 
     // Zeros for each plane, as `buffer`.
-    pub fn planes(&mut self, most: usize) -> io::Result<Planes>
-        ensures { IfOk result (λ planes. (vec_len planes.y ≤ most) × (vec_len planes.u ≤ most) × (vec_len planes.v ≤ most)) }
+    pub fn planes(&mut self, most: usize) -> Result<Planes, AllocError>
+        ensures zeros { let left = self.old.rest.now in IfOk result (λ planes.
+            (planes.y.items ≡ replicate (next_room most left) 0)
+            × (planes.u.items ≡ replicate (next_room most (drop 4 left)) 0)
+            × (planes.v.items ≡ replicate (next_room most (drop 8 left)) 0)) }
+        ensures left { OnOk result (self.new.rest.now ≡ drop 12 self.old.rest.now) }
     {
         let y = self.buffer(most)?;
         let u = self.buffer(most)?;
@@ -120,53 +131,52 @@ impl<R: Read + Drop> List<R> {
     }
 
     // Fills a buffer with the next block, which is repeated.
-    pub fn fill(&mut self, buffer: &mut [u8]) -> io::Result<()>
-        ensures { OnOk result (IsFilled (R.remaining self.old.from) (R.remaining self.new.from) buffer.new) }
+    pub fn fill(&mut self, buffer: &mut [u8])
+        ensures { IsFilled self.old.rest.now self.new.rest.now buffer.old buffer.new }
     {
-        let block = self.room(buffer.len())?;
-        self.bytes(&mut buffer[..block])?;
+        let block = self.room(buffer.len());
+        self.bytes(&mut buffer[..block]);
         repeat(buffer, block);
-        Ok(())
     }
 
     // Fills each plane so.
-    pub fn fill_planes(&mut self, planes: &mut Planes) -> io::Result<()>
-        ensures { OnOk result (AreFilled (R.remaining self.old.from) (R.remaining self.new.from)
-            planes.new.y.items planes.new.u.items planes.new.v.items) }
+    pub fn fill_planes(&mut self, planes: &mut Planes)
+        ensures { AreFilled self.old.rest.now self.new.rest.now
+            (planes.old.y.items, planes.old.u.items, planes.old.v.items)
+            (planes.new.y.items, planes.new.u.items, planes.new.v.items) }
     {
-        self.fill(&mut planes.y)?;
-        self.fill(&mut planes.u)?;
-        self.fill(&mut planes.v)
+        self.fill(&mut planes.y);
+        self.fill(&mut planes.u);
+        self.fill(&mut planes.v);
     }
 
     // Reads a value for each place.
-    pub fn row<T: Copy, F: FnMut(&mut List<R>) -> io::Result<T>>(
-        &mut self,
-        places: &mut [T],
-        mut next: F,
-    ) -> io::Result<()>
+    pub fn row<T: Copy, F: FnMut(&mut List<'a>) -> T>(&mut self, places: &mut [T], mut next: F)
         requires { F.IsAlwaysCallable next }
-        ensures { OnOk result ((last : F) × FoldsTo (Gives F.FnMut) (next, self.old) places.new (last, self.new)) }
+        ensures { (last : F) × FoldsTo (Gives F.FnMut) (next, self.old) places.new (last, self.new) }
     {
         for place in places {
-            *place = next(self)?;
+            *place = next(self);
         }
-        Ok(())
     }
 }
 
 // Makes each call of a list, which is told its number: they count from 1.
-pub fn each<R: Read + Drop, W: Write + Drop, F: FnMut(u32, &mut List<R>, &mut W) -> io::Result<()>>(
-    list: &mut List<R>,
+pub fn each<W: Write + Drop, F: FnMut(u32, &mut List<'_>, &mut W) -> io::Result<()>>(
+    list: &mut List<'_>,
     out: &mut W,
     mut call: F,
 ) -> io::Result<()>
     requires { F.IsAlwaysCallable call }
-    ensures { OnOk result ((count : ℕ) × (first : List R) × (last : F)
-        × IsNumber (R.remaining list.old.from) (R.remaining first.from) count
-        × FoldsTo (CallsAt F.FnMut) (call, first, out.old) (range_with_len 1 count) (last, list.new, out.new)) }
+    ensures all { OnOk result ((first : List) × (last : F)
+        × (first.rest.now ≡ drop 4 list.old.rest.now)
+        × FoldsTo (CallsAt F.FnMut) (call, first, out.old)
+        (range_with_len 1 (next_number list.old.rest.now)) (last, list.new, out.new)) }
+    ensures stop { IfErr result (λ error. (first : List) × (last : F)
+        × (first.rest.now ≡ drop 4 list.old.rest.now)
+        × StopsAt F.FnMut (call, first, out.old) (next_number list.old.rest.now) error (last, list.new, out.new)) }
 {
-    let count = list.number()?;
+    let count = list.number();
     for place in 0..count {
         call(place + 1, list, out)?;
     }
@@ -175,18 +185,19 @@ pub fn each<R: Read + Drop, W: Write + Drop, F: FnMut(u32, &mut List<R>, &mut W)
 
 // Makes each call of a list, and prints a line of each: its number, and what the call prints.
 // A loop of its own: over `each`, by a closure that prints around `call`, it did not prove that the closure may be called again and again.
-pub fn replay<R: Read + Drop, W: Write + Drop, F: FnMut(&mut List<R>, &mut W) -> io::Result<()>>(
-    list: &mut List<R>,
+pub fn replay<W: Write + Drop, F: FnMut(&mut List<'_>, &mut W) -> io::Result<()>>(
+    list: &mut List<'_>,
     out: &mut W,
     mut call: F,
 ) -> io::Result<()>
     requires { F.IsAlwaysCallable call }
-    ensures { OnOk result ((count : ℕ) × (first : List R) × (last : F) × (written : W)
-        × IsNumber (R.remaining list.old.from) (R.remaining first.from) count
-        × FoldsTo (Prints F.FnMut W.contents) (call, first, out.old) (range_with_len 1 count) (last, list.new, written)
+    ensures { OnOk result ((first : List) × (last : F) × (written : W)
+        × (first.rest.now ≡ drop 4 list.old.rest.now)
+        × FoldsTo (Prints F.FnMut W.contents) (call, first, out.old)
+        (range_with_len 1 (next_number list.old.rest.now)) (last, list.new, written)
         × Keeps (W.contents written) (W.contents out.new)) }
 {
-    let count = list.number()?;
+    let count = list.number();
     for place in 0..count {
         let number = place + 1;
         write!(out, "{number}")?;
@@ -196,36 +207,45 @@ pub fn replay<R: Read + Drop, W: Write + Drop, F: FnMut(&mut List<R>, &mut W) ->
     out.flush()
 }
 
-// Makes and prints the calls of the list that a reader holds. Both streams go through buffers.
+// Makes and prints the calls of the list that a reader holds, which is read whole first, and answers the writer. What is written goes through
+// a buffer.
 pub fn over_streams<
     I: Read + Drop,
     O: Write + Drop,
-    F: FnMut(&mut List<BufReader<I>>, &mut BufWriter<O>) -> io::Result<()>,
->(alloc: Global, input: I, output: O, call: F) -> io::Result<()>
+    F: FnMut(&mut List<'_>, &mut BufWriter<O>) -> io::Result<()>,
+>(alloc: Global, mut input: I, output: O, call: F) -> io::Result<O>
     requires { F.IsAlwaysCallable call }
-    ensures { OnOk result ((count : ℕ) × (first : List (BufReader I Global)) × (ended : List (BufReader I Global)) × (last : F)
-        × (begun : BufWriter O Global) × (written : BufWriter O Global) × (flushed : BufWriter O Global)
-        × IsNumber (I.remaining input) (reader_remaining I.remaining first.from) count
+    ensures { IfOk result (λ output_left. (opened : List) × (first : List) × (ended : List) × (last : F)
+        × (begun : BufWriter O Global) × (written : BufWriter O Global)
+        × IfSome (I.remaining input) (λ held. opened.rest.now ≡ held)
+        × (first.rest.now ≡ drop 4 opened.rest.now)
         × (writer_contents O.contents begun ≡ O.contents output)
-        × FoldsTo (Prints F.FnMut (writer_contents O.contents)) (call, first, begun) (range_with_len 1 count) (last, ended, written)
-        × Keeps (writer_contents O.contents written) (writer_contents O.contents flushed)) }
+        × FoldsTo (Prints F.FnMut (writer_contents O.contents)) (call, first, begun)
+        (range_with_len 1 (next_number opened.rest.now)) (last, ended, written)
+        × Keeps (writer_contents O.contents written) (O.contents output_left)) }
 {
-    let from = BufReader::new(alloc, input)?;
-    let mut list = List { from, alloc };
+    let mut bytes = Vec::new(alloc);
+    input.read_to_end(&mut bytes)?;
+    let mut list = List {
+        rest: &bytes,
+        alloc,
+    };
     let mut out = BufWriter::new(alloc, output)?;
-    replay(&mut list, &mut out, call)
+    replay(&mut list, &mut out, call)?;
+    Ok(out.into_inner()?)
 }
 
 #[cfg(test)]
 mod tests {
     use super::*;
+    use std::io::ErrorKind;
     use std::test::Fail;
 
     #[test]
     fn a_buffer_is_as_long_as_the_list_says(rt: HostRuntime) -> Result<(), Fail> {
-        let from: &[u8] = &[3, 0, 0, 0, 9, 0, 0, 0];
+        let rest: &[u8] = &[3, 0, 0, 0, 9, 0, 0, 0];
         let mut list = List {
-            from,
+            rest,
             alloc: rt.alloc(),
         };
         let first = list.buffer(5)?;
@@ -237,9 +257,9 @@ mod tests {
 
     #[test]
     fn each_plane_is_as_long_as_the_list_says(rt: HostRuntime) -> Result<(), Fail> {
-        let from: &[u8] = &[4, 0, 0, 0, 2, 0, 0, 0, 1, 0, 0, 0];
+        let rest: &[u8] = &[4, 0, 0, 0, 2, 0, 0, 0, 1, 0, 0, 0];
         let mut list = List {
-            from,
+            rest,
             alloc: rt.alloc(),
         };
         let planes = list.planes(9)?;
@@ -250,15 +270,50 @@ mod tests {
     }
 
     #[test]
-    fn each_call_has_its_line(rt: HostRuntime) -> Result<(), Fail> {
-        let from: &[u8] = &[2, 0, 0, 0, 7, 0, 0, 0, 8, 0, 0, 0];
+    fn calls_are_told_their_numbers(rt: HostRuntime) -> Result<(), Fail> {
+        let rest: &[u8] = &[2, 0, 0, 0, 7, 0, 0, 0, 8, 0, 0, 0];
         let mut list = List {
-            from,
+            rest,
+            alloc: rt.alloc(),
+        };
+        let mut out = Vec::new(rt.alloc());
+        each(&mut list, &mut out, |place, list, out| {
+            let number = list.number();
+            write!(out, "{place} {number};")
+        })?;
+        assert_eq!(rt; out.as_slice(), b"1 7;2 8;".as_slice());
+        Ok(())
+    }
+
+    #[test]
+    fn an_error_of_a_call_stops_the_calls(rt: HostRuntime) {
+        let rest: &[u8] = &[3, 0, 0, 0];
+        let mut list = List {
+            rest,
+            alloc: rt.alloc(),
+        };
+        let mut out = Vec::new(rt.alloc());
+        let made = each(&mut list, &mut out, |place, _, out| {
+            write!(out, "{place};")?;
+            if place == 2 {
+                return Err(io::Error::from(ErrorKind::Other));
+            }
+            Ok(())
+        });
+        assert_eq!(rt; made.map_err(|error| error.kind()), Err(ErrorKind::Other));
+        assert_eq!(rt; out.as_slice(), b"1;2;".as_slice());
+    }
+
+    #[test]
+    fn each_call_has_its_line(rt: HostRuntime) -> Result<(), Fail> {
+        let rest: &[u8] = &[2, 0, 0, 0, 7, 0, 0, 0, 8, 0, 0, 0];
+        let mut list = List {
+            rest,
             alloc: rt.alloc(),
         };
         let mut out = Vec::new(rt.alloc());
         replay(&mut list, &mut out, |list, out| {
-            let number = list.number()?;
+            let number = list.number();
             write!(out, " {number}")
         })?;
         assert_eq!(rt; out.as_slice(), b"1 7\n2 8\n".as_slice());
@@ -267,10 +322,10 @@ mod tests {
 
     #[test]
     fn streams_are_read_and_written_through_buffers(rt: HostRuntime) -> Result<(), Fail> {
-        let from: &[u8] = &[2, 0, 0, 0, 7, 0, 0, 0, 8, 0, 0, 0];
+        let input: &[u8] = &[2, 0, 0, 0, 7, 0, 0, 0, 8, 0, 0, 0];
         let mut out = Vec::new(rt.alloc());
-        over_streams(rt.alloc(), from, &mut out, |list, out| {
-            let number = list.number()?;
+        over_streams(rt.alloc(), input, &mut out, |list, out| {
+            let number = list.number();
             write!(out, " {number}")
         })?;
         assert_eq!(rt; out.as_slice(), b"1 7\n2 8\n".as_slice());

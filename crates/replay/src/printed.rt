@@ -1,5 +1,7 @@
 // What is printed of a call.
-ghost use Rattle.std.specs.Prelude.{◌≡◌, vec_len, IfOk};
+ghost use Rattle.std.specs.Prelude.{◌≡◌, replicate, IfOk};
+ghost use Rattle.std.specs.Fn.{iterate};
+ghost use Rattle.replay.specs.Printed.{crc_of_bit, crc_of_byte, crc32};
 
 use std::alloc::{AllocError, Global};
 use std::fmt;
@@ -16,7 +18,8 @@ pub struct Planes {
 impl Planes {
     // Zeros, so many for each plane.
     pub fn new(alloc: Global, size: usize) -> Result<Planes, AllocError>
-        ensures { IfOk result (λ planes. (vec_len planes.y ≡ size) × (vec_len planes.u ≡ size) × (vec_len planes.v ≡ size)) }
+        ensures { IfOk result (λ planes. let zeros = replicate size 0 in
+            (planes.y.items ≡ zeros) × (planes.u.items ≡ zeros) × (planes.v.items ≡ zeros)) }
     {
         let y = vec![in alloc; 0u8; size]?;
         let u = vec![in alloc; 0u8; size]?;
@@ -27,6 +30,11 @@ impl Planes {
 
 // The digest of each.
 impl fmt::Display for Planes {
+    ghost use Rattle.std.specs.Prelude.{Some};
+    ghost use Rattle.replay.specs.Printed.{planes_text};
+
+    ghost output = { λ planes. Some (planes_text planes.y.items planes.u.items planes.v.items) };
+
     fn fmt<W: fmt::Write>(&self, f: &mut fmt::Formatter<W>) -> fmt::Result {
         let y = Digest(&self.y);
         let u = Digest(&self.u);
@@ -54,7 +62,8 @@ impl fmt::Display for Answer {
     }
 }
 
-// What a call that writes answered, the size that it told, and the digest of its output as it left it: all three are printed in each case, so no `Result`.
+// What a call that writes answered, the size that it told, and the digest of its output as it left it: all three are printed in each case. A `Result` that
+// holds the size would be of `shift_writer`'s types, which nothing else here needs.
 #[derive(Clone, Copy)]
 pub struct Left<'a> {
     pub answer: Result<(), YuvError>,
@@ -63,6 +72,12 @@ pub struct Left<'a> {
 }
 
 impl fmt::Display for Left<'_> {
+    ghost use Rattle.std.specs.Prelude.{Some};
+    ghost use Rattle.yuv_error.specs.Numbers.{numbers_of};
+    ghost use Rattle.replay.specs.Printed.{left_text};
+
+    ghost output = { λ left. Some (left_text (numbers_of left.answer) left.size left.output.now) };
+
     fn fmt<W: fmt::Write>(&self, f: &mut fmt::Formatter<W>) -> fmt::Result {
         let answer = Answer(self.answer);
         let size = self.size;
@@ -71,11 +86,16 @@ impl fmt::Display for Left<'_> {
     }
 }
 
-// The CRC-32 of zlib and PNG of some bytes, as eight digits.
+// The CRC-32 of some bytes, as eight digits.
 #[derive(Clone, Copy)]
 pub struct Digest<'a>(pub &'a [u8]);
 
 impl fmt::Display for Digest<'_> {
+    ghost use Rattle.std.specs.Prelude.{Some};
+    ghost use Rattle.replay.specs.Printed.{digest_text};
+
+    ghost output = { λ digest. Some (digest_text digest.0.now) };
+
     fn fmt<W: fmt::Write>(&self, f: &mut fmt::Formatter<W>) -> fmt::Result {
         let digest = crc32(self.0);
         write!(f, "{digest:08x}")
@@ -87,6 +107,11 @@ impl fmt::Display for Digest<'_> {
 pub struct Numbers<'a>(pub &'a [u64]);
 
 impl fmt::Display for Numbers<'_> {
+    ghost use Rattle.std.specs.Prelude.{Some};
+    ghost use Rattle.replay.specs.Printed.{numbers_text};
+
+    ghost output = { λ numbers. Some (numbers_text numbers.0.now) };
+
     fn fmt<W: fmt::Write>(&self, f: &mut fmt::Formatter<W>) -> fmt::Result {
         for number in self.0 {
             write!(f, " {number}")?;
@@ -115,15 +140,24 @@ const HALVES: [u32; 16] = [
     0xBDBD_F21C,
 ];
 
-fn crc32_of_half(crc: u32) -> u32 {
+fn crc32_of_half(crc: u32) -> u32
+    ensures { result ≡ iterate crc_of_bit 4 crc }
+{
     HALVES[(crc % 16) as usize] ^ crc / 16
 }
 
-fn crc32_of_byte(crc: u32, byte: u8) -> u32 {
+#[tactic(auto, unfolding(crate::specs::Printed::crc_of_byte))]
+fn crc32_of_byte(crc: u32, byte: u8) -> u32
+    ensures { result ≡ crc_of_byte crc byte }
+{
     crc32_of_half(crc32_of_half(crc ^ u32::from(byte)))
 }
 
-fn crc32(bytes: &[u8]) -> u32 {
+// The CRC-32 of zlib and PNG.
+#[tactic(auto, unfolding(crate::specs::Printed::crc32))]
+pub fn crc32(bytes: &[u8]) -> u32
+    ensures { result ≡ crc32 bytes.now }
+{
     let mut crc = 0xFFFF_FFFF;
     for byte in bytes {
         crc = crc32_of_byte(crc, *byte);

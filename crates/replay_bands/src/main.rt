@@ -4,7 +4,8 @@
 
 use band_calls::{FrameAnswer, FrameState};
 use replay::{Answer, Digest, List, Planes};
-use std::io::{BufReader, BufWriter, Read, Write};
+use std::alloc::AllocError;
+use std::io::{BufWriter, Read, Write};
 use std::{fmt, io};
 
 // The most bytes of a source, and the bytes of each plane and of the carried row, which a sequence keeps from call to call.
@@ -23,28 +24,28 @@ impl fmt::Display for Answered {
     }
 }
 
-fn read_state<R: Read + Drop>(list: &mut List<R>) -> io::Result<FrameState> {
-    Ok(FrameState {
-        frame: list.frame()?,
-        done: list.number()?,
-    })
+fn read_state(list: &mut List<'_>) -> FrameState {
+    FrameState {
+        frame: list.frame(),
+        done: list.number(),
+    }
 }
 
 // Makes a call on as much of each buffer as it is lent.
-fn make<R: Read + Drop>(
-    list: &mut List<R>,
+fn make(
+    list: &mut List<'_>,
     planes: &mut Planes,
     carried: &mut [u8],
-) -> io::Result<FrameAnswer> {
+) -> Result<FrameAnswer, AllocError> {
     let mut source = list.buffer(SOURCE)?;
-    let state = read_state(list)?;
-    let rows = list.number()?;
-    let stride = list.number()?;
-    let y_length = list.room(planes.y.len())?;
-    let u_length = list.room(planes.u.len())?;
-    let v_length = list.room(planes.v.len())?;
-    let carried_length = list.room(carried.len())?;
-    list.fill(&mut source)?;
+    let state = read_state(list);
+    let rows = list.number();
+    let stride = list.number();
+    let y_length = list.room(planes.y.len());
+    let u_length = list.room(planes.u.len());
+    let v_length = list.room(planes.v.len());
+    let carried_length = list.room(carried.len());
+    list.fill(&mut source);
     Ok(state.band(
         rows,
         &source,
@@ -56,8 +57,8 @@ fn make<R: Read + Drop>(
     ))
 }
 
-fn call<R: Read + Drop, W: Write + Drop>(
-    list: &mut List<R>,
+fn call<W: Write + Drop>(
+    list: &mut List<'_>,
     planes: &mut Planes,
     carried: &mut [u8],
     out: &mut W,
@@ -68,27 +69,28 @@ fn call<R: Read + Drop, W: Write + Drop>(
 }
 
 // The opening, and the calls after it, all on the same buffers.
-fn sequence<R: Read + Drop, W: Write + Drop>(
-    sequence: u32,
-    list: &mut List<R>,
-    out: &mut W,
-) -> io::Result<()> {
-    let opened = Answered(FrameState::open(list.frame()?));
+fn sequence<W: Write + Drop>(sequence: u32, list: &mut List<'_>, out: &mut W) -> io::Result<()> {
+    let opened = Answered(FrameState::open(list.frame()));
     writeln!(out, "{sequence}{opened}")?;
     let mut planes = Planes::new(list.alloc, ROOM)?;
     let mut carried = vec![in list.alloc; 0u8; ROOM]?;
-    list.fill_planes(&mut planes)?;
-    list.fill(&mut carried)?;
+    list.fill_planes(&mut planes);
+    list.fill(&mut carried);
     replay::each(list, out, |place, list, out| {
         write!(out, "{sequence}.{place}")?;
         call(list, &mut planes, &mut carried, out)
     })
 }
 
+// The program replay_desk has such a main too. One function for both would be `over_streams` once more, with `each`'s contract in place of `replay`'s: longer than both.
 fn main(rt: HostRuntime) -> io::Result<()> {
     let alloc = rt.alloc();
-    let from = BufReader::new(alloc, rt.reader())?;
-    let mut list = List { from, alloc };
+    let mut bytes = Vec::new(alloc);
+    rt.reader().read_to_end(&mut bytes)?;
+    let mut list = List {
+        rest: &bytes,
+        alloc,
+    };
     let mut out = BufWriter::new(alloc, io::writer(&rt))?;
     replay::each(
         &mut list,

@@ -2,8 +2,9 @@
 #![tactic(auto)]
 
 use replay::{List, Planes};
+use std::alloc::AllocError;
 use std::io;
-use std::io::{Read, Write};
+use std::io::Write;
 
 // The most bytes of a buffer.
 const ROOM: usize = 65536;
@@ -24,17 +25,17 @@ struct Convoy {
     parts: Vec<u64>,
 }
 
-fn read_convoy<R: Read + Drop>(list: &mut List<R>) -> io::Result<Convoy> {
-    let count = list.wide()? as usize;
-    let numbers_room = list.room(NUMBERS)?;
-    let customs_room = list.room(CUSTOMS)?;
-    let parts_room = list.room(PARTS)?;
+fn read_convoy(list: &mut List<'_>) -> Result<Convoy, AllocError> {
+    let count = list.wide() as usize;
+    let numbers_room = list.room(NUMBERS);
+    let customs_room = list.room(CUSTOMS);
+    let parts_room = list.room(PARTS);
     let mut numbers = vec![in list.alloc; 0u32; numbers_room]?;
     let mut customs = vec![in list.alloc; 0f32; customs_room]?;
     let mut parts = vec![in list.alloc; 0u64; parts_room]?;
-    list.row(&mut numbers, |list| list.number())?;
-    list.row(&mut customs, |list| list.float())?;
-    list.row(&mut parts, |list| list.wide())?;
+    list.row(&mut numbers, |list| list.number());
+    list.row(&mut customs, |list| list.float());
+    list.row(&mut parts, |list| list.wide());
     Ok(Convoy {
         count,
         numbers,
@@ -65,16 +66,17 @@ fn convert<W: Write + Drop>(
     write!(out, " {number} {expected} {received} done={done}")
 }
 
-fn call<R: Read + Drop, W: Write + Drop>(list: &mut List<R>, out: &mut W) -> io::Result<()> {
+fn call<W: Write + Drop>(list: &mut List<'_>, out: &mut W) -> io::Result<()> {
     let mut source = list.buffer(ROOM)?;
     let mut planes = list.planes(ROOM)?;
     let convoy = read_convoy(list)?;
-    list.fill(&mut source)?;
-    list.fill_planes(&mut planes)?;
+    list.fill(&mut source);
+    list.fill_planes(&mut planes);
     convert(&convoy, &source, &mut planes, out)?;
     write!(out, "{planes}")
 }
 
 fn main(rt: HostRuntime) -> io::Result<()> {
-    replay::over_streams(rt.alloc(), rt.reader(), io::writer(&rt), call)
+    replay::over_streams(rt.alloc(), rt.reader(), io::writer(&rt), call)?;
+    Ok(())
 }

@@ -33,6 +33,7 @@ impl fmt::Display for Lines<'_> {
 }
 
 fn reply<W: Write + Drop>(request: &[u8], out: &mut W) -> io::Result<()> {
+    // The program's memory is fixed, so an output fills part of this.
     let mut output = [0; 3328];
     let size = counts_request::reply_to(request, &mut output);
     let reply = Reply(&output[..size]);
@@ -41,5 +42,6 @@ fn reply<W: Write + Drop>(request: &[u8], out: &mut W) -> io::Result<()> {
 }
 
 fn main(rt: HostRuntime) -> io::Result<()> {
-    replay_text::over_streams(rt.alloc(), rt.reader(), io::writer(&rt), reply)
+    replay_text::over_streams(rt.alloc(), rt.reader(), 16, io::writer(&rt), reply)?;
+    Ok(())
 }

@@ -5,7 +5,7 @@ ghost use Rattle.std.specs.Prelude.{◌<◌, length};
 
 use replay::{Digest, List, Planes};
 use std::alloc::{AllocError, Global};
-use std::io::{BufReader, BufWriter, Read, Write};
+use std::io::{BufWriter, Read, Write};
 use std::{fmt, io};
 
 // What is asked of a desk; what is none of these is an offer. A delivery is no call: a camera writes bytes into the source.
@@ -41,41 +41,40 @@ struct Buffers {
 
 // ---- the desk before the first call: how many of a list's numbers are not 0, and of each its place and what stands there
 
-fn place<R: Read + Drop, T: Copy, F: FnMut(&mut List<R>) -> io::Result<T>>(
-    list: &mut List<R>,
+fn place<'a, T: Copy, F: FnMut(&mut List<'a>) -> T>(
+    list: &mut List<'a>,
     places: &mut [T],
     mut next: F,
-) -> io::Result<()>
+)
     requires some { 0 < length places.old }
     requires callable { F.IsAlwaysCallable next }
 {
-    let count = list.number()?;
+    let count = list.number();
     for _ in 0..count {
-        let at = list.room(places.len() - 1)?;
-        places[at] = next(list)?;
+        let at = list.room(places.len() - 1);
+        places[at] = next(list);
     }
-    Ok(())
 }
 
-fn read_desk<R: Read + Drop>(list: &mut List<R>) -> io::Result<Desk> {
+fn read_desk(list: &mut List<'_>) -> Desk {
     let mut desk = Desk {
         numbers: [0; 609],
         customs: [0.0; 64],
         parts: [0; 320],
     };
-    place(list, &mut desk.numbers, |list| list.number())?;
-    place(list, &mut desk.customs, |list| list.float())?;
-    place(list, &mut desk.parts, |list| list.wide())?;
-    Ok(desk)
+    place(list, &mut desk.numbers, |list| list.number());
+    place(list, &mut desk.customs, |list| list.float());
+    place(list, &mut desk.parts, |list| list.wide());
+    desk
 }
 
-fn read_buffers<R: Read + Drop>(list: &mut List<R>) -> io::Result<Buffers> {
+fn read_buffers(list: &mut List<'_>) -> Result<Buffers, AllocError> {
     let mut source = vec![in list.alloc; 0u8; SOURCE]?;
     let mut planes = Planes::new(list.alloc, ROOM)?;
     let mut carried = vec![in list.alloc; 0u8; ROOM]?;
-    list.fill(&mut source)?;
-    list.fill_planes(&mut planes)?;
-    list.fill(&mut carried)?;
+    list.fill(&mut source);
+    list.fill_planes(&mut planes);
+    list.fill(&mut carried);
     Ok(Buffers {
         source,
         planes,
@@ -85,7 +84,7 @@ fn read_buffers<R: Read + Drop>(list: &mut List<R>) -> io::Result<Buffers> {
 
 // ---- what is printed
 
-// The bits of a float; those of one NaN for each of them.
+// The bits of a float; those of one NaN for each of them, which alone differ from themselves: by `is_nan` the proof did not close.
 fn bits_of(custom: f32) -> u32 {
     if custom == custom {
         f32::to_bits(custom)
@@ -119,22 +118,18 @@ impl fmt::Display for Buffers {
 
 // ---- the calls
 
-fn open<R: Read + Drop, W: Write + Drop>(
-    list: &mut List<R>,
-    desk: &mut Desk,
-    out: &mut W,
-) -> io::Result<()> {
+fn open<W: Write + Drop>(list: &mut List<'_>, desk: &mut Desk, out: &mut W) -> io::Result<()> {
     // Arrays of these lengths, as the calls take them; each is filled whole, and so is an offer's.
     let mut custom = [0f32; 2];
     let mut frame_parts = [0u64; 8];
     let mut lengths = [0u64; 4];
-    let camera = list.number()?;
-    list.row(&mut custom, |list| list.float())?;
-    list.row(&mut frame_parts, |list| list.wide())?;
-    list.row(&mut lengths, |list| list.wide())?;
-    let count = list.room(DESCRIBED)?;
+    let camera = list.number();
+    list.row(&mut custom, |list| list.float());
+    list.row(&mut frame_parts, |list| list.wide());
+    list.row(&mut lengths, |list| list.wide());
+    let count = list.room(DESCRIBED);
     let mut described = vec![in list.alloc; 0u32; count]?;
-    list.row(&mut described, |list| list.number())?;
+    list.row(&mut described, |list| list.number());
     let mut told = [0usize; 2];
     let number = desk_calls::call_desk_open(
         camera,
@@ -151,16 +146,12 @@ fn open<R: Read + Drop, W: Write + Drop>(
     write!(out, "{number} {expected} {received}")
 }
 
-fn offer<R: Read + Drop, W: Write + Drop>(
-    list: &mut List<R>,
-    desk: &mut Desk,
-    out: &mut W,
-) -> io::Result<()> {
+fn offer<W: Write + Drop>(list: &mut List<'_>, desk: &mut Desk, out: &mut W) -> io::Result<()> {
     let mut band = [0u32; 2];
     let mut part = [0u64; 3];
-    let camera = list.number()?;
-    list.row(&mut band, |list| list.number())?;
-    list.row(&mut part, |list| list.wide())?;
+    let camera = list.number();
+    list.row(&mut band, |list| list.number());
+    list.row(&mut part, |list| list.wide());
     let number = desk_calls::call_desk_offer(
         camera,
         &band,
@@ -173,18 +164,18 @@ fn offer<R: Read + Drop, W: Write + Drop>(
 }
 
 // On as much of each buffer as is lent. Answers the number of the refusal.
-fn make_step<R: Read + Drop>(
-    list: &mut List<R>,
+fn make_step(
+    list: &mut List<'_>,
     desk: &mut Desk,
     buffers: &mut Buffers,
     told: &mut [usize; 4],
-) -> io::Result<u32> {
-    let source_length = list.room(buffers.source.len())?;
-    let y_length = list.room(buffers.planes.y.len())?;
-    let u_length = list.room(buffers.planes.u.len())?;
-    let v_length = list.room(buffers.planes.v.len())?;
-    let carried_length = list.room(buffers.carried.len())?;
-    Ok(desk_steps::call_desk_step(
+) -> u32 {
+    let source_length = list.room(buffers.source.len());
+    let y_length = list.room(buffers.planes.y.len());
+    let u_length = list.room(buffers.planes.u.len());
+    let v_length = list.room(buffers.planes.v.len());
+    let carried_length = list.room(buffers.carried.len());
+    desk_steps::call_desk_step(
         &buffers.source[..source_length],
         &mut buffers.planes.y[..y_length],
         &mut buffers.planes.u[..u_length],
@@ -194,17 +185,17 @@ fn make_step<R: Read + Drop>(
         &mut desk.customs,
         &mut desk.parts,
         told,
-    ))
+    )
 }
 
-fn step<R: Read + Drop, W: Write + Drop>(
-    list: &mut List<R>,
+fn step<W: Write + Drop>(
+    list: &mut List<'_>,
     desk: &mut Desk,
     buffers: &mut Buffers,
     out: &mut W,
 ) -> io::Result<()> {
     let mut told = [0usize; 4];
-    let number = make_step(list, desk, buffers, &mut told)?;
+    let number = make_step(list, desk, buffers, &mut told);
     let [expected, received, served, camera] = told;
     write!(
         out,
@@ -213,17 +204,18 @@ fn step<R: Read + Drop, W: Write + Drop>(
 }
 
 // Bytes of a length for the start of a part.
-fn deliver<R: Read + Drop>(list: &mut List<R>, source: &mut [u8]) -> io::Result<()> {
-    let offset = list.room(source.len())?;
+fn deliver(list: &mut List<'_>, source: &mut [u8]) {
+    let offset = list.room(source.len());
     let part = &mut source[offset..];
-    let length = list.room(part.len())?;
-    list.fill(&mut part[..length])
+    let length = list.room(part.len());
+    list.fill(&mut part[..length]);
 }
 
-// A call of this kind, and its line, which ends with the digest of the desk. The stored list says the kind by a number: here it becomes the call.
-fn call<R: Read + Drop, W: Write + Drop>(
+// A call of this kind, and its line, which ends with the digest of the desk. The stored list says the kind by a number: here it becomes the call. An enum of the
+// kinds, made of the number first, would be matched once more and be no plainer.
+fn call<W: Write + Drop>(
     kind: u32,
-    list: &mut List<R>,
+    list: &mut List<'_>,
     desk: &mut Desk,
     buffers: &mut Buffers,
     out: &mut W,
@@ -239,27 +231,29 @@ fn call<R: Read + Drop, W: Write + Drop>(
 }
 
 // The buffers, the desk, and what is asked, all of it on these.
-fn history<R: Read + Drop, W: Write + Drop>(
-    history: u32,
-    list: &mut List<R>,
-    out: &mut W,
-) -> io::Result<()> {
+fn history<W: Write + Drop>(history: u32, list: &mut List<'_>, out: &mut W) -> io::Result<()> {
     let mut buffers = read_buffers(list)?;
-    let mut desk = read_desk(list)?;
+    let mut desk = read_desk(list);
     replay::each(list, out, |place, list, out| {
-        let kind = list.number()?;
+        let kind = list.number();
         if kind == DELIVERY {
-            return deliver(list, &mut buffers.source);
+            deliver(list, &mut buffers.source);
+            return Ok(());
         }
         write!(out, "{history}.{place} ")?;
         call(kind, list, &mut desk, &mut buffers, out)
     })
 }
 
+// The program replay_bands has such a main too. One function for both would be `over_streams` once more, with `each`'s contract in place of `replay`'s: longer than both.
 fn main(rt: HostRuntime) -> io::Result<()> {
     let alloc = rt.alloc();
-    let from = BufReader::new(alloc, rt.reader())?;
-    let mut list = List { from, alloc };
+    let mut bytes = Vec::new(alloc);
+    rt.reader().read_to_end(&mut bytes)?;
+    let mut list = List {
+        rest: &bytes,
+        alloc,
+    };
     let mut out = BufWriter::new(alloc, io::writer(&rt))?;
     replay::each(
         &mut list,

@@ -3,18 +3,18 @@
 
 use replay::{Answer, List};
 use std::io;
-use std::io::{Read, Write};
+use std::io::Write;
 
 // The most bytes of a buffer.
 const ROOM: usize = 65536;
 
-fn call<R: Read + Drop, W: Write + Drop>(list: &mut List<R>, out: &mut W) -> io::Result<()> {
+fn call<W: Write + Drop>(list: &mut List<'_>, out: &mut W) -> io::Result<()> {
     let mut source = list.buffer(ROOM)?;
     let mut planes = list.planes(ROOM)?;
-    let frame = list.frame()?;
-    let stride = list.number()?;
-    list.fill(&mut source)?;
-    list.fill_planes(&mut planes)?;
+    let frame = list.frame();
+    let stride = list.number();
+    list.fill(&mut source);
+    list.fill_planes(&mut planes);
     let answer = Answer(sharp_rgba_to_yuv::rgbx_to_sharp_yuv(
         frame,
         &source,
@@ -27,5 +27,6 @@ fn call<R: Read + Drop, W: Write + Drop>(list: &mut List<R>, out: &mut W) -> io:
 }
 
 fn main(rt: HostRuntime) -> io::Result<()> {
-    replay::over_streams(rt.alloc(), rt.reader(), io::writer(&rt), call)
+    replay::over_streams(rt.alloc(), rt.reader(), io::writer(&rt), call)?;
+    Ok(())
 }

@@ -3,7 +3,7 @@
 
 use replay::{Answer, List, Numbers};
 use std::io;
-use std::io::{Read, Write};
+use std::io::Write;
 use yuv_error::YuvError;
 
 // The most bytes of a file.
@@ -12,11 +12,11 @@ const ROOM: usize = 65536;
 // What stands in each number of the report before a call.
 const BEFORE: u64 = 9;
 
-fn call<R: Read + Drop, W: Write + Drop>(list: &mut List<R>, out: &mut W) -> io::Result<()> {
+fn call<W: Write + Drop>(list: &mut List<'_>, out: &mut W) -> io::Result<()> {
     let mut ours = list.buffer(ROOM)?;
     let mut theirs = list.buffer(ROOM)?;
-    list.fill(&mut ours)?;
-    list.fill(&mut theirs)?;
+    list.fill(&mut ours);
+    list.fill(&mut theirs);
     let our_form = shift_file::form_of(&ours);
     let their_form = shift_file::form_of(&theirs);
     let pairing = shift_pairs::pair_files(our_form, &ours, their_form, &theirs);
@@ -29,5 +29,6 @@ fn call<R: Read + Drop, W: Write + Drop>(list: &mut List<R>, out: &mut W) -> io:
 }
 
 fn main(rt: HostRuntime) -> io::Result<()> {
-    replay::over_streams(rt.alloc(), rt.reader(), io::writer(&rt), call)
+    replay::over_streams(rt.alloc(), rt.reader(), io::writer(&rt), call)?;
+    Ok(())
 }

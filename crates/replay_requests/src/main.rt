@@ -12,6 +12,7 @@ use std::io;
 use std::io::Write;
 
 fn reply<W: Write + Drop>(request: &[u8], out: &mut W) -> io::Result<()> {
+    // The program's memory is fixed, so an output fills part of this.
     let mut output = [0; 49152];
     let size = frame_request::reply_to(request, &mut output);
     let reply = Reply(&output[..size]);
@@ -19,5 +20,7 @@ fn reply<W: Write + Drop>(request: &[u8], out: &mut W) -> io::Result<()> {
 }
 
 fn main(rt: HostRuntime) -> io::Result<()> {
-    replay_text::over_streams(rt.alloc(), rt.reader(), io::writer(&rt), reply)
+    // One byte past the largest request.
+    replay_text::over_streams(rt.alloc(), rt.reader(), 65546, io::writer(&rt), reply)?;
+    Ok(())
 }

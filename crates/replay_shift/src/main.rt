@@ -7,7 +7,7 @@ use shift_reader::{EntryKind, ShiftReading};
 use shift_record::RecordFrame;
 use shift_writer::NotWritten;
 use std::io;
-use std::io::{Read, Write};
+use std::io::Write;
 
 // The most bytes of a file that is read, which may have 4,097 records, and of any other buffer.
 const FILE: usize = 131072;
@@ -20,15 +20,11 @@ const NUMBERS: usize = 44;
 const BEFORE: u64 = 9;
 
 // Reads the records of a file: those of an entry's kind, of a file in either form where the settings are told too.
-fn read<R: Read + Drop, W: Write + Drop>(
-    kind: EntryKind,
-    list: &mut List<R>,
-    out: &mut W,
-) -> io::Result<()> {
+fn read<W: Write + Drop>(kind: EntryKind, list: &mut List<'_>, out: &mut W) -> io::Result<()> {
     let mut file = list.buffer(FILE)?;
-    let first = list.wide()? as usize;
-    let room = list.room(NUMBERS)?;
-    list.fill(&mut file)?;
+    let first = list.wide() as usize;
+    let room = list.room(NUMBERS);
+    list.fill(&mut file);
     let form = match kind {
         EntryKind::Places => ShiftForm::WithoutSettings,
         EntryKind::PlacesAndSettings => shift_file::form_of(&file),
@@ -49,17 +45,17 @@ fn read<R: Read + Drop, W: Write + Drop>(
 }
 
 // Makes a call that reads the first of two buffers and writes into the second.
-fn convert<
-    R: Read + Drop,
-    W: Write + Drop,
-    F: FnOnce(&[u8], &mut [u8]) -> Result<usize, NotWritten>,
->(list: &mut List<R>, out: &mut W, make: F) -> io::Result<()>
+fn convert<W: Write + Drop, F: FnOnce(&[u8], &mut [u8]) -> Result<usize, NotWritten>>(
+    list: &mut List<'_>,
+    out: &mut W,
+    make: F,
+) -> io::Result<()>
     requires { F.IsAlwaysCallable make }
 {
     let mut input = list.buffer(ROOM)?;
     let mut output = list.buffer(ROOM)?;
-    list.fill(&mut input)?;
-    list.fill(&mut output)?;
+    list.fill(&mut input);
+    list.fill(&mut output);
     let written = make(&input, &mut output);
     let left = Left {
         answer: shift_writer::outcome_of(written),
@@ -69,11 +65,7 @@ fn convert<
     write!(out, "{left}")
 }
 
-fn write<R: Read + Drop, W: Write + Drop>(
-    form: ShiftForm,
-    list: &mut List<R>,
-    out: &mut W,
-) -> io::Result<()> {
+fn write<W: Write + Drop>(form: ShiftForm, list: &mut List<'_>, out: &mut W) -> io::Result<()> {
     convert(
         list,
         out,
@@ -81,8 +73,8 @@ fn write<R: Read + Drop, W: Write + Drop>(
     )
 }
 
-fn read_codes<R: Read + Drop>(list: &mut List<R>, form: ShiftForm) -> io::Result<SettingCodes> {
-    Ok(match form {
+fn read_codes(list: &mut List<'_>, form: ShiftForm) -> SettingCodes {
+    match form {
         ShiftForm::WithoutSettings => SettingCodes {
             sampling: 0,
             range: 0,
@@ -90,23 +82,23 @@ fn read_codes<R: Read + Drop>(list: &mut List<R>, form: ShiftForm) -> io::Result
             transfer: 0,
         },
         ShiftForm::WithSettings => SettingCodes {
-            sampling: list.number()?,
-            range: list.number()?,
-            matrix: list.number()?,
-            transfer: list.number()?,
+            sampling: list.number(),
+            range: list.number(),
+            matrix: list.number(),
+            transfer: list.number(),
         },
-    })
+    }
 }
 
-fn read_frame<R: Read + Drop>(list: &mut List<R>, form: ShiftForm) -> io::Result<RecordFrame> {
-    let crossing = list.number()?;
-    let width = list.number()?;
-    let height = list.number()?;
-    let y_stride = list.number()?;
-    let u_stride = list.number()?;
-    let v_stride = list.number()?;
-    let settings = read_codes(list, form)?;
-    Ok(RecordFrame {
+fn read_frame(list: &mut List<'_>, form: ShiftForm) -> RecordFrame {
+    let crossing = list.number();
+    let width = list.number();
+    let height = list.number();
+    let y_stride = list.number();
+    let u_stride = list.number();
+    let v_stride = list.number();
+    let settings = read_codes(list, form);
+    RecordFrame {
         form,
         crossing,
         width,
@@ -115,19 +107,19 @@ fn read_frame<R: Read + Drop>(list: &mut List<R>, form: ShiftForm) -> io::Result
         y_stride,
         u_stride,
         v_stride,
-    })
+    }
 }
 
-fn write_record<R: Read + Drop, W: Write + Drop>(
+fn write_record<W: Write + Drop>(
     form: ShiftForm,
-    list: &mut List<R>,
+    list: &mut List<'_>,
     out: &mut W,
 ) -> io::Result<()> {
     let mut planes = list.planes(ROOM)?;
     let mut output = list.buffer(ROOM)?;
-    let frame = read_frame(list, form)?;
-    list.fill_planes(&mut planes)?;
-    list.fill(&mut output)?;
+    let frame = read_frame(list, form);
+    list.fill_planes(&mut planes);
+    list.fill(&mut output);
     let written = shift_record::write_record(frame, &planes.y, &planes.u, &planes.v, &mut output);
     let left = Left {
         answer: shift_writer::outcome_of(written),
@@ -137,9 +129,9 @@ fn write_record<R: Read + Drop, W: Write + Drop>(
     write!(out, "{left}")
 }
 
-// The stored list says which call it is by a number: here the number becomes the call.
-fn call<R: Read + Drop, W: Write + Drop>(list: &mut List<R>, out: &mut W) -> io::Result<()> {
-    match list.number()? {
+// The stored list says which call it is by a number: here the number becomes the call. An enum of the calls, made of it first, would be no plainer.
+fn call<W: Write + Drop>(list: &mut List<'_>, out: &mut W) -> io::Result<()> {
+    match list.number() {
         0 => read(EntryKind::Places, list, out),
         1 => write(ShiftForm::WithoutSettings, list, out),
         2 => write_record(ShiftForm::WithoutSettings, list, out),
@@ -152,5 +144,6 @@ fn call<R: Read + Drop, W: Write + Drop>(list: &mut List<R>, out: &mut W) -> io:
 }
 
 fn main(rt: HostRuntime) -> io::Result<()> {
-    replay::over_streams(rt.alloc(), rt.reader(), io::writer(&rt), call)
+    replay::over_streams(rt.alloc(), rt.reader(), io::writer(&rt), call)?;
+    Ok(())
 }

@@ -2,7 +2,7 @@
 #![tactic(auto)]
 
 use replay::{Answer, Digest, List};
-use std::io::{Read, Write};
+use std::io::Write;
 use std::{fmt, io};
 
 // The most bytes of a file and of a summary.
@@ -48,13 +48,13 @@ fn find<W: Write + Drop>(
     write!(out, "{answer}{found}")
 }
 
-fn update<R: Read + Drop, W: Write + Drop>(list: &mut List<R>, out: &mut W) -> io::Result<()> {
+fn update<W: Write + Drop>(list: &mut List<'_>, out: &mut W) -> io::Result<()> {
     let mut file = list.buffer(ROOM)?;
     let mut added = list.buffer(ROOM)?;
     let mut summary = list.buffer(ROOM)?;
-    list.fill(&mut file)?;
-    list.fill(&mut added)?;
-    list.fill(&mut summary)?;
+    list.fill(&mut file);
+    list.fill(&mut added);
+    list.fill(&mut summary);
     let form = shift_file::form_of(&file);
     let answer = Answer(summary_update::update_summary(form, &file, &added, &mut summary));
     let digest = Digest(&summary);
@@ -62,16 +62,12 @@ fn update<R: Read + Drop, W: Write + Drop>(list: &mut List<R>, out: &mut W) -> i
 }
 
 // A call of this kind on a file and a buffer for its summary.
-fn call_on_two<R: Read + Drop, W: Write + Drop>(
-    kind: u32,
-    list: &mut List<R>,
-    out: &mut W,
-) -> io::Result<()> {
+fn call_on_two<W: Write + Drop>(kind: u32, list: &mut List<'_>, out: &mut W) -> io::Result<()> {
     let mut file = list.buffer(ROOM)?;
     let mut summary = list.buffer(ROOM)?;
-    let crossing = if kind < 2 { 0 } else { list.number()? };
-    list.fill(&mut file)?;
-    list.fill(&mut summary)?;
+    let crossing = if kind < 2 { 0 } else { list.number() };
+    list.fill(&mut file);
+    list.fill(&mut summary);
     match kind {
         0 => build(&file, &mut summary, out),
         1 => check(&file, &summary, out),
@@ -79,14 +75,15 @@ fn call_on_two<R: Read + Drop, W: Write + Drop>(
     }
 }
 
-// The stored list says which call it is by a number: here the number becomes the call.
-fn call<R: Read + Drop, W: Write + Drop>(list: &mut List<R>, out: &mut W) -> io::Result<()> {
-    match list.number()? {
+// The stored list says which call it is by a number: here the number becomes the call. An enum of the calls, made of it first, would be no plainer.
+fn call<W: Write + Drop>(list: &mut List<'_>, out: &mut W) -> io::Result<()> {
+    match list.number() {
         3 => update(list, out),
         kind => call_on_two(kind, list, out),
     }
 }
 
 fn main(rt: HostRuntime) -> io::Result<()> {
-    replay::over_streams(rt.alloc(), rt.reader(), io::writer(&rt), call)
+    replay::over_streams(rt.alloc(), rt.reader(), io::writer(&rt), call)?;
+    Ok(())
 }

@@ -1,2 +1,4 @@
--- Lemmas of the lines and their calls.
+-- Lemmas of the lines, their requests and their calls.
 pub mod Made
+pub mod Opened
+pub mod Stars

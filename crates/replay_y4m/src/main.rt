@@ -2,7 +2,7 @@
 #![tactic(auto)]
 
 use replay::{Answer, Left, List, Numbers};
-use std::io::{Read, Write};
+use std::io::Write;
 use std::{fmt, io};
 use y4m_picture::PictureFrame;
 use y4m_reader::Y4mReading;
@@ -43,25 +43,25 @@ impl fmt::Display for Reading {
     }
 }
 
-fn read<R: Read + Drop, W: Write + Drop>(list: &mut List<R>, out: &mut W) -> io::Result<()> {
+fn read<W: Write + Drop>(list: &mut List<'_>, out: &mut W) -> io::Result<()> {
     let mut file = list.buffer(FILE)?;
-    let first = list.wide()? as usize;
-    let room = list.room(NUMBERS)?;
-    list.fill(&mut file)?;
+    let first = list.wide() as usize;
+    let room = list.room(NUMBERS);
+    list.fill(&mut file);
     let mut entries = vec![in list.alloc; BEFORE; room]?;
     let reading = Reading(y4m_reader::read_pictures(&file, first, &mut entries));
     let entries = Numbers(&entries);
     write!(out, "{reading} entries{entries}")
 }
 
-fn write<R: Read + Drop, W: Write + Drop>(list: &mut List<R>, out: &mut W) -> io::Result<()> {
+fn write<W: Write + Drop>(list: &mut List<'_>, out: &mut W) -> io::Result<()> {
     let mut pictures = list.buffer(ROOM)?;
     let mut output = list.buffer(ROOM)?;
-    let width = list.number()? as usize;
-    let height = list.number()? as usize;
-    let sampling = list.number()?;
-    list.fill(&mut pictures)?;
-    list.fill(&mut output)?;
+    let width = list.number() as usize;
+    let height = list.number() as usize;
+    let sampling = list.number();
+    list.fill(&mut pictures);
+    list.fill(&mut output);
     let written = y4m_writer::write_pictures(sampling, width, height, &pictures, &mut output);
     let left = Left {
         answer: shift_writer::outcome_of(written),
@@ -71,26 +71,23 @@ fn write<R: Read + Drop, W: Write + Drop>(list: &mut List<R>, out: &mut W) -> io
     write!(out, "{left}")
 }
 
-fn read_frame<R: Read + Drop>(list: &mut List<R>) -> io::Result<PictureFrame> {
-    Ok(PictureFrame {
-        width: list.number()?,
-        height: list.number()?,
-        sampling: list.number()?,
-        y_stride: list.number()?,
-        u_stride: list.number()?,
-        v_stride: list.number()?,
-    })
+fn read_frame(list: &mut List<'_>) -> PictureFrame {
+    PictureFrame {
+        width: list.number(),
+        height: list.number(),
+        sampling: list.number(),
+        y_stride: list.number(),
+        u_stride: list.number(),
+        v_stride: list.number(),
+    }
 }
 
-fn write_picture<R: Read + Drop, W: Write + Drop>(
-    list: &mut List<R>,
-    out: &mut W,
-) -> io::Result<()> {
+fn write_picture<W: Write + Drop>(list: &mut List<'_>, out: &mut W) -> io::Result<()> {
     let mut planes = list.planes(ROOM)?;
     let mut output = list.buffer(ROOM)?;
-    let frame = read_frame(list)?;
-    list.fill_planes(&mut planes)?;
-    list.fill(&mut output)?;
+    let frame = read_frame(list);
+    list.fill_planes(&mut planes);
+    list.fill(&mut output);
     let written = y4m_picture::write_picture(frame, &planes.y, &planes.u, &planes.v, &mut output);
     let left = Left {
         answer: shift_writer::outcome_of(written),
@@ -100,9 +97,9 @@ fn write_picture<R: Read + Drop, W: Write + Drop>(
     write!(out, "{left}")
 }
 
-// The stored list says which call it is by a number: here the number becomes the call.
-fn call<R: Read + Drop, W: Write + Drop>(list: &mut List<R>, out: &mut W) -> io::Result<()> {
-    match list.number()? {
+// The stored list says which call it is by a number: here the number becomes the call. An enum of the calls, made of it first, would be no plainer.
+fn call<W: Write + Drop>(list: &mut List<'_>, out: &mut W) -> io::Result<()> {
+    match list.number() {
         0 => read(list, out),
         1 => write(list, out),
         _ => write_picture(list, out),
@@ -110,5 +107,6 @@ fn call<R: Read + Drop, W: Write + Drop>(list: &mut List<R>, out: &mut W) -> io:
 }
 
 fn main(rt: HostRuntime) -> io::Result<()> {
-    replay::over_streams(rt.alloc(), rt.reader(), io::writer(&rt), call)
+    replay::over_streams(rt.alloc(), rt.reader(), io::writer(&rt), call)?;
+    Ok(())
 }

@@ -215,7 +215,8 @@ pub fn segvartin_call_shift_write(records: &[u8], file: &mut [u8], told: &mut [u
     shift_calls::call_shift_write(ShiftForm::WithoutSettings, records, file, told)
 }
 
-// As `segvartin_call_shift_write`, of records and a file with settings.
+// As `segvartin_call_shift_write`, of records and a file with settings. Two names of C's, and one call of `shift_calls` with the form: so are
+// `segvartin_call_shift_forward` and `segvartin_call_shift_back`.
 pub fn segvartin_call_shift_write_settings(
     records: &[u8],
     file: &mut [u8],

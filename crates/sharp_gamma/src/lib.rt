@@ -32,7 +32,8 @@ pub enum TableRounding {
     Nearest,
 }
 
-// The linear value of each byte.
+// The linear value of each byte. Its match is that of `first_index_table` with other constants: a struct of both tables of a curve would be made whole where
+// one of them is wanted. Transfer and rounding come as two parameters: a struct of both would be made for a call and taken apart in it.
 pub fn linear_map_table(transfer: SharpYuvGammaTransfer, rounding: TableRounding) -> [u16; 256]
     ensures { TableOf 256 (linear_entry transfer rounding) result }
 {

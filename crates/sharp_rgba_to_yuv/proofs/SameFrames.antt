@@ -3,7 +3,6 @@
 -- Assumes nothing.
 use Prim.Native.Nat.{ℕ, ◌<◌}
 use mathlib.Core.Path.{◌≡◌, refl, sym, ap, subst, ◌∙◌}
-use mathlib.Core.List.{List}
 use native.Mathlib.Nat.{le_refl}
 use native.Mathlib.Omega.{arith}
 use lib.ListN.{length}
@@ -17,7 +16,7 @@ use Rattle.definitions.proofs.Planes.{plane_unique, plane_to, rows_equal}
 use Rattle.definitions.proofs.Finished.{finished_none, finished_last}
 use Rattle.definitions.proofs.SameImages.{SameSeen, Sharpened-like}
 use Rattle.sharp_rgba_to_yuv.specs.FrameCall.{FrameCall, frame_call, frame_rules, image_of, FramePost}
-use Rattle.sharp_rgba_to_yuv.specs.Same.{SameColourBytes, SameButSource, AlphaAndPadding, elsewhere, WindowsAndBuffers}
+use Rattle.sharp_rgba_to_yuv.specs.Same.{SameColourBytes, AlphaAndPadding, elsewhere, WindowsAndBuffers}
 use Rattle.sharp_rgba_to_yuv.proofs.Accepted.{call_Accepted}
 use Rattle.sharp_rgba_to_yuv.proofs.Strides.{luma_strides, cb_strides, cr_strides}
 use Rattle.sharp_rgba_to_yuv.proofs.Post.{refused_writes_nothing}

@@ -19,7 +19,7 @@ const AHEAD: usize = 144;
 
 const AHEAD_STEP: usize = 24;
 
-// The pixel to the right of x, or x where it is the last.
+// The pixel to the right of x, or x where it is the last. The two cases say just that; a `min` would say it by way of the number of the last pixel.
 fn right_of(x: usize, width: usize) -> usize
     requires { x < width }
     ensures { result ≡ min (x + 1) (width - 1) }

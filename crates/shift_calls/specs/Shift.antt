@@ -114,18 +114,22 @@ abbrev pub codes_of_record : ShiftForm → (numbers : List ℕ) → SettingCodes
 codes_of_record WithoutSettings numbers = record { sampling = 0; range = 0; matrix = 0; transfer = 0 }
 codes_of_record WithSettings numbers = record { sampling = at numbers 6; range = at numbers 7; matrix = at numbers 8; transfer = at numbers 9 }
 
--- RULES 10.5: crossing, width, height, and the strides of Y, U and V, then the settings
-abbrev pub frame_of_record : ShiftForm → (numbers : List ℕ) → RecordFrame
-frame_of_record form numbers = record {
+-- RULES 10.5: crossing, width, height, and the strides of Y, U and V, with these settings
+abbrev pub frame_with : ShiftForm → (numbers : List ℕ) → SettingCodes → RecordFrame
+frame_with form numbers settings = record {
   form = form;
   crossing = at numbers 0;
   width = at numbers 1;
   height = at numbers 2;
-  settings = codes_of_record form numbers;
+  settings = settings;
   y_stride = at numbers 3;
   u_stride = at numbers 4;
   v_stride = at numbers 5;
 }
+
+-- RULES 10.5: crossing, width, height, and the strides of Y, U and V, then the settings
+abbrev pub frame_of_record : ShiftForm → (numbers : List ℕ) → RecordFrame
+frame_of_record form numbers = frame_with form numbers (codes_of_record form numbers)
 
 -- RULES 10.5: 15, 8 to 12, 16
 abbrev pub rules_of_record : ShiftForm → ExportedRecord → List Rule

@@ -2,7 +2,7 @@
 // what is told goes to numbers that the caller lends.
 #![tactic(auto)]
 
-ghost use Rattle.std.specs.Prelude.{◌≡◌, [], ◌∷◌};
+ghost use Rattle.std.specs.Prelude.{◌≡◌, ◌≤◌, [], ◌∷◌, length};
 ghost use Rattle.yuv_error.specs.Numbers.{numbers_of};
 ghost use Rattle.yuv_error.specs.Lent.{taken};
 ghost use Rattle.shift_reader.specs.Reading.{read_outcome, reading_of};
@@ -13,7 +13,7 @@ ghost use Rattle.shift_calls.specs.Summary.{exported_build, BuildKept, exported_
 ghost use Rattle.shift_calls.specs.Summary.{exported_find, found_count, found_place, FindKept, exported_update, UpdateKept};
 ghost use Rattle.shift_calls.specs.Pairs.{exported_pairing, PairingKept};
 ghost use Rattle.shift_calls.specs.Shift.{exported_reading, ReadingKept, form_number, ReadingAnyKept, exported_writing, WritingKept};
-ghost use Rattle.shift_calls.specs.Shift.{exported_record, RecordKept, exported_move, MoveKept};
+ghost use Rattle.shift_calls.specs.Shift.{exported_record, frame_with, RecordKept, exported_move, MoveKept};
 
 use shift_file::{SettingCodes, ShiftForm};
 use shift_pairs::{BrokenFile, PairReport};
@@ -28,16 +28,9 @@ fn tell_reading(reading: Result<ShiftReading, YuvError>, told: &mut [usize; 2]) 
     ensures number { result ≡ (numbers_of (read_outcome reading)).number }
     ensures told { told.new ≡ (reading_of reading).count ∷ (reading_of reading).told ∷ [] }
 {
-    match reading {
-        Ok(reading) => {
-            *told = [reading.count, reading.told];
-            0
-        }
-        Err(error) => {
-            *told = [0, 0];
-            error_numbers::error_numbers(error).number
-        }
-    }
+    let read = reading.unwrap_or(ShiftReading { count: 0, told: 0 });
+    *told = [read.count, read.told];
+    error_numbers::answer_numbers(reading.map(|_| ())).number
 }
 
 // `segvartin_call_shift_records` of crate `segvartin` is one call of this.
@@ -67,17 +60,10 @@ fn tell_reading_any(
     ensures number { result ≡ (numbers_of (read_outcome reading)).number }
     ensures told { told.new ≡ (reading_of reading).count ∷ (reading_of reading).told ∷ taken (read_outcome reading) (form_number form) ∷ [] }
 {
-    match reading {
-        Ok(reading) => {
-            let with_settings = form == ShiftForm::WithSettings;
-            *told = [reading.count, reading.told, usize::from(with_settings)];
-            0
-        }
-        Err(error) => {
-            *told = [0, 0, 0];
-            error_numbers::error_numbers(error).number
-        }
-    }
+    let read = reading.unwrap_or(ShiftReading { count: 0, told: 0 });
+    let with_settings = reading.is_ok() && form == ShiftForm::WithSettings;
+    *told = [read.count, read.told, usize::from(with_settings)];
+    error_numbers::answer_numbers(reading.map(|_| ())).number
 }
 
 // `segvartin_call_shift_records_any` of crate `segvartin` is one call of this.
@@ -138,7 +124,24 @@ fn tell_written(written: Result<usize, NotWritten>, told: &mut [usize; 3]) -> u3
     numbers.number
 }
 
-// `segvartin_call_shift_record` of crate `segvartin` is one call of this. It and the next stay two: the numbers that they are given are arrays of two sizes, and stand for other things.
+// The frame of a record, from the six numbers that both forms have first: crossing, width, height, and the strides of Y, U and V.
+fn frame_of(form: ShiftForm, numbers: &[u32], settings: SettingCodes) -> RecordFrame
+    requires { 6 ≤ length numbers.now }
+    ensures { result ≡ frame_with form numbers.now settings }
+{
+    RecordFrame {
+        form,
+        crossing: numbers[0],
+        width: numbers[1],
+        height: numbers[2],
+        settings,
+        y_stride: numbers[3],
+        u_stride: numbers[4],
+        v_stride: numbers[5],
+    }
+}
+
+// `segvartin_call_shift_record` of crate `segvartin` is one call of this. It and the next stay two, since C gives the second four numbers more.
 pub fn call_shift_record(
     numbers: &[u32; 6],
     y: &[u8],
@@ -156,16 +159,7 @@ pub fn call_shift_record(
         matrix: 0,
         transfer: 0,
     };
-    let frame = RecordFrame {
-        form: ShiftForm::WithoutSettings,
-        crossing: numbers[0],
-        width: numbers[1],
-        height: numbers[2],
-        settings,
-        y_stride: numbers[3],
-        u_stride: numbers[4],
-        v_stride: numbers[5],
-    };
+    let frame = frame_of(ShiftForm::WithoutSettings, numbers, settings);
     let written = shift_record::write_record(frame, y, u, v, record);
     tell_written(written, told)
 }
@@ -188,16 +182,7 @@ pub fn call_shift_record_settings(
         matrix: numbers[8],
         transfer: numbers[9],
     };
-    let frame = RecordFrame {
-        form: ShiftForm::WithSettings,
-        crossing: numbers[0],
-        width: numbers[1],
-        height: numbers[2],
-        settings,
-        y_stride: numbers[3],
-        u_stride: numbers[4],
-        v_stride: numbers[5],
-    };
+    let frame = frame_of(ShiftForm::WithSettings, numbers, settings);
     let written = shift_record::write_record(frame, y, u, v, record);
     tell_written(written, told)
 }

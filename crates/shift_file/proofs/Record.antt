@@ -13,7 +13,7 @@ use Rattle.little_endian.specs.Number.{Bytes, low_bytes, number_in}
 use Rattle.little_endian.proofs.Number.{length_low, bytes_drop, bytes_take, number_low, low_number, number_below, drop_low}
 use Rattle.shift_file.specs.declared.ShiftForm.{ShiftForm}
 use Rattle.shift_file.specs.declared.ShiftForm.TheVariants.{WithoutSettings, WithSettings}
-use Rattle.shift_file.specs.File.{ShiftRecord, Allowed, settings_size, header_size, is_side, codes_allowed, sampling_of, chroma_bytes, bytes_of}
+use Rattle.shift_file.specs.File.{ShiftRecord, Allowed, settings_size, header_size, is_side, codes_allowed, settings_told, sampling_of, chroma_bytes, bytes_of}
 use Rattle.shift_file.specs.Read.{width_at, height_at, settings_at, luma_at, chroma_at, size_at, record_at}
 use Rattle.shift_file.specs.Check.{shape_allowed, record_stands}
 use Rattle.shift_file.proofs.Products.{luma_most, chroma_most}
@@ -28,6 +28,16 @@ also a b h k = (and-eq-true_iff a b).1 (h, k)
 
 pub side_bounds : (x : ℕ) → is_side x ≡ true → (1 ≤ x) × (x ≤ 16384)
 side_bounds x h = let p = both (leb 1 x) (leb x 16384) h in (leb-true 1 x p.0, leb-true x 16384 p.1)
+
+-- ---- the settings that are told
+
+pub allowed_told : (form : ShiftForm) (s : List ℕ) → codes_allowed form (settings_told form s) ≡ codes_allowed form s
+allowed_told WithoutSettings s = refl
+allowed_told WithSettings s = refl
+
+pub sampling_told : (form : ShiftForm) (s : List ℕ) → sampling_of form (settings_told form s) ≡ sampling_of form s
+sampling_told WithoutSettings s = refl
+sampling_told WithSettings s = refl
 
 -- ---- from the bytes to the record
 

@@ -48,7 +48,7 @@ impl ShiftForm {
         }
     }
 
-    // The bytes of a record's settings. That they are as many as the mark's is no rule.
+    // The bytes of a record's settings. They are as many as the mark's by chance, and no rule says so: one function for both would be no plainer.
     fn settings_size(self) -> usize
         ensures { (result ≡ settings_size self) × (result ≤ 4) }
     {
@@ -96,6 +96,26 @@ impl SettingCodes {
             && is_code(7, self.matrix)
             && is_code(4, self.transfer)
     }
+
+    // Whether the codes are allowed, in a form that has them.
+    pub fn are_allowed_in(self, form: ShiftForm) -> bool
+        ensures { result ≡ codes_allowed form (code_list self) }
+    {
+        match form {
+            ShiftForm::WithoutSettings => true,
+            ShiftForm::WithSettings => self.are_allowed(),
+        }
+    }
+
+    // The sampling of a record's planes: 4:2:0 in the form without settings.
+    pub fn sampling_in(self, form: ShiftForm) -> YuvChromaSubsampling
+        ensures { result ≡ sampling_of form (code_list self) }
+    {
+        match form {
+            ShiftForm::WithoutSettings => YuvChromaSubsampling::Yuv420,
+            ShiftForm::WithSettings => setting_codes::sampling_of(self.sampling),
+        }
+    }
 }
 
 // The four bytes of settings.
@@ -132,7 +152,8 @@ impl From<SettingCodes> for [u64; 4] {
     }
 }
 
-fn is_side(side: u16) -> bool
+// Whether a frame can have this side.
+pub fn is_side(side: usize) -> bool
     ensures { result ≡ is_side side }
 {
     (1..=16384).contains(&side)

@@ -49,7 +49,7 @@ impl<'a> Part<'a> {
         little_endian::read_u16(self.bytes, 6)
     }
 
-    // The settings; 4:2:0, and nothing recorded, where the form has none.
+    // The settings; 4:2:0, and nothing recorded, where the form has none. A match on the form: only a form with settings has the bytes that `codes_at` reads.
     pub fn settings(&self) -> SettingCodes
         ensures { code_list result ≡ settings_told self.now.form (settings_at self.now.form self.now.bytes.now) }
     {
@@ -60,13 +60,11 @@ impl<'a> Part<'a> {
     }
 
     // The sampling of the planes.
+    #[tactic(auto, using(crate::proofs::Record::sampling_told))]
     pub fn sampling(&self) -> YuvChromaSubsampling
         ensures { result ≡ sampling_of self.now.form (settings_at self.now.form self.now.bytes.now) }
     {
-        match self.form {
-            ShiftForm::WithoutSettings => YuvChromaSubsampling::Yuv420,
-            ShiftForm::WithSettings => setting_codes::sampling_of(u32::from(self.bytes[8])),
-        }
+        self.settings().sampling_in(self.form)
     }
 
     // The bytes of the luma plane.
@@ -97,13 +95,11 @@ impl<'a> Part<'a> {
     }
 
     // Whether the codes of the settings are allowed.
+    #[tactic(auto, using(crate::proofs::Record::allowed_told))]
     fn are_settings(&self) -> bool
         ensures { result ≡ codes_allowed self.now.form (settings_at self.now.form self.now.bytes.now) }
     {
-        match self.form {
-            ShiftForm::WithoutSettings => true,
-            ShiftForm::WithSettings => crate::codes_at(self.bytes).are_allowed(),
-        }
+        self.settings().are_allowed_in(self.form)
     }
 
     // Whether the sides and the settings are allowed.
@@ -111,6 +107,8 @@ impl<'a> Part<'a> {
     pub fn is_allowed(&self) -> bool
         ensures { result ≡ shape_allowed self.now.form self.now.bytes.now }
     {
-        crate::is_side(self.width()) && crate::is_side(self.height()) && self.are_settings()
+        crate::is_side(usize::from(self.width()))
+            && crate::is_side(usize::from(self.height()))
+            && self.are_settings()
     }
 }

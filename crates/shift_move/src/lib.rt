@@ -33,6 +33,7 @@ fn is_plain(codes: SettingCodes) -> bool
     codes == SettingCodes::not_recorded()
 }
 
+// A loop: by `all` over the records' numbers the proof did not close.
 fn are_plain(file: &ShiftFile) -> bool
     requires { file.now.form ≡ ShiftForm.WithSettings }
     ensures { result ≡ are_plain (records_in file.now.form file.now.bytes.now) }

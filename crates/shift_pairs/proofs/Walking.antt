@@ -12,7 +12,7 @@ use Rattle.merge_sort.specs.Ascending.{sorted, keys_from}
 use Rattle.shift_file.specs.File.{HasFile}
 use Rattle.crossing_keys.specs.declared.key.Key.{Key}
 use Rattle.crossing_keys.specs.Keys.{crossing_of, crossings_of, number_of}
-use Rattle.crossing_keys.proofs.Keyed.{sorted_long, keys_sorted, keys_below, its_crossing, its_place}
+use Rattle.crossing_keys.proofs.Keyed.{sorted_long, keys_sorted, keys_below, its_number}
 use Rattle.std.proofs.Common.{None}
 use Rattle.shift_pairs.specs.declared.PairReport.{PairReport}
 use Rattle.shift_pairs.specs.declared.Tally.{Tally}
@@ -127,28 +127,21 @@ module _ (f : Files) (a b : List ℕ) where
 
 -- ---- a step, by the keys of the code
 
-module _ (f : Files) (a b : List Key) (i j : ℕ) (t : Tally) (x y : Key) (inv : Walking f (map number_of a) (map number_of b) i j t)
-    (hi : i < length a) (hj : j < length b) (is_x : x ≡ get_or a i x) (is_y : y ≡ get_or b j y) where
-  within_a : i < length (map number_of a)
-  within_a = omega (arith, length-map a number_of, hi)
+within : (keys : List Key) (i : ℕ) → i < length keys → i < length (map number_of keys)
+within keys i h = omega (arith, length-map keys number_of, h)
 
-  within_b : j < length (map number_of b)
-  within_b = omega (arith, length-map b number_of, hj)
+module _ (f : Files) (a b : List Key) (i j : ℕ) (t : Tally) (d e : Key) (m n : ℕ) (inv : Walking f (map number_of a) (map number_of b) i j t)
+    (hi : i < length a) (hj : j < length b) (is_m : m ≡ (get_or a i d).0 / 4096) (is_n : n ≡ (get_or b j e).0 / 4096) where
+  pub next_ours : m < n → Walking f (map number_of a) (map number_of b) (i + 1) j t
+  next_ours h =
+      Walking-ours f _ _ i j t inv (within a i hi) (within b j hj) (omega (arith, is_m, is_n, its_number a i d hi, its_number b j e hj, h))
 
-  crossing_a : get_or (map number_of a) i 0 / 4096 ≡ x.crossing
-  crossing_a = its_crossing a i x hi ∙ sym (ap (λ (k : Key). k.crossing) is_x)
+  pub next_theirs : n < m → Walking f (map number_of a) (map number_of b) i (j + 1) t
+  next_theirs h =
+      Walking-theirs f _ _ i j t inv (within a i hi) (within b j hj) (omega (arith, is_m, is_n, its_number a i d hi, its_number b j e hj, h))
 
-  crossing_b : get_or (map number_of b) j 0 / 4096 ≡ y.crossing
-  crossing_b = its_crossing b j y hj ∙ sym (ap (λ (k : Key). k.crossing) is_y)
-
-  pub next_ours : x.crossing < y.crossing → Walking f (map number_of a) (map number_of b) (i + 1) j t
-  next_ours h = Walking-ours f _ _ i j t inv within_a within_b (omega (arith, crossing_a, crossing_b, h))
-
-  pub next_theirs : y.crossing < x.crossing → Walking f (map number_of a) (map number_of b) i (j + 1) t
-  next_theirs h = Walking-theirs f _ _ i j t inv within_a within_b (omega (arith, crossing_a, crossing_b, h))
-
-  pub next_both : x.crossing ≡ y.crossing → (t' : Tally) → OneMore f (record { ours = x.place; theirs = y.place }) t t'
-      → Walking f (map number_of a) (map number_of b) (i + 1) (j + 1) t'
-  next_both h t' more =
-      Walking-both f _ _ i j t inv within_a within_b (omega (arith, crossing_a, crossing_b, h)) x.place y.place
-      (ap (λ (k : Key). k.place) is_x ∙ sym (its_place a i x hi)) (ap (λ (k : Key). k.place) is_y ∙ sym (its_place b j y hj)) t' more
+  pub next_both : m ≡ n → (p q : ℕ) → p ≡ (get_or a i d).0 % 4096 → q ≡ (get_or b j e).0 % 4096 → (t' : Tally)
+      → OneMore f (record { ours = p; theirs = q }) t t' → Walking f (map number_of a) (map number_of b) (i + 1) (j + 1) t'
+  next_both h p q is_p is_q t' more =
+      Walking-both f _ _ i j t inv (within a i hi) (within b j hj) (omega (arith, is_m, is_n, its_number a i d hi, its_number b j e hj, h)) p q
+      (is_p ∙ ap (λ (k : ℕ). k % 4096) (sym (its_number a i d hi))) (is_q ∙ ap (λ (k : ℕ). k % 4096) (sym (its_number b j e hj))) t' more

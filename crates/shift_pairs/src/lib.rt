@@ -32,7 +32,7 @@ pub struct PairReport {
     pub first: Option<DifferingPair>,
 }
 
-// The one of the two files that is no shift file.
+// The one of the two files that is no shift file. It has no Display and no Error: it passes between crates, C is told its number, and nothing prints it.
 #[derive(Clone, Copy, Debug, PartialEq, Eq)]
 pub enum BrokenFile {
     Ours,
@@ -125,18 +125,14 @@ fn pair_keys(ours: &OrderedFile, theirs: &OrderedFile) -> PairReport
         }
         let x = a[i];
         let y = b[j];
-        if x.crossing < y.crossing {
+        let our_crossing = x.crossing();
+        let their_crossing = y.crossing();
+        if our_crossing < their_crossing {
             i += 1;
-        } else if y.crossing < x.crossing {
+        } else if their_crossing < our_crossing {
             j += 1;
         } else {
-            tally = with_pair(
-                tally,
-                &ours.file,
-                x.place as usize,
-                &theirs.file,
-                y.place as usize,
-            );
+            tally = with_pair(tally, &ours.file, x.place(), &theirs.file, y.place());
             i += 1;
             j += 1;
         }
@@ -164,14 +160,8 @@ pub fn pair_files(
     let ours = ShiftFile::open(our_form, ours).map_err(|_| BrokenFile::Ours)?;
     let theirs = ShiftFile::open(their_form, theirs).map_err(|_| BrokenFile::Theirs)?;
     // No heap is used, so the room for a key of each record of two whole files is on the stack.
-    let mut our_room = [Key {
-        crossing: 0,
-        place: 0,
-    }; 4096];
-    let mut their_room = [Key {
-        crossing: 0,
-        place: 0,
-    }; 4096];
+    let mut our_room = [Key(0); 4096];
+    let mut their_room = [Key(0); 4096];
     let ours = OrderedFile::sorted(&ours, &mut our_room);
     let theirs = OrderedFile::sorted(&theirs, &mut their_room);
     Ok(pair_keys(&ours, &theirs))

@@ -22,7 +22,7 @@ use Rattle.little_endian.proofs.Number.{length_low}
 use Rattle.shift_file.specs.declared.ShiftForm.{ShiftForm}
 use Rattle.shift_file.specs.declared.ShiftForm.TheVariants.{WithoutSettings, WithSettings}
 use Rattle.shift_file.specs.declared.SettingCodes.{SettingCodes}
-use Rattle.shift_file.specs.File.{Allowed, settings_size, header_size, is_code, codes_allowed, is_side, chroma_bytes, bytes_of}
+use Rattle.shift_file.specs.File.{Allowed, settings_size, header_size, is_code, code_list, codes_allowed, sampling_of, is_side, chroma_bytes, bytes_of}
 use Rattle.shift_file.proofs.Record.{both, side_bounds}
 use Rattle.shift_writer.specs.Output.{size_told}
 use Rattle.shift_writer.proofs.Pairs.{sets_four}
@@ -36,6 +36,15 @@ use Rattle.shift_record.proofs.Rows.{length-unpadded, Bytes-unpadded}
 pub length_codes : (form : ShiftForm) (c : SettingCodes) → length (codes_in form c) ≡ settings_size form
 length_codes WithoutSettings c = refl
 length_codes WithSettings c = refl
+
+-- a form without settings looks at no code
+pub allowed_in : (form : ShiftForm) (c : SettingCodes) → codes_allowed form (code_list c) ≡ codes_allowed form (codes_in form c)
+allowed_in WithoutSettings c = refl
+allowed_in WithSettings c = refl
+
+pub sampling_in : (form : ShiftForm) (c : SettingCodes) → sampling_of form (code_list c) ≡ sampling_of form (codes_in form c)
+sampling_in WithoutSettings c = refl
+sampling_in WithSettings c = refl
 
 code_byte : (n code : ℕ) → n ≤ 255 → is_code n code ≡ true → code < 256
 code_byte n code h e = go (ltb code n) refl e

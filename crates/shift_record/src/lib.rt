@@ -8,8 +8,7 @@ pub mod padded; // the rows of a plane
 ghost use Rattle.std.specs.Prelude.{◌≡◌};
 ghost use Rattle.yuv_error.specs.Numbers.{numbers_of};
 ghost use Rattle.yuv_error.specs.Rules.{first_numbers, planes_rules};
-ghost use Rattle.shift_file.specs.File.{codes_allowed};
-ghost use Rattle.shift_record.specs.Record.{settings_of, frame_sampling, y_lent, u_lent, v_lent, frame_allowed};
+ghost use Rattle.shift_record.specs.Record.{frame_sampling, y_lent, u_lent, v_lent, frame_allowed};
 ghost use Rattle.shift_record.specs.Record.{RecordPost};
 ghost use Rattle.shift_record.specs.Known.{IsFrame};
 
@@ -35,32 +34,21 @@ pub struct RecordFrame {
 
 impl RecordFrame {
     // The sampling of the planes.
+    #[tactic(auto, using(crate::proofs::Made::sampling_in))]
     fn sampling(self) -> YuvChromaSubsampling
         ensures { result ≡ frame_sampling self }
     {
-        match self.form {
-            ShiftForm::WithoutSettings => YuvChromaSubsampling::Yuv420,
-            ShiftForm::WithSettings => setting_codes::sampling_of(self.settings.sampling),
-        }
+        self.settings.sampling_in(self.form)
     }
 
-    // Whether the codes of the settings are allowed, in a form that has them.
-    fn are_settings(self) -> bool
-        ensures { result ≡ codes_allowed self.form (settings_of self) }
-    {
-        match self.form {
-            ShiftForm::WithoutSettings => true,
-            ShiftForm::WithSettings => self.settings.are_allowed(),
-        }
-    }
-
-    // Whether the sides and the settings are allowed.
+    // Whether the sides, and the settings in a form that has them, are allowed.
+    #[tactic(auto, using(crate::proofs::Made::allowed_in))]
     fn is_allowed(self) -> bool
         ensures { result ≡ frame_allowed self }
     {
-        (1..=16384).contains(&self.width)
-            && (1..=16384).contains(&self.height)
-            && self.are_settings()
+        shift_file::is_side(self.width as usize)
+            && shift_file::is_side(self.height as usize)
+            && self.settings.are_allowed_in(self.form)
     }
 
     // Refusals 8 to 12.

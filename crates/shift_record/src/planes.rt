@@ -84,7 +84,8 @@ impl<'a> FramePlanes<'a> {
         self.put_settings(output);
     }
 
-    // The record, at the front.
+    // The record, at the front. `put` of `y4m_picture` makes the same three rows, of another frame: one function for both would take sides, sampling,
+    // strides and planes one by one, and ask in its clauses what each of the two types carries, which is no plainer.
     #[tactic(auto, using(crate::proofs::Made::length_made))]
     pub fn put_record(&self, output: &mut [u8])
         requires { length (bytes_of (record_made self.now.frame self.now.y.now self.now.u.now self.now.v.now)) ≤ length output.old }

@@ -16,7 +16,7 @@ use Rattle.shift_file.specs.declared.ShiftForm.{ShiftForm}
 use Rattle.shift_file.specs.File.{ShiftRecord, records_at}
 use Rattle.crossing_keys.specs.declared.key.Key.{Key}
 use Rattle.crossing_keys.specs.Keys.{crossings_of, number_of}
-use Rattle.crossing_keys.proofs.Keyed.{its_place}
+use Rattle.crossing_keys.proofs.Keyed.{its_number}
 use Rattle.shift_summary.specs.Summary.{entries_of}
 use Rattle.shift_summary.specs.Built.{crossing_of, in_order}
 use Rattle.shift_summary.proofs.Entries.{crossings_from}
@@ -38,13 +38,13 @@ module _ (es : List SummaryEntry) (keys : List Key) where
   abbrev names : List ℕ
   names = map number_of keys
 
-  pub entry_more : (s s' : List ℕ) (i : ℕ) (d : Key) (e : SummaryEntry) → i < length keys → d ≡ get_or keys i d → e ≡ get_or es d.place no_entry
+  pub entry_more : (s s' : List ℕ) (i : ℕ) (d : Key) (e : SummaryEntry) → i < length keys → e ≡ get_or es ((get_or keys i d).0 % 4096) no_entry
       → s' ≡ sets s (13 * i) (entry_bytes e)
       → sets s' (13 * (i + 1)) (entries_bytes (by_keys no_entry (drop (i + 1) names) es)) ≡ sets s (13 * i) (entries_bytes (by_keys no_entry (drop i names) es))
   unfolding entries_bytes
-  entry_more s s' i d e h is ee es' =
+  entry_more s s' i d e h ee es' =
       let past : 13 * (i + 1) ≡ 13 * i + 13 = omega arith in
-      let named : e ≡ get_or es (get_or names i 0 % 4096) no_entry = ee ∙ ap (λ (n : ℕ). get_or es n no_entry) (ap (λ (k : Key). k.place) is ∙ sym (its_place keys i d h)) in
+      let named : e ≡ get_or es (get_or names i 0 % 4096) no_entry = ee ∙ ap (λ (n : ℕ). get_or es (n % 4096) no_entry) (sym (its_number keys i d h)) in
       let rest = entries_bytes (by_keys no_entry (drop (suc i) names) es) in
       rw (past, add-one, drop-cons names i 0 (omega (arith, length-map keys number_of, h)), es', ← named)
       (ap (λ (n : ℕ). sets (sets s (13 * i) (entry_bytes e)) (13 * i + n) rest) (sym (length_entry e)) ∙ sym (sets-append (entry_bytes e) rest s (13 * i)))

@@ -35,7 +35,8 @@ fn write_entries(ordered: &OrderedFile, summary: &mut [u8])
 {
     let keys = ordered.keys;
     for (i, key) in keys.iter().enumerate() {
-        let entry = entry_at(&ordered.file, key.place as usize);
+        let place = key.place();
+        let entry = entry_at(&ordered.file, place);
         summary_entry::write_entry(summary, ENTRY * i, entry);
     }
 }
@@ -46,10 +47,7 @@ pub fn write_summary(file: &ShiftFile, summary: &mut [u8])
     ensures { summary.new ≡ sets summary.old 0 (summary_of file.now.form (records_in file.now.form file.now.bytes.now)) }
 {
     // No heap is used, so the room for a key of each record of a whole file is on the stack.
-    let mut room = [Key {
-        crossing: 0,
-        place: 0,
-    }; 4096];
+    let mut room = [Key(0); 4096];
     let ordered = OrderedFile::sorted(file, &mut room);
     write_entries(&ordered, summary);
 }

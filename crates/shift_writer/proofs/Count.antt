@@ -7,6 +7,7 @@ use Rattle.std.specs.Prelude.{Some, None}
 use mathlib.Core.List.{List, [], ◌∷◌, ◌++◌}
 use native.Mathlib.Omega.{arith}
 use lib.Dec.{eqb}
+use Rattle.std.proofs.Math.Arith.{lt_of_le-ne}
 use lib.ListN.{length, drop, length-append, length-drop, drop_of_length-le}
 use lib.Seq.{drop-drop, drop_at}
 use borrow.Author.Tests.{eq-eqb, ne_eqb, eqb-true, eqb-false, leb-true, le-leb}
@@ -25,9 +26,6 @@ pub length_from : (form : ShiftForm) (b : List ℕ) (at n : ℕ) → length (rec
 unfolding records_from
 length_from form b at zero = refl
 length_from form b at (suc n) = ap suc (length_from form b (at + size_at form (drop at b)) n)
-
-lt_of_ne : (x y : ℕ) → x ≤ y → (x ≡ y → ⊥) → x < y
-lt_of_ne x y h e = omega arith
 
 -- ---- one step
 
@@ -88,7 +86,7 @@ module _ (form : ShiftForm) (b : List ℕ) (at k : ℕ) (c : Reached form b at k
 
   module _ (less : at ≡ length b → ⊥) where
     before : at < length b
-    before = lt_of_ne at (length b) c.inside less
+    before = lt_of_le-ne c.inside less
 
     pub count_at_none : size_standing form (drop at b) ≡ None → None ≡ count_back form b
     count_at_none e =
@@ -150,7 +148,7 @@ counted form b zero at hb ha h = go (eqb at (length b)) refl
   where
     go : (t : Bool) → eqb at (length b) ≡ t → Counted form b at (count_from form b at 0)
     go true e = let z = eqb-true at (length b) e in none_Counted form b at _ (omega arith) (count_end form b at 0 (omega arith) ha)
-    go false e = absurd (omega (arith, count_full form b at 0 refl (lt_of_ne at (length b) ha (eqb-false at (length b) e))))
+    go false e = absurd (omega (arith, count_full form b at 0 refl (lt_of_le-ne ha (eqb-false at (length b) e))))
 counted form b (suc n) at hb ha h =
     go (eqb at (length b)) refl (record_stands form (drop at b)) refl (λ s. counted form b n (at + size_at form (drop at b)) hb (stands_inside form b at ha s))
   where
@@ -159,9 +157,9 @@ counted form b (suc n) at hb ha h =
         → Counted form b (at + size_at form (drop at b)) (count_from form b (at + size_at form (drop at b)) n))
         → Counted form b at (count_from form b at (suc n))
     go true e u d later = let z = eqb-true at (length b) e in none_Counted form b at _ (omega arith) (count_end form b at (suc n) (omega arith) ha)
-    go false e false d later = absurd (omega (arith, count_none form b at (suc n) (lt_of_ne at (length b) ha (eqb-false at (length b) e)) d))
+    go false e false d later = absurd (omega (arith, count_none form b at (suc n) (lt_of_le-ne ha (eqb-false at (length b) e)) d))
     go false e true d later =
-        let q = count_more form b at (suc n) n refl (lt_of_ne at (length b) ha (eqb-false at (length b) e)) d in
+        let q = count_more form b at (suc n) n refl (lt_of_le-ne ha (eqb-false at (length b) e)) d in
         more_Counted form b at _ _ hb d q (later d (omega arith))
 
 -- the next record, and those after it

@@ -18,6 +18,7 @@ use shift_file::ShiftForm;
 use yuv_error::YuvError;
 
 // Why nothing was written: a refusal that tells no size, or an output that is shorter than what was to be written in it, with the size that is wanted.
+// It has no Display and no Error: it passes between crates, C is told its numbers, and nothing prints it.
 #[derive(Clone, Copy, Debug, PartialEq, Eq)]
 pub enum NotWritten {
     Refused(YuvError),

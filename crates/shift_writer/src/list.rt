@@ -30,10 +30,8 @@ impl<'a> RecordList<'a> {
         ensures accepted { OnOk result (are_records form bytes.now ≡ true) }
         ensures refused { IfErr result (λ e. (e ≡ YuvError.MalformedShiftFile) × (are_records form bytes.now ≡ false)) }
     {
-        match crate::count_records(form, bytes) {
-            Some(count) => Ok(RecordList { form, bytes, count }),
-            None => Err(YuvError::MalformedShiftFile),
-        }
+        let count = crate::count_records(form, bytes).ok_or(YuvError::MalformedShiftFile)?;
+        Ok(RecordList { form, bytes, count })
     }
 
     // The bytes of their file.

@@ -13,7 +13,7 @@ use std::{fmt, io};
 // How many calls that a signal interrupts are made again.
 const RETRIES: u32 = 1000;
 
-// A read or a write failed, when so many bytes were read or written.
+// A read or a write failed, when so many bytes were read or written. Nothing prints it: a program says its own `Failure`.
 #[derive(Debug, Drop)]
 pub struct Stopped {
     pub size: usize,
@@ -28,6 +28,11 @@ pub enum Failure {
 }
 
 impl fmt::Display for Failure {
+    ghost use Rattle.std.specs.Prelude.{Some};
+    ghost use Rattle.standard_streams.specs.Failures.{failure_text};
+
+    ghost output = { λ failure. Some (failure_text failure) };
+
     fn fmt<W: fmt::Write>(&self, f: &mut fmt::Formatter<W>) -> fmt::Result {
         match self {
             Failure::CannotRead => write!(f, "cannot read standard input"),
@@ -37,12 +42,6 @@ impl fmt::Display for Failure {
 }
 
 impl Error for Failure {}
-
-impl From<Stopped> for io::Error {
-    fn from(stopped: Stopped) -> io::Error {
-        stopped.error
-    }
-}
 
 // Reads to the end, or until the buffer is full, and answers how many bytes it read.
 pub fn read_input<R: Read>(reader: &mut R, buffer: &mut [u8]) -> Result<usize, Stopped>

@@ -1,5 +1,5 @@
 -- The test: what it shows, and how a loop takes it: the test from here on is the test from the start. Assumes nothing.
-use Prim.Native.Nat.{ℕ, ◌+◌, ◌*◌, ◌≤◌, ◌<◌}
+use Prim.Native.Nat.{ℕ, ◌+◌, ◌*◌, ◌%◌, ◌≤◌, ◌<◌}
 use mathlib.Core.Path.{◌≡◌, refl, ap, ap₂, ◌∙◌}
 use mathlib.Core.Bool.{Bool, true, false, ◌&&◌, and-eq-true_iff}
 use mathlib.Core.List.{List, [], ◌∷◌, map}
@@ -16,7 +16,7 @@ use Rattle.shift_file.specs.declared.ShiftForm.{ShiftForm}
 use Rattle.shift_file.specs.File.{ShiftRecord}
 use Rattle.crossing_keys.specs.declared.key.Key.{Key}
 use Rattle.crossing_keys.specs.Keys.{number_of}
-use Rattle.crossing_keys.proofs.Keyed.{its_place}
+use Rattle.crossing_keys.proofs.Keyed.{its_number}
 use Rattle.summary_check.specs.Check.{same_entries, are_entries, is_summary}
 
 -- ---- entries of the file
@@ -43,10 +43,10 @@ module _ (keys : List Key) (es fs : List SummaryEntry) (i : ℕ) where
   abbrev pub same_from : Bool
   same_from = same_entries (drop i es) (by_keys no_entry (drop i names) fs)
 
-  pub same_step : (d : Key) → d ≡ get_or keys i d → i < length keys → i < length es
-      → same_from ≡ (same_entry (get_or es i no_entry) (get_or fs d.place no_entry) && same_entries (drop (i + 1) es) (by_keys no_entry (drop (i + 1) names) fs))
+  pub same_step : (d : Key) → i < length keys → i < length es
+      → same_from ≡ (same_entry (get_or es i no_entry) (get_or fs ((get_or keys i d).0 % 4096) no_entry) && same_entries (drop (i + 1) es) (by_keys no_entry (drop (i + 1) names) fs))
   unfolding same_entries
-  same_step d is h k = rw (drop-cons names i 0 (omega (arith, length-map keys number_of, h)), drop-cons es i no_entry k, add-one, its_place keys i d h, ← is)
+  same_step d h m = rw (drop-cons names i 0 (omega (arith, length-map keys number_of, h)), drop-cons es i no_entry m, add-one, its_number keys i d h)
 
   pub same_done : length keys ≤ i → length es ≤ i → same_from ≡ true
   unfolding same_entries

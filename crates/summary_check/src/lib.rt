@@ -21,7 +21,8 @@ fn are_those(ordered: &OrderedFile, summary: &[u8]) -> bool
     // A `for` loop: by `all` the proof did not close, as the closure knows no bound of its place.
     for (i, key) in keys.iter().enumerate() {
         let entry = summary_entry::read_entry(summary, ENTRY * i);
-        let of_file = shift_summary::entry_at(&ordered.file, key.place as usize);
+        let place = key.place();
+        let of_file = shift_summary::entry_at(&ordered.file, place);
         if entry != of_file {
             return false;
         }
@@ -37,10 +38,7 @@ pub fn is_summary(file: &ShiftFile, summary: &[u8]) -> bool
         return false;
     }
     // No heap is used, so the room for a key of each record of a whole file is on the stack.
-    let mut room = [Key {
-        crossing: 0,
-        place: 0,
-    }; 4096];
+    let mut room = [Key(0); 4096];
     let ordered = OrderedFile::sorted(file, &mut room);
     are_those(&ordered, summary)
 }

@@ -16,22 +16,21 @@ fn tell_reading(reading: Result<Y4mReading, YuvError>, told: &mut [usize; 5]) ->
     ensures number { result ≡ (numbers_of (y4m_outcome reading)).number }
     ensures told { told.new ≡ y4m_told (y4m_reading_of reading) }
 {
-    match reading {
-        Ok(reading) => {
-            *told = [
-                reading.width,
-                reading.height,
-                reading.sampling as usize,
-                reading.count,
-                reading.told,
-            ];
-            0
-        }
-        Err(error) => {
-            *told = [0; 5];
-            error_numbers::error_numbers(error).number
-        }
-    }
+    let read = reading.unwrap_or(Y4mReading {
+        width: 0,
+        height: 0,
+        sampling: 0,
+        count: 0,
+        told: 0,
+    });
+    *told = [
+        read.width,
+        read.height,
+        read.sampling as usize,
+        read.count,
+        read.told,
+    ];
+    error_numbers::answer_numbers(reading.map(|_| ())).number
 }
 
 // What a file's header says and where its planes stand (0), or 19 where these bytes are no Y4M file, with nothing written. told: width, height, the

@@ -1,5 +1,6 @@
 // The planes of a picture that were checked, and the picture that is made of them (RULES 14.7). `FramePlanes` of `shift_record` is made of another frame
-// by other checks; what is alike, the rows of a plane, is `PaddedRows`.
+// by other checks; what is alike, the rows of a plane, is `PaddedRows`. One function that makes the three rows of both would take sides, sampling, strides
+// and planes one by one, and ask in its clauses what each of the two types carries, which is no plainer.
 ghost use Rattle.std.specs.Prelude.{◌≡◌, true, length};
 ghost use Rattle.y4m_picture.specs.Picture.{picture_allowed};
 

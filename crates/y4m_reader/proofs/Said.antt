@@ -1,7 +1,6 @@
 -- What the check tells of a file, by the file that is read. Assumes nothing.
 use Prim.Native.Nat.{ℕ, ◌≤◌}
-use mathlib.Core.Path.{◌≡◌, refl, sym, ◌∙◌}
-use mathlib.Core.Bool.{Bool, true, false}
+use mathlib.Core.Path.{◌≡◌, sym, ◌∙◌}
 use mathlib.Core.List.{List}
 use lib.ListN.{length}
 use Rattle.y4m_line.specs.declared.HeaderLine.{HeaderLine}
@@ -33,7 +32,3 @@ said {b} {h} {k} r = record {
   width_most = rw r.width (width_bound (header_of b));
   height_most = rw r.height (height_bound (header_of b));
 }
-
-pub not_read : (t : Bool) → (t ≡ true → ⊥) → t ≡ false
-not_read true h = absurd (h refl)
-not_read false h = refl

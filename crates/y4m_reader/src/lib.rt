@@ -132,9 +132,7 @@ fn tell_entries(file: &Y4mRead, first: usize, count: usize, entries: &mut [u64])
 pub fn read_pictures(file: &[u8], first: usize, entries: &mut [u64]) -> Result<Y4mReading, YuvError>
     ensures { ReadPost file.now first entries.old result entries.new }
 {
-    let Some(read) = Y4mRead::open(file) else {
-        return Err(YuvError::MalformedY4m);
-    };
+    let read = Y4mRead::open(file).ok_or(YuvError::MalformedY4m)?;
     let from = first.min(read.count);
     let told = (read.count - from).min(entries.len() / ENTRY);
     tell_entries(&read, from, told, entries);

@@ -5,7 +5,6 @@ mod planes; // planes that were checked
 
 ghost use Rattle.std.specs.Prelude.{◌≡◌, ◌++◌, ◌+◌, ◌≤◌, length};
 ghost use Rattle.std.proofs.lemmas.List.Edits.{sets};
-ghost use Rattle.shift_file.specs.File.{is_side};
 ghost use Rattle.y4m_writer.specs.Text.{decimal};
 ghost use Rattle.y4m_writer.specs.Pictures.{is_shape, can_write};
 ghost use Rattle.y4m_writer.specs.Known.{code_line, header_line};
@@ -19,7 +18,8 @@ use yuv_support::YuvChromaSubsampling;
 
 // ---- the header's line, piece by piece: each is put at the front, and its length told
 
-// The decimal of a value, at most so many digits. By hand: there is no heap, and std's writer into a slice does not say which bytes it leaves.
+// The decimal of a value, at most so many digits. By hand: there is no heap, and std's writer into a slice does not say which bytes it leaves. `counts_request` and
+// `frame_request` write other forms: one or two digits at a fixed place, and any size behind other text.
 fn put_decimal(digits: usize, value: usize, output: &mut [u8]) -> usize
     requires { digits ≤ length output.old }
     ensures output_after { output.new ≡ sets output.old 0 (decimal digits value) }
@@ -72,18 +72,13 @@ fn put_header(header: HeaderLine, output: &mut [u8; 64]) -> usize
 
 // ---- what may be written
 
-fn is_side(side: usize) -> bool
-    ensures { result ≡ is_side side }
-{
-    (1..=16384).contains(&side)
-}
-
 // Whether a code is that of a sampling, and sides are those of a picture. The code is C's, and no sampling yet: a `HeaderLine` is what passed this.
+// So code, width and height stay three numbers, as C lends them, here and in `can_write`, `write_pictures` and `WholePictures::open`.
 #[tactic(auto, unfolding(crate::specs::Pictures::is_shape))]
 pub fn is_shape(code: u32, width: usize, height: usize) -> bool
     ensures { result ≡ is_shape code width height }
 {
-    code < 2 && is_side(width) && is_side(height)
+    code < 2 && shift_file::is_side(width) && shift_file::is_side(height)
 }
 
 // Whether so many bytes are whole pictures of an allowed shape.
@@ -113,9 +108,9 @@ pub fn write_pictures(
     // A line has at most 42 bytes. It is made here, since there is no heap and it is measured before a byte is written.
     let mut line = [0; 64];
     let header = put_header(pictures.header, &mut line);
-    let Some(size) = pictures.file_size(header) else {
-        return Err(NotWritten::Refused(YuvError::OutputTooShort));
-    };
+    let size = pictures
+        .file_size(header)
+        .ok_or(NotWritten::Refused(YuvError::OutputTooShort))?;
     if output.len() < size {
         return Err(NotWritten::TooShort(size));
     }

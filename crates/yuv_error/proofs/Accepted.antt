@@ -1,10 +1,11 @@
 -- What a caller knows once no refusal was answered: no condition holds, so each bound does. Assumes nothing.
 use Prim.Native.Nat.{ℕ, ◌+◌, ◌*◌, ◌≤◌}
-use mathlib.Core.Bool.{Bool, true, false, cond, not, ◌||◌, true≢false}
+use mathlib.Core.Bool.{Bool, true, false, cond, not, ◌||◌}
 use mathlib.Core.List.{List, [], ◌∷◌}
 use mathlib.Core.Path.{◌≡◌, refl, sym, subst}
 use native.Mathlib.Omega.{arith}
 use lib.Dec.{T, ltb, eqb}
+use Rattle.std.proofs.lemmas.Bool.{or_parts}
 use borrow.Author.Tests.{ltb-false, eqb-true, eqb-false, not-false}
 use Rattle.yuv_support.specs.declared.YuvStandardMatrix.{YuvStandardMatrix}
 use Rattle.yuv_support.specs.Matrix.{accepted}
@@ -22,10 +23,6 @@ use Rattle.yuv_error.proofs.Lowest.{first_is_lowest}
 pub none_holds : (rs : List Rule) → in_order 0 rs ≡ true → (first_numbers rs).number ≡ 0 → NoneHolds rs
 none_holds rs up e = ((first_is_lowest rs (first_numbers rs) up).0 refl).finished.0 e
 
-pub neither : (a b : Bool) → a || b ≡ false → (a ≡ false) × (b ≡ false)
-neither true b h = absurd (true≢false h)
-neither false b h = (refl, h)
-
 -- a rule has this number
 abbrev pub is_said : ℕ → List Rule → Bool
 is_said n [] = false
@@ -34,7 +31,7 @@ is_said n (r ∷ rs) = eqb r.says.number n || is_said n rs
 -- a number that no rule has is not answered, unless it is finished work's
 pub never_said : (n : ℕ) (xs : List Rule) → is_said n xs ≡ false → eqb 0 n ≡ false → eqb (first_numbers xs).number n ≡ false
 never_said n [] h z = z
-never_said n (r ∷ xs) h z = let p = neither (eqb r.says.number n) (is_said n xs) h in step r.holds p.0 (never_said n xs p.1 z)
+never_said n (r ∷ xs) h z = let p = or_parts (eqb r.says.number n) (is_said n xs) h in step r.holds p.0 (never_said n xs p.1 z)
   where
     step : (b : Bool) → eqb r.says.number n ≡ false → eqb (first_numbers xs).number n ≡ false → eqb (cond b r.says (first_numbers xs)).number n ≡ false
     step true p q = p
@@ -42,7 +39,7 @@ never_said n (r ∷ xs) h z = let p = neither (eqb r.says.number n) (is_said n x
 
 -- where 4 does not hold
 pub is_accepted : (matrix : YuvStandardMatrix) (others : Bool) → not (accepted matrix) || others ≡ false → T (accepted matrix)
-is_accepted matrix others none = subst T (sym (not-false (accepted matrix) (neither (not (accepted matrix)) others none).0)) tt
+is_accepted matrix others none = subst T (sym (not-false (accepted matrix) (or_parts (not (accepted matrix)) others none).0)) tt
 
 -- ---- 2, 3, 4, 14
 
@@ -51,12 +48,12 @@ opened d e =
     let w = d.width in
     let h = d.height in
     let none = none_holds (opening_rules d) refl e in
-    let some = neither (eqb w 0) (eqb h 0) (neither (eqb w 0 || eqb h 0) false (none 2)).0 in
+    let some = or_parts (eqb w 0) (eqb h 0) (or_parts (eqb w 0 || eqb h 0) false (none 2)).0 in
     let o = d.window in
-    let large = neither (ltb 16384 w || ltb 16384 h) _ (none 3) in
-    let few = neither (ltb 16384 w) (ltb 16384 h) large.0 in
-    let few_source = neither (ltb 16384 o.source_width) (ltb 16384 o.source_height) (neither _ false large.1).0 in
-    let inside = neither (ltb o.source_width (o.left + w)) (ltb o.source_height (o.top + h)) (neither _ false (none 14)).0 in
+    let large = or_parts (ltb 16384 w || ltb 16384 h) _ (none 3) in
+    let few = or_parts (ltb 16384 w) (ltb 16384 h) large.0 in
+    let few_source = or_parts (ltb 16384 o.source_width) (ltb 16384 o.source_height) (or_parts _ false large.1).0 in
+    let inside = or_parts (ltb o.source_width (o.left + w)) (ltb o.source_height (o.top + h)) (or_parts _ false (none 14)).0 in
     record {
       width_least = omega (arith, eqb-false w 0 some.0);
       width_most = ltb-false _ _ few.0;
@@ -83,27 +80,27 @@ pub record AcceptedBuffers (source y u v : LentBuffer) : Type 0 where
 accepted_buffers : (source y u v : LentBuffer) → (first_numbers (buffer_rules source y u v)).number ≡ 0 → AcceptedBuffers source y u v
 accepted_buffers source y u v e =
     let none = none_holds (buffer_rules source y u v) refl e in
-    let s12 = neither (not_whole source) _ (none 12) in
-    let y12 = neither (not_whole y) _ s12.1 in
-    let u12 = neither (not_whole u) _ y12.1 in
-    let v12 = neither (not_whole v) _ u12.1 in
+    let s12 = or_parts (not_whole source) _ (none 12) in
+    let y12 = or_parts (not_whole y) _ s12.1 in
+    let u12 = or_parts (not_whole u) _ y12.1 in
+    let v12 = or_parts (not_whole v) _ u12.1 in
     record {
-      source_rows = whole_rows source (neither (too_narrow source) _ (none 7)).0 s12.0;
-      y_rows = whole_rows y (neither (too_narrow y) _ (none 8)).0 y12.0;
-      u_rows = whole_rows u (neither (too_narrow u) _ (none 10)).0 u12.0;
-      v_rows = whole_rows v (neither (too_narrow v) _ (none 11)).0 v12.0;
+      source_rows = whole_rows source (or_parts (too_narrow source) _ (none 7)).0 s12.0;
+      y_rows = whole_rows y (or_parts (too_narrow y) _ (none 8)).0 y12.0;
+      u_rows = whole_rows u (or_parts (too_narrow u) _ (none 10)).0 u12.0;
+      v_rows = whole_rows v (or_parts (too_narrow v) _ (none 11)).0 v12.0;
     }
 
 -- planes alone
 pub accepted_planes : (y u v : LentBuffer) → (first_numbers (planes_rules y u v)).number ≡ 0 → WholeRows y × WholeRows u × WholeRows v
 accepted_planes y u v e =
     let none = none_holds (planes_rules y u v) refl e in
-    let y12 = neither (not_whole y) _ (none 12) in
-    let u12 = neither (not_whole u) _ y12.1 in
-    let v12 = neither (not_whole v) _ u12.1 in (
-      whole_rows y (neither (too_narrow y) _ (none 8)).0 y12.0,
-      whole_rows u (neither (too_narrow u) _ (none 10)).0 u12.0,
-      whole_rows v (neither (too_narrow v) _ (none 11)).0 v12.0,
+    let y12 = or_parts (not_whole y) _ (none 12) in
+    let u12 = or_parts (not_whole u) _ y12.1 in
+    let v12 = or_parts (not_whole v) _ u12.1 in (
+      whole_rows y (or_parts (too_narrow y) _ (none 8)).0 y12.0,
+      whole_rows u (or_parts (too_narrow u) _ (none 10)).0 u12.0,
+      whole_rows v (or_parts (too_narrow v) _ (none 11)).0 v12.0,
     )
 
 -- the source of so many rows, and the planes

@@ -6,3 +6,4 @@ pub mod Lowest
 pub mod Lent
 pub mod Known
 pub mod Checks
+pub mod Texts

@@ -55,12 +55,22 @@ pub enum YuvError {
 }
 
 impl fmt::Display for MismatchedSize {
+    ghost use Rattle.std.specs.Prelude.{Some};
+    ghost use Rattle.yuv_error.specs.Texts.{size_text};
+
+    ghost output = { λ size. Some (size_text size) };
+
     fn fmt<W: fmt::Write>(&self, f: &mut fmt::Formatter<W>) -> fmt::Result {
         write!(f, "expected {}, received {}", self.expected, self.received)
     }
 }
 
 impl fmt::Display for YuvError {
+    ghost use Rattle.std.specs.Prelude.{Some};
+    ghost use Rattle.yuv_error.specs.Texts.{error_text};
+
+    ghost output = { λ error. Some (error_text error) };
+
     fn fmt<W: fmt::Write>(&self, f: &mut fmt::Formatter<W>) -> fmt::Result {
         match self {
             YuvError::MalformedRequest => write!(
@@ -271,7 +281,7 @@ pub fn check_matrix(matrix: YuvStandardMatrix) -> Result<(), YuvError>
     }
 }
 
-// Where so many columns or rows end; the sum of two u32 needs 33 bits.
+// Where so many columns or rows end; the sum of two u32 needs 33 bits. A `checked_add` would answer an `Option`, though 64 bits hold every such sum.
 fn end_of(start: u32, size: u32) -> u64
     ensures { result ≡ start + size }
 {

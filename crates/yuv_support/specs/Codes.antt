@@ -1,6 +1,6 @@
 -- What each code means: docs/RULES.md, 1.2.
 -- Assumes nothing.
-use Rattle.std.specs.Prelude.{◌≡◌, ℕ, ◌<◌, ◌≤◌, List, [], ◌∷◌, length, get_or, Result, MatchResult}
+use Rattle.std.specs.Prelude.{◌≡◌, ℕ, ◌<◌, ◌≤◌, List, [], ◌∷◌, ◌++◌, length, get_or, codes, decimal, Result, MatchResult}
 use Rattle.yuv_support.specs.declared.YuvSourceChannels.{YuvSourceChannels}
 use Rattle.yuv_support.specs.declared.YuvSourceChannels.TheVariants.{Rgb, Rgba, Bgra, Bgr}
 use Rattle.yuv_support.specs.declared.YuvChromaSubsampling.{YuvChromaSubsampling}
@@ -65,3 +65,7 @@ matrix_code Smpte240 = 3
 matrix_code Bt470_6 = 4
 matrix_code Fcc = 5
 matrix_code (Custom kr kb) = custom_code
+
+-- what is shown of a number that is no code
+abbrev pub unknown_text : ℕ → List ℕ
+unknown_text code = codes "no setting has code " ++ decimal code

@@ -1,4 +1,5 @@
-// The codes of the settings: each setting from its code, and the code of each setting. A code without a meaning is an error.
+// The codes of the settings: each setting from its code, and the code of each setting. A code without a meaning is an error. Each `try_from`, the two of
+// crate `sharp_gamma` too, lists its own codes, as RULES 1.2 does: one function over lists of settings would say a code only by its place in a list.
 
 ghost use Rattle.std.specs.Prelude.{◌≡◌};
 

@@ -189,6 +189,11 @@ fn in_half(k: f32) -> bool
 pub struct UnknownCode(pub u32);
 
 impl fmt::Display for UnknownCode {
+    ghost use Rattle.std.specs.Prelude.{Some};
+    ghost use Rattle.yuv_support.specs.Codes.{unknown_text};
+
+    ghost output = { λ unknown. Some (unknown_text unknown.0) };
+
     fn fmt<W: fmt::Write>(&self, f: &mut fmt::Formatter<W>) -> fmt::Result {
         write!(f, "no setting has code {}", self.0)
     }

@@ -1,8 +1,8 @@
 -- `serve_band` meets its contract: the band call where every part lies in its buffer, else 18.
 -- Assumes nothing.
-use Rattle.std.proofs.Common.{rules, ◌≡◌, true, false}
+use Rattle.std.proofs.Common.{rules, ◌≡◌, true}
 use Rattle.desk_bands.specs.Buffers.{Buffers, buffers_of, are_lent}
-use Rattle.desk_bands.proofs.Parts.{all_inside, serve_lent, serve_outside}
+use Rattle.desk_bands.proofs.Parts.{all_inside}
 use Rattle.desk_bands.proofs.serve_band.Goals as goal
 
 pub band_in_parts-requires : goal.band_in_parts-requires

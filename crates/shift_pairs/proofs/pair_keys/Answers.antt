@@ -19,18 +19,20 @@ pairs_few c =
 pub loop-i-init : goal.loop-i-init
 loop-i-init c = (search rules, search rules, Walking-none _ _ _)
 
-pub loop-i-preserved-then-x-y : goal.loop-i-preserved-then-x-y
-loop-i-preserved-then-x-y c = (
+pub loop-i-preserved-then-our_crossing-their_crossing : goal.loop-i-preserved-then-our_crossing-their_crossing
+loop-i-preserved-then-our_crossing-their_crossing c = (
   search rules,
   search rules,
-  next_ours _ _ _ c.loop-i.i c.loop-i.j c.loop-i.tally _ _ c.loop-i.invariant.2 (omega arith) (omega arith) c.index-a-i.is c.index-b-j.is c.if-x-y.true,
+  next_ours _ _ _ c.loop-i.i c.loop-i.j c.loop-i.tally _ _ _ _ c.loop-i.invariant.2 (omega arith) (omega arith) c.crossing-our_crossing.ensures
+      c.crossing-their_crossing.ensures c.if-our_crossing-their_crossing.true,
 )
 
-pub loop-i-preserved-then-y-x : goal.loop-i-preserved-then-y-x
-loop-i-preserved-then-y-x c = (
+pub loop-i-preserved-then-their_crossing-our_crossing : goal.loop-i-preserved-then-their_crossing-our_crossing
+loop-i-preserved-then-their_crossing-our_crossing c = (
   search rules,
   search rules,
-  next_theirs _ _ _ c.loop-i.i c.loop-i.j c.loop-i.tally _ _ c.loop-i.invariant.2 (omega arith) (omega arith) c.index-a-i.is c.index-b-j.is c.if-y-x.true,
+  next_theirs _ _ _ c.loop-i.i c.loop-i.j c.loop-i.tally _ _ _ _ c.loop-i.invariant.2 (omega arith) (omega arith) c.crossing-our_crossing.ensures
+      c.crossing-their_crossing.ensures c.if-their_crossing-our_crossing.true,
 )
 
 pub with_pair-tally-requires-clause-few_pairs : goal.with_pair-tally-requires-clause-few_pairs
@@ -41,7 +43,8 @@ pub loop-i-preserved : goal.loop-i-preserved
 loop-i-preserved c = (
   search rules,
   search rules,
-  next_both _ _ _ c.loop-i.i c.loop-i.j c.loop-i.tally _ _ c.loop-i.invariant.2 (omega arith) (omega arith) c.index-a-i.is c.index-b-j.is (omega arith) _ c.with_pair-tally.ensures,
+  next_both _ _ _ c.loop-i.i c.loop-i.j c.loop-i.tally _ _ _ _ c.loop-i.invariant.2 (omega arith) (omega arith) c.crossing-our_crossing.ensures
+      c.crossing-their_crossing.ensures (omega arith) _ _ c.place.ensures c.place-else-their_crossing-our_crossing.ensures _ c.with_pair-tally.ensures,
 )
 
 pub overflow_add-pairs : goal.overflow_add-pairs

@@ -1,8 +1,8 @@
 -- The invariant: the entries that are left to write complete the whole. Each key names a record. Assumes nothing.
-use Rattle.std.proofs.Common.{arith, sym, ap, ◌∙◌, List}
+use Rattle.std.proofs.Common.{arith, sym, ap, ◌∙◌, ℕ, List, get_or}
 use lib.Seq.{sets}
 use Rattle.summary_entry.specs.declared.SummaryEntry.{SummaryEntry}
-use Rattle.summary_entry.specs.Entry.{entries_bytes}
+use Rattle.summary_entry.specs.Entry.{entries_bytes, no_entry}
 use Rattle.shift_file.specs.Read.{records_in}
 use Rattle.shift_summary.specs.Summary.{entries_of}
 use Rattle.shift_summary.proofs.Loops.{ordered_entries, entry_more, entries_done}
@@ -11,8 +11,9 @@ use Rattle.shift_summary.proofs.write_entries.Goals as goal
 pub loop-i-preserved : goal.loop-i-preserved
 loop-i-preserved c =
     let o = c.args.ordered.now in
-    entry_more (entries_of o.file.form (records_in o.file.form o.file.bytes.now)) o.keys.now c.loop-i.summary _ c.loop-i.i c.index-keys-i.result _ (omega arith)
-    c.index-keys-i.is c.entry_at-entry.ensures c.write_entry.ensures
+    let es = entries_of o.file.form (records_in o.file.form o.file.bytes.now) in
+    entry_more es o.keys.now c.loop-i.summary _ c.loop-i.i _ _ (omega arith)
+    (c.entry_at-entry.ensures ∙ ap (λ (n : ℕ). get_or es n no_entry) c.place-place.ensures) c.write_entry.ensures
     ∙ c.loop-i.invariant
 
 pub returns : goal.returns

@@ -21,7 +21,8 @@ pub put-requires : goal.put-requires
 put-requires c =
     let p = c.in_ok-pictures.pictures in
     let long = ap length (line (goal.at.put-requires c).After-put_header-header) in
-    omega (arith, long, planes_parts p, c.in-Some.ensures.fits)
+    let fits = rw c.in_ok-size.ensures.ok_part at c.file_size.ensures.fits in
+    omega (arith, long, planes_parts p, fits)
 
 pub returns-in_err-pictures : goal.returns-in_err-pictures
 returns-in_err-pictures c =
@@ -36,11 +37,12 @@ returns c =
     let l = line (goal.at.returns c).After-put_header-header in
     let file = file_made c.args.code c.args.width c.args.height c.args.pictures.now in
     let same : file_in p.header p.bytes.now ≡ file = rw (s.0, s.1, s.2, s.3) in
-    let size : c.in-Some.size ≡ length file = c.in-Some.ensures.fits ∙ ap length same in
+    let in_file = rw c.in_ok-size.ensures.ok_part at c.file_size.ensures.fits in
+    let size : c.in_ok-size.size ≡ length file = in_file ∙ ap length same in
     let put =
     behind c.args.output.now c.put.new.output _ (header_line p.header) (frames_in p.header p.bytes.now) _ _ (c.put.ensures ∙ rw l) c.put_header-header.ensures.value.0
-    (omega (arith, c.put_header-header.ensures.value, planes_parts p, c.in-Some.ensures.fits, c.put.auto.output))
-    (omega (arith, c.put_header-header.ensures.value, planes_parts p, c.in-Some.ensures.fits, c.put.auto.output)) c.put-2.ensures in
+    (omega (arith, c.put_header-header.ensures.value, planes_parts p, in_file, c.put.auto.output))
+    (omega (arith, c.put_header-header.ensures.value, planes_parts p, in_file, c.put.auto.output)) c.put-2.ensures in
     record {
       answered = rw (c.in_ok-pictures.ensures.accepted, le-ltb (length c.args.output.now) (length file) (omega (arith, size)));
       size = size ∙ sym (fits (length file) (omega (arith, size)));

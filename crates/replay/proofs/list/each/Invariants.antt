@@ -1,5 +1,4 @@
 -- The calls of the numbers so far were made, one after the other.
-use Rattle.std.proofs.Common.{ℕ}
 use denote.Param.Always.{always_mut}
 use Rattle.std.specs.List.{FoldsTo, range_with_len}
 use Rattle.replay.specs.Calls.{CallsAt}

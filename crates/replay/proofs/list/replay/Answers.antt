@@ -19,6 +19,6 @@ on_ok (Err e) p = tt
 
 pub returns : goal.returns
 returns g c =
-    let all : c.loop-place.place ≡ c.in_ok-count.count = omega arith in
+    let all : c.loop-place.place ≡ c.number-count.result = omega arith in
     on_ok c.flush.result
-    (c.in_ok-count.count, c.number.new.self, c.loop-place.call, c.loop-place.out, c.in_ok-count.ensures, rw (← all) c.loop-place.invariant.1, c.flush.ensures.bytes)
+    (c.number-count.new.self, c.loop-place.call, c.loop-place.out, c.number-count.ensures.1, rw (← c.number-count.ensures.0, ← all) c.loop-place.invariant.1, c.flush.ensures.bytes)

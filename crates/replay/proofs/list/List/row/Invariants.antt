@@ -1,5 +1,5 @@
 -- The places below the loop's index hold what the calls so far gave, in order.
-use Rattle.std.proofs.Common.{◌≡◌, ◌≤◌, length, take}
+use Rattle.std.proofs.Common.{take}
 use denote.Param.Always.{always_mut}
 use Rattle.std.specs.List.{FoldsTo}
 use Rattle.replay.specs.Calls.{Gives}

@@ -1,0 +1,2 @@
+-- A reply to what was read.
+pub mod Replied
