@@ -2,7 +2,7 @@
 -- Assumes nothing.
 use Prim.Native.Nat.{ℕ, ◌+◌, ◌*◌, ◌-◌, ◌%◌, ◌≤◌, ◌<◌}
 use mathlib.Core.Path.{◌≡◌, refl, ap, subst⁻¹}
-use native.Mathlib.Nat.{le_refl, mul_comm}
+use native.Mathlib.Nat.{mul_comm}
 use native.Mathlib.Omega.{arith}
 use Rattle.yuv_support.specs.declared.YuvChromaSubsampling.{YuvChromaSubsampling}
 use Rattle.yuv_support.specs.declared.YuvChromaSubsampling.TheVariants.{Yuv420, Yuv422}
@@ -26,10 +26,6 @@ plane_place stride n rows k at length wide size inside place = record {
 chroma_row_inside : (s : YuvChromaSubsampling) (h row : ℕ) → row < h → chroma_row s row < chroma_height s h
 chroma_row_inside Yuv420 h row l = omega arith
 chroma_row_inside Yuv422 h row l = l
-
-pub chroma_row_most : (s : YuvChromaSubsampling) (row : ℕ) → chroma_row s row ≤ row
-chroma_row_most Yuv420 row = omega arith
-chroma_row_most Yuv422 row = le_refl row
 
 -- a step's row
 pub row_is : (b : Band) {row : ℕ} {s : Step} → s ≡ step_of b row → s.row ≡ row

@@ -11,15 +11,15 @@ use Rattle.yuv_support.specs.declared.YuvChromaSubsampling.{YuvChromaSubsampling
 use Rattle.yuv_support.specs.declared.YuvChromaSubsampling.TheVariants.{Yuv420, Yuv422}
 use Rattle.definitions.specs.declared.FrameDescription.{FrameDescription}
 use Rattle.definitions.specs.Row.{Pixels, pixels_of, luma_row, cb_row, cr_row, input420, input422}
-use Rattle.definitions.specs.Image.{Image, row_size, row_start, chroma_size, luma_at, cb_at, cr_at, chroma_input, finished_by, finished_of}
+use Rattle.definitions.specs.Image.{Image, row_start, chroma_size, luma_at, cb_at, cr_at, chroma_input, finished_by, finished_of}
 use Rattle.definitions.specs.Painted.{Painted}
 use Rattle.definitions.specs.Bands.{band_image, Sharpened}
 use Rattle.definitions.proofs.Planes.{plane_none, plane_between}
 use Rattle.definitions.proofs.Finished.{finished_all, finished_some, finished?}
 use Rattle.definitions.proofs.Bands.{band_own_rows}
 use Rattle.definitions.proofs.Windows.{own_row}
-use Rattle.definitions.proofs.Numbers.{next_row, three_or_four}
-use Rattle.pixel_pairs.specs.Rows.{RowOf, ChromaRoom, TwoPainted, ChromaWritten}
+use Rattle.definitions.proofs.Numbers.{next_row}
+use Rattle.pixel_pairs.specs.Rows.{ChromaRoom, TwoPainted, ChromaWritten}
 use Rattle.definitions.specs.declared.Band.{Band}
 use Rattle.band_steps.specs.declared.Step.{Step}
 use Rattle.band_steps.specs.Steps.{chroma_of, SourceAt, PlaneAt, YAt, ChromaAt, PairAt, Sees, LumaIs, ChromaIs}
@@ -36,12 +36,6 @@ pub part_long : (at n m : ℕ) (l : List ℕ) → at + n ≤ length l → m ≤ 
 part_long at n m l room fits = simp (length-take, length-drop) (omega (arith, room, fits))
 
 -- the parts that a step lends
-pub source_row : {count : ℕ} (b : Band) {s : Step} (source : List ℕ) → SourceAt count b s (length source) → RowOf b.frame count (part s.source s.size source)
-source_row b {s} source at = rw at.pixel (record {
-  wide = (three_or_four b.frame.settings.channels).0;
-  size = part_long s.source s.size (row_size b.frame) source at.room (omega (arith, at.size));
-})
-
 pub chroma_room : (b : Band) {s : Step} (u v : List ℕ) → ChromaAt b s (length u) (length v)
     → ChromaRoom b.frame (part s.u s.chroma u) (part s.v s.chroma v)
 chroma_room b {s} u v at = record {

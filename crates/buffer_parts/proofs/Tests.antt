@@ -2,19 +2,14 @@
 -- Assumes nothing.
 use Prim.Native.Nat.{ℕ, ◌+◌, ◌-◌, ◌≤◌, ◌<◌, min, max}
 use lib.Dec.{ltb}
-use mathlib.Core.Path.{◌≡◌, refl, sym, ◌∙◌}
-use mathlib.Core.Bool.{Bool, true, false, ◌&&◌, true≢false}
+use mathlib.Core.Path.{◌≡◌, sym, ◌∙◌}
+use mathlib.Core.Bool.{true, false, ◌&&◌, true≢false}
 use native.Mathlib.Omega.{arith}
 use borrow.Author.Tests.{ltb-true, leb-true, lt-ltb, le-leb}
 use Rattle.std.proofs.lemmas.Bool.{and_parts}
+use Rattle.std.specs.Cmp.Derive.{one_truth}
 use Rattle.buffer_parts.specs.declared.BufferPart.{BufferPart}
 use Rattle.buffer_parts.specs.Parts.{Inside, Overlap, is_inside, are_overlapping, TestsAreExact}
-
--- two tests are equal where each says yes only where the other does
-pub same_test : (x y : Bool) → (x ≡ true → y ≡ true) → (y ≡ true → x ≡ true) → x ≡ y
-same_test true y f g = sym (f refl)
-same_test false true f g = g refl
-same_test false false f g = refl
 
 pub Inside-yes : (p : BufferPart) (n : ℕ) → is_inside p n ≡ true → Inside p n
 Inside-yes p n e = leb-true (p.offset + p.length) n e
@@ -42,14 +37,14 @@ tests_are_exact = record {
 pub later_starts : (a b : BufferPart) → a.offset ≤ b.offset
     → (ltb (b.offset - a.offset) a.length && ltb 0 b.length) ≡ are_overlapping a b
 later_starts a b l =
-    same_test (ltb (b.offset - a.offset) a.length && ltb 0 b.length) (are_overlapping a b)
+    one_truth (ltb (b.offset - a.offset) a.length && ltb 0 b.length) (are_overlapping a b)
     (λ e. let z = and_parts (ltb (b.offset - a.offset) a.length) (ltb 0 b.length) e in
     lt-ltb (max a.offset b.offset) (min (a.offset + a.length) (b.offset + b.length))
     (omega (arith, ltb-true (b.offset - a.offset) a.length z.0, ltb-true 0 b.length z.1)))
     (λ e. let s = overlap_starts a b e in rw (lt-ltb (b.offset - a.offset) a.length (omega arith), lt-ltb 0 b.length (omega arith)))
 
 pub overlap_either_way : (a b : BufferPart) → are_overlapping a b ≡ are_overlapping b a
-overlap_either_way a b = same_test (are_overlapping a b) (are_overlapping b a)
+overlap_either_way a b = one_truth (are_overlapping a b) (are_overlapping b a)
     (λ e. let o = Overlap-yes a b e in Overlap-found b a (o.0, (o.1.1, o.1.0)))
     (λ e. let o = Overlap-yes b a e in Overlap-found a b (o.0, (o.1.1, o.1.0)))
 

@@ -21,9 +21,6 @@ all_written [] (x ∷ l) e = absurd (omega arith)
 all_written (y ∷ ys) [] e = absurd (omega arith)
 all_written (y ∷ ys) (x ∷ l) e = behind 0 ys y l ∙ ap (λ (z : List ℕ). y ∷ z) (all_written ys l (omega arith))
 
-pub one_told : (l : List ℕ) (a : ℕ) → length l ≡ 1 → set l 0 a ≡ a ∷ []
-one_told l a e = all_written (a ∷ []) l e
-
 pub two_told : (l : List ℕ) (a b : ℕ) → length l ≡ 2 → set (set l 0 a) 1 b ≡ a ∷ b ∷ []
 two_told l a b e = all_written (a ∷ b ∷ []) l e
 

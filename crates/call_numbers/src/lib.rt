@@ -68,7 +68,8 @@ pub fn is_malformed(before: usize, numbers: &[u32]) -> bool
     true
 }
 
-// Whether there are not two numbers, or a range or matrix has no meaning.
+// Whether there are not two numbers, or a range or matrix has no meaning. A test of numbers: code 6 is a matrix only by the kr and kb that stand beside the
+// numbers, so no `TryFrom` of a code reads it.
 #[tactic(auto, unfolding(crate::specs::Codes::is_malformed_range_and_matrix))]
 pub fn is_malformed_range_and_matrix(numbers: &[u32]) -> bool
     ensures { result ≡ is_malformed_range_and_matrix numbers.now }

@@ -4,6 +4,7 @@ use Prim.Native.Nat.{ℕ, zero, suc, ◌+◌, ◌≤◌, ◌<◌}
 use mathlib.Core.Path.{◌≡◌, refl, sym, ap, ◌∙◌}
 use mathlib.Core.List.{List}
 use native.Mathlib.Omega.{arith}
+use native.Mathlib.Numerals.{add-one}
 use borrow.Author.Tests.{eq-eqb, ne_eqb}
 use lib.ListN.{length, get_or, set, length-set}
 use lib.Seq.{get_or-set_same, get_or-set_other}
@@ -48,10 +49,7 @@ pub counted : {m n : ℕ} (f : ℕ → ℕ) {before l : List ℕ} → f n < m �
 counted {m} {n} f {before} {l} inside long p =
     painted (length-set l (f n) _ ∙ p.size) new (λ k h. get_or-set_other l (f n) k _ 0 (omega arith) ∙ Painted-other p k h)
   where
-    next : n + 1 ≡ suc n
-    next = omega arith
-
     new : (y : ℕ) → y < m → get_or (set l (f n) (get_or l (f n) 0 + 1)) y 0 ≡ count_below f (n + 1) y
-    new y h = rw next (equal? (f n) y
+    new y h = rw (add-one n) (equal? (f n) y
         (λ e. rw e (get_or-set_same l y (get_or l y 0 + 1) 0 (omega arith) ∙ ap (λ (k : ℕ). k + 1) (Painted-at p y h) ∙ sym (count_one f n y e)))
         (λ e. get_or-set_other l (f n) y _ 0 (λ h. e (sym h)) ∙ Painted-at p y h ∙ sym (count_other f n y e)))

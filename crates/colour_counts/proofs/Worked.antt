@@ -3,6 +3,7 @@
 -- Assumes nothing.
 use Prim.Native.Nat.{ℕ, zero, suc, ◌+◌, ◌*◌, ◌-◌, ◌/◌, ◌%◌, ◌≤◌, ◌<◌}
 use mathlib.Core.Path.{◌≡◌, refl, sym, ap, ◌∙◌}
+use native.Mathlib.Nat.{add-zero}
 use native.Mathlib.Omega.{arith}
 use lib.Dec.{lit<}
 use Rattle.yuv_support.specs.declared.YuvRange.TheVariants.{Full}
@@ -18,10 +19,7 @@ use Rattle.colour_counts.proofs.Weights.{read_back, weighs}
 -- a run of numbers that are y, and one of numbers that are not
 module _ (f : ℕ → ℕ) (y m : ℕ) where
   run_of : (n : ℕ) → ((c : ℕ) → m ≤ c → c < m + n → f c ≡ y) → count_below f (m + n) y ≡ count_below f m y + n
-  run_of zero same = rw (plus_zero m) (omega arith)
-    where
-      plus_zero : (m : ℕ) → m + 0 ≡ m
-      plus_zero m = omega arith
+  run_of zero same = rw (add-zero m) (omega arith)
   run_of (suc n) same =
       let next : m + suc n ≡ suc (m + n) = omega arith in
       rw next (count_one f (m + n) y (same (m + n) (omega arith) (omega arith)) ∙ omega (arith, run_of n (λ c l h. same c l (omega arith))))

@@ -9,6 +9,7 @@ use native.Mathlib.Omega.{arith}
 use borrow.Author.Tests.{lt-ltb, le-ltb, eqb-false}
 use lib.Dec.{ltb}
 use lib.ListN.{length, get_or}
+use Rattle.std.proofs.lemmas.List.{nil_from_length}
 use Rattle.yuv_error.specs.declared.YuvError.{YuvError}
 use Rattle.yuv_error.specs.declared.Lengths.{Lengths}
 use Rattle.yuv_error.specs.Lent.{lengths_of}
@@ -213,13 +214,9 @@ no_frames k post e =
       x.0,
       x.1 ∙ e,
       run_none k.source k.convoy k.before k.result.answer k.result.done k.after
-          (post.run (not_broken k post whole)) (none k.convoy e),
+          (post.run (not_broken k post whole)) (nil_from_length k.convoy e),
     )
   where
-    none : (fs : List ConvoyFrame) → length fs ≡ 0 → fs ≡ []
-    none [] z = refl
-    none (f ∷ fs) z = absurd (omega arith)
-
     whole : Broken k.convoy (lengths_of k.source k.before.y k.before.u k.before.v) → ⊥
     whole (too_many l) = omega arith
     whole (outside j l x) = omega arith

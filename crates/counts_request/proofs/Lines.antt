@@ -7,7 +7,7 @@ use native.Mathlib.Numerals.{add-one}
 use native.Mathlib.Omega.{arith}
 use lib.ListN.{length, length-append}
 use Rattle.counts_request.specs.Reply.{decimal, line, lines}
-use Rattle.counts_request.proofs.Decimal.{decimal_size}
+use Rattle.counts_request.proofs.Decimal.{decimal_3, decimal_8}
 
 pub length_of_line : (y n : ℕ) → length (line y n) ≡ length (decimal y) + length (decimal n) + 2
 unfolding line
@@ -15,7 +15,7 @@ length_of_line y n = simp length-append (omega arith)
 
 -- 3 digits, a space, 8 digits, a newline
 pub line_size : (y n : ℕ) → y < 1000 → n < 100000000 → length (line y n) ≤ 13
-line_size y n p q = omega (arith, length_of_line y n, decimal_size 2 y p, decimal_size 7 n q)
+line_size y n p q = omega (arith, length_of_line y n, decimal_3 y p, decimal_8 n q)
 
 pub lines_like : (f g : ℕ → ℕ) (n : ℕ) → ((y : ℕ) → y < n → f y ≡ g y) → lines f n ≡ lines g n
 unfolding lines

@@ -1,12 +1,12 @@
 -- Laws of putting a text into a list: one byte, a text behind another, and a text at the start.
 -- Assumes nothing.
-use Prim.Native.Nat.{ℕ, ◌≤◌}
+use Prim.Native.Nat.{ℕ, ◌+◌, ◌≤◌}
 use mathlib.Core.Path.{◌≡◌, refl, sym, ap, ◌∙◌}
 use mathlib.Core.List.{List, [], ◌++◌, append_assoc}
 use native.Mathlib.Nat.{zero-add}
 use native.Mathlib.Omega.{arith}
 use lib.ListN.{length, take, drop, length-append}
-use lib.Seq.{take_at, drop_at, drop-drop, length-take-le}
+use lib.Seq.{sets, sets-eq, take_at, drop_at, drop-drop, length-take-le}
 use Rattle.frame_request.specs.Reply.{Begins}
 use Rattle.frame_request.proofs.Reply.{Begins-more}
 use Rattle.counts_request.specs.declared.Text.{Text}
@@ -23,6 +23,13 @@ Puts-more {s} {e} {o} {p} {q} {a} {b} {c} l f g =
       size = omega (arith, f.size, g.size, length-append s e);
       is = g.is ∙ rw (low, past) (simp append_assoc);
     }
+
+-- a run that is put down is a text
+pub sets-Puts : {t o q : List ℕ} {a b : ℕ} → a + length t ≤ length o → q ≡ sets o a t → b ≡ a + length t → Puts t a o b q
+sets-Puts {t} {o} {q} {a} {b} room is end = record {
+  size = end;
+  is = is ∙ sets-eq t o a room ∙ append_assoc (take a o) t (drop (a + length t) o) ∙ rw end;
+}
 
 -- the same of the output that a `Text` fills
 pub PutsInto-more : {s e : List ℕ} {old mid new : Text} → old.at ≤ length old.output.now → PutsInto s old mid → PutsInto e mid new → PutsInto (s ++ e) old new

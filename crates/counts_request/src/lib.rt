@@ -23,7 +23,7 @@ fn asked(input: &[u8]) -> Option<(YuvRange, YuvStandardMatrix)>
     Some((range, matrix))
 }
 
-// A text that is being put into the output, which it fills up to `at`. There is no heap, and std's writer into a slice does not say which bytes it leaves.
+// A text that is being put into the output, which it fills up to `at`: there is no heap.
 #[derive(Drop)]
 struct Text<'a> {
     output: &'a mut [u8],
@@ -39,26 +39,11 @@ impl Text<'_> {
         self.at += 1;
     }
 
-    fn put_digit(&mut self, digit: u32)
-        requires digit_bound { digit < 10 }
-        requires at_in_bounds { self.old.at < length self.old.output.now }
-        ensures { PutsInto ((48 + digit) ∷ []) self.old self.new }
-    {
-        self.put_byte(b'0' + digit as u8);
-    }
-
-    // A number of any size, behind what was put before. `y4m_writer` puts at most so many digits at the front of a slice, `frame_request` one or two at a
-    // fixed place: one function for the three would have to be given what each of them settles for itself.
-    #[tactic(auto, using(crate::proofs::Decimal::decimal_last, crate::proofs::Decimal::decimal_longer))]
     fn put_decimal(&mut self, number: u32)
         requires { self.old.at + length (decimal number) ≤ length self.old.output.now }
         ensures { PutsInto (decimal number) self.old self.new }
     {
-        if number < 10 {
-            return self.put_digit(number);
-        }
-        self.put_decimal(number / 10);
-        self.put_digit(number % 10);
+        self.at = decimal::put_decimal(self.output, self.at, number as u64);
     }
 
     #[tactic(auto, using(crate::proofs::Lines::length_of_line))]

@@ -1,20 +1,15 @@
 -- Record k of a file that was checked; and the keys of a file in order: each names a record, and there are as many. Assumes nothing.
 use Rattle.std.proofs.Common.{◌≡◌, arith, ℕ, ◌%◌, ◌≤◌, ◌<◌, length, get_or}
-use Rattle.shift_file.specs.File.{Allowed}
 use Rattle.shift_file.specs.Read.{records_in}
 use Rattle.shift_reader.specs.declared.file.ShiftFile.{ShiftFile}
-use Rattle.shift_reader.specs.Entry.{record_of}
-use Rattle.shift_reader.proofs.Places.{Known, known, allowed}
+use Rattle.shift_reader.proofs.Files.{file_known}
 use Rattle.crossing_keys.specs.declared.key.Key.{Key}
 use Rattle.crossing_keys.specs.declared.ordered.OrderedFile.{OrderedFile}
 use Rattle.crossing_keys.proofs.Keyed.{place_below, as_many}
 
 module _ (f : ShiftFile) where
-  pub its_file : Known f.form f.bytes.now
-  its_file = known f.form f.bytes.now f.checked f.are_bytes
-
   pub records_counted : length (records_in f.form f.bytes.now) ≡ f.count
-  records_counted = omega (arith, its_file.count, f.counted)
+  records_counted = omega (arith, (file_known f).count, f.counted)
 
   pub records_few : length (records_in f.form f.bytes.now) ≤ 4096
   records_few = omega (arith, records_counted, f.few)
@@ -22,9 +17,6 @@ module _ (f : ShiftFile) where
   module _ (k : ℕ) (h : k < f.count) where
     pub record_below : k < length (records_in f.form f.bytes.now)
     record_below = omega (arith, records_counted, h)
-
-    pub record_allowed : Allowed f.form (record_of f.form f.bytes.now k)
-    record_allowed = allowed f.form f.bytes.now (records_in f.form f.bytes.now) k its_file.its record_below
 
 module _ (o : OrderedFile) where
   pub keys_counted : length o.keys.now ≡ o.file.count

@@ -13,7 +13,8 @@ pub use key::Key;
 pub use ordered::OrderedFile;
 use shift_reader::file::ShiftFile;
 
-// The key of each record, in ascending order. By number: a key is written at its record's place and holds that place, so each step needs the number.
+// The key of each record, in ascending order. By number: a key holds its record's place, and of what an adapter of `iter_mut` writes, as `enumerate`, std
+// says nothing.
 pub fn write_keys(file: &ShiftFile, keys: &mut [Key])
     requires { length keys.old ≡ file.now.count }
     ensures { map number_of keys.new ≡ sorted (keys_from 0 (crossings_of (records_in file.now.form file.now.bytes.now))) }

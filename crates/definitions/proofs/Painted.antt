@@ -2,25 +2,16 @@
 -- goes by a byte's place, below n or past it.
 -- Assumes nothing.
 use mathlib.Core.Path.{◌≡◌, refl, ◌∙◌, subst}
-use mathlib.Core.Bool.{Bool, true, false}
 use mathlib.Core.List.{List}
 use Prim.Native.Nat.{ℕ, ◌+◌, ◌-◌, ◌≤◌, ◌<◌, zero-le}
 use native.Mathlib.Omega.{arith}
-use borrow.Author.Tests.{ltb-true, ltb-false, lt-ltb, le-ltb}
+use borrow.Author.Tests.{lt-ltb, le-ltb}
 use borrow.Rule.Slice.PartMut.{put_mid, same_len_mid}
-use lib.Dec.{ltb}
 use lib.ListN.{length, get_or, set, take, drop, length-set}
 use lib.Seq.{get_or-set_same, get_or-set_other, ext_get_or}
 use Rattle.definitions.specs.Painted.{Painted}
 use Rattle.definitions.proofs.Parts.{part_before, part_in, part_after}
-
--- a number is below n or not
-pub by_place : {P : Type 0} (k n : ℕ) → (k < n → P) → (n ≤ k → P) → P
-by_place {P} k n f g = go (ltb k n) refl
-  where
-    go : (b : Bool) → ltb k n ≡ b → P
-    go true e = f (ltb-true k n e)
-    go false e = g (ltb-false k n e)
+use Rattle.definitions.proofs.Planes.{below?}
 
 -- ---- what painted rows hold
 
@@ -39,7 +30,7 @@ painted_same {d = d} {e = e} p = ext_get_or 0 e d p.size (λ k _. Painted-other 
 pub painted : {n : ℕ} {f : ℕ → ℕ} {d e : List ℕ} → length e ≡ length d → ((k : ℕ) → k < n → get_or e k 0 ≡ f k) → ((k : ℕ) → n ≤ k → get_or e k 0 ≡ get_or d k 0)
     → Painted n f d e
 painted {n} s p q =
-    record { size = s; byte = λ k. by_place k n (λ h. rw (lt-ltb k n h) (p k h)) (λ h. rw (le-ltb k n h) (q k h)) }
+    record { size = s; byte = λ k. below? k n (λ h. rw (lt-ltb k n h) (p k h)) (λ h. rw (le-ltb k n h) (q k h)) }
 
 pub Painted-none : (f : ℕ → ℕ) (d : List ℕ) → Painted 0 f d d
 Painted-none f d = painted refl (λ k h. absurd (omega arith)) (λ k h. refl)
@@ -48,7 +39,7 @@ Painted-none f d = painted refl (λ k h. absurd (omega arith)) (λ k h. refl)
 pub Painted-more : {i : ℕ} {f : ℕ → ℕ} {d e : List ℕ} (v : ℕ) → i < length e → v ≡ f i → Painted i f d e → Painted (i + 1) f d (set e i v)
 Painted-more {i} {f} {d} {e} v inside is p =
     painted (length-set e i v ∙ p.size)
-    (λ k h. by_place k i (λ l. get_or-set_other e i k v 0 (omega arith) ∙ Painted-at p k l) (λ l. new k (omega arith)))
+    (λ k h. below? k i (λ l. get_or-set_other e i k v 0 (omega arith) ∙ Painted-at p k l) (λ l. new k (omega arith)))
     (λ k h. get_or-set_other e i k v 0 (omega arith) ∙ Painted-other p k (omega arith))
   where
     new : (k : ℕ) → k ≡ i → get_or (set e i v) k 0 ≡ f k
@@ -59,7 +50,7 @@ pub Painted-join : (n k : ℕ) {f g : ℕ → ℕ} {d e part : List ℕ} → n +
     → Painted k g (take k (drop n e)) part → Painted (n + k) f d (put_mid n k e part)
 Painted-join n k {f} {g} {d} {e} {part} inside agree size p q =
     painted (same_len_mid n k e part q.size ∙ p.size)
-    (λ i h. by_place i n
+    (λ i h. below? i n
     (λ l. part_before n k e part inside size i l ∙ Painted-at p i l)
     (λ l. subst (λ (j : ℕ). get_or (put_mid n k e part) j 0 ≡ f j) (omega arith) (new (i - n) (omega arith))))
     (λ i h. subst (λ (j : ℕ). get_or (put_mid n k e part) j 0 ≡ get_or d j 0) (omega arith) (old (i - (n + k))))

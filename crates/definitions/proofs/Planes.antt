@@ -3,17 +3,18 @@
 use Prim.Native.Nat.{ℕ, ◌+◌, ◌*◌, ◌-◌, ◌/◌, ◌%◌, ◌≤◌, ◌<◌}
 use mathlib.Core.Path.{◌≡◌, refl, sym, ◌∙◌, ap, subst}
 use mathlib.Core.Bool.{Bool, true, false, cond}
-use mathlib.Core.List.{List, ◌++◌}
+use mathlib.Core.List.{List}
 use native.Mathlib.Nat.{mul-add-mod_self_right, mod-eq_of_lt, div-eq_of_lt-le, div-add-mod', add-mul, one-mul}
 use native.Mathlib.Omega.{arith}
 use native.Mathlib.Decide.{dec_lt}
 use borrow.Author.Tests.{ltb-true, ltb-false, lt-ltb, le-ltb, leb-true, leb-false, eqb-true, eqb-false}
 use borrow.Rule.Slice.PartMut.{put_mid, same_len_mid}
 use lib.Dec.{ltb, leb, eqb}
-use lib.ListN.{length, get_or, take, drop, length-take, length-drop, get_or-append}
-use lib.Seq.{get_or-append-add, get_or-take, get_or-drop, length-take-le, ext_get_or}
+use lib.ListN.{length, get_or, take, drop, length-take, length-drop}
+use lib.Seq.{get_or-take, get_or-drop, ext_get_or}
 use Rattle.definitions.specs.Painted.{Painted}
 use Rattle.definitions.specs.Plane.{written, PlaneIs, RowsEqual}
+use Rattle.definitions.proofs.Parts.{part_before, part_in, part_after}
 
 pub below? : {P : Type 0} (a b : ℕ) → (a < b → P) → (b ≤ a → P) → P
 below? a b f g = elim (dec_lt a b) [ yes h ↦ f h | no h ↦ g (omega arith) ]
@@ -51,25 +52,6 @@ module _ (from to stride n p : ℕ) where
   pub written_out : (Inside from to stride n p → ⊥) → written from to stride n p ≡ false
   written_out o = inside? (λ i e. absurd (o i)) (λ _ e. e)
 
--- ---- a part that was handed back
-
-module _ (at k : ℕ) (xs ys : List ℕ) (inside : at + k ≤ length xs) (size : length ys ≡ k) where
-  front : length (take at xs) ≡ at
-  front = length-take-le at xs (omega arith)
-
-  put_before : (p : ℕ) → p < at → get_or (put_mid at k xs ys) p 0 ≡ get_or xs p 0
-  put_before p h = get_or-append (take at xs) _ 0 p (omega (arith, front)) ∙ get_or-take at xs p 0 h
-
-  put_within : (q : ℕ) → q < k → get_or (put_mid at k xs ys) (at + q) 0 ≡ get_or ys q 0
-  put_within q h =
-      ap (λ (m : ℕ). get_or (put_mid at k xs ys) (m + q) 0) (sym front) ∙ get_or-append-add (take at xs) _ q 0 ∙ get_or-append ys _ 0 q (omega arith)
-
-  put_after : (q : ℕ) → get_or (put_mid at k xs ys) (at + (k + q)) 0 ≡ get_or xs (at + (k + q)) 0
-  put_after q =
-      ap (λ (m : ℕ). get_or (put_mid at k xs ys) (m + (k + q)) 0) (sym front) ∙ get_or-append-add (take at xs) _ (k + q) 0
-      ∙ ap (λ (m : ℕ). get_or (ys ++ drop k (drop at xs)) (m + q) 0) (sym size) ∙ get_or-append-add ys _ q 0
-      ∙ get_or-drop k (drop at xs) q 0 ∙ get_or-drop at xs (k + q) 0
-
 -- ---- one row
 
 -- where byte p stands, if it is byte q of row i
@@ -92,7 +74,7 @@ row_written i stride n k at f e part place nk ks room row =
     -- byte q of the part, as the row converter left it
     within : (q : ℕ) → q < k → get_or (put_mid at k e part) (at + q) 0 ≡ cond (ltb q n) (f i q) (get_or e (at + q) 0)
     within q h =
-        put_within at k e part room size q h ∙ row.byte q
+        part_in at k e part room size q h ∙ row.byte q
         ∙ ap (λ (b : ℕ). cond (ltb q n) (f i q) b) (get_or-take k (drop at e) q 0 h ∙ get_or-drop at e q 0)
 
     new : (p : ℕ) → Inside i (i + 1) stride n p → written i (i + 1) stride n p ≡ true
@@ -105,7 +87,7 @@ row_written i stride n k at f e part place nk ks room row =
         ∙ ap (λ (x : ℕ). cond (written i (i + 1) stride n p) (f x (p % stride)) (get_or e p 0)) (sym r)
 
     same : (p : ℕ) → (Inside i (i + 1) stride n p → ⊥) → get_or (put_mid at k e part) p 0 ≡ get_or e p 0
-    same p out = below? p at (put_before at k e part room size p) (λ a. below? p (at + k) (middle p out a) (after p))
+    same p out = below? p at (part_before at k e part room size p) (λ a. below? p (at + k) (middle p out a) (after p))
       where
         middle : (p : ℕ) → (Inside i (i + 1) stride n p → ⊥) → at ≤ p → p < at + k → get_or (put_mid at k e part) p 0 ≡ get_or e p 0
         middle p out a b =
@@ -119,7 +101,7 @@ row_written i stride n k at f e part place nk ks room row =
         after : (p : ℕ) → at + k ≤ p → get_or (put_mid at k e part) p 0 ≡ get_or e p 0
         after p b =
             let there : at + (k + (p - (at + k))) ≡ p = omega arith in
-            subst (λ (x : ℕ). get_or (put_mid at k e part) x 0 ≡ get_or e x 0) there (put_after at k e part room size (p - (at + k)))
+            subst (λ (x : ℕ). get_or (put_mid at k e part) x 0 ≡ get_or e x 0) there (part_after at k e part room size (p - (at + k)))
 
     old : (p : ℕ) → (Inside i (i + 1) stride n p → ⊥) → written i (i + 1) stride n p ≡ false
         → get_or (put_mid at k e part) p 0 ≡ cond (written i (i + 1) stride n p) (f (p / stride) (p % stride)) (get_or e p 0)
@@ -193,14 +175,6 @@ plane_then a b c stride n f d e e' ab bc h k = record { size = k.size ∙ h.size
         (λ i w. ap (λ (t : Bool). byte_of stride f p t (get_or e p 0)) w ∙ sym (ap (λ (t : Bool). byte_of stride f p t (get_or d p 0))
         (written_in a c stride n p (record { row_least = omega arith; row_most = omega arith; column = omega arith }))))
         (λ o w. ap (λ (t : Bool). byte_of stride f p t (get_or e p 0)) w ∙ h.byte p ∙ ap (λ (t : Bool). byte_of stride f p t (get_or d p 0)) (same p o))
-
--- one row more: row i of the plane was lent, from `at` on, and came back painted
-pub plane_step : (from i next stride n k at : ℕ) (f : ℕ → ℕ → ℕ) (d e part : List ℕ) → from ≤ i → next ≡ i + 1 → at ≡ i * stride → n ≤ k → k ≤ stride
-    → at + k ≤ length e
-    → Painted n (f i) (take k (drop at e)) part → PlaneIs from i stride n f d e → PlaneIs from next stride n f d (put_mid at k e part)
-plane_step from i next stride n k at f d e part l m place nk ks room row h =
-    subst (λ (x : ℕ). PlaneIs from x stride n f d (put_mid at k e part)) (sym m)
-    (plane_then from i (i + 1) stride n f d e (put_mid at k e part) l (omega arith) h (row_written i stride n k at f e part place nk ks room row))
 
 -- a plane with some of its rows written is one plane
 pub plane_unique : {from to stride n : ℕ} {f : ℕ → ℕ → ℕ} {d e e' : List ℕ} → PlaneIs from to stride n f d e → PlaneIs from to stride n f d e' → e ≡ e'

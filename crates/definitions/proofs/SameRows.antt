@@ -24,7 +24,7 @@ SameColours w a b = (x i : ℕ) → x < w → i < 3 → a x i ≡ b x i
 abbrev pub Alike : (w i i' : ℕ) → (a b : Pixels) → Type 0
 Alike w i i' a b = (x : ℕ) → x < w → a x i ≡ b x i'
 
-offsets : (c : YuvSourceChannels) → (r_offset c < 3) × (g_offset c < 3) × (b_offset c < 3)
+pub offsets : (c : YuvSourceChannels) → (r_offset c < 3) × (g_offset c < 3) × (b_offset c < 3)
 offsets Rgb = (lit< tt, lit< tt, lit< tt)
 offsets Rgba = (lit< tt, lit< tt, lit< tt)
 offsets Bgra = (lit< tt, lit< tt, lit< tt)

@@ -5,17 +5,13 @@ use mathlib.Core.Path.{◌≡◌, ap, fun_ext, ◌∙◌}
 use mathlib.Core.List.{List}
 use native.Mathlib.Nat.{add-mul, mul-le-mul_right, one-mul}
 use native.Mathlib.Omega.{arith}
-use lib.ListN.{get_or, length, take, drop, length-drop}
-use lib.Seq.{take_all, get_or-take, get_or-drop, drop-drop}
+use lib.ListN.{get_or, take, drop}
+use lib.Seq.{get_or-take, get_or-drop, drop-drop}
 use Rattle.definitions.specs.declared.FrameDescription.{FrameDescription}
 use Rattle.definitions.specs.declared.Band.{Band}
 use Rattle.definitions.specs.Row.{pixels_of}
 use Rattle.definitions.specs.Image.{pixel_size, row_size, row_start, row_bytes, source_image, frame_image}
 use Rattle.definitions.specs.Bands.{own_rows}
-
--- all of a list from n on
-pub rest : (n : ℕ) (l : List ℕ) → take (length l - n) (drop n l) ≡ drop n l
-rest n l = take_all (length l - n) (drop n l) (omega (arith, length-drop n l))
 
 -- the part of a band's source that is lent for a row is that row's pixels
 pub own_row : (b : Band) (source : List ℕ) (i at size : ℕ) → at ≡ row_start b.frame b.stride (i - b.done) → size ≡ row_size b.frame

@@ -7,6 +7,7 @@ use mathlib.Core.Bool.{Bool, true, false}
 use mathlib.Core.List.{List, [], ◌∷◌}
 use native.Mathlib.Omega.{arith}
 use lib.Dec.{T}
+use lib.Ieee.Bits.{is_true}
 use borrow.Author.Tests.{eq-eqb, ne_eqb}
 use lib.ListN.{length, take}
 use Rattle.yuv_support.specs.Matrix.{accepted as accepted_matrix}
@@ -39,7 +40,7 @@ use Rattle.counts_request.specs.Reply.{range_of, matrix_of, malformed, lines, re
 use Rattle.frame_calls.specs.Calls.{rules_of_frame, frame_of_opening, rules_of_opening, handed, rules_of_band}
 use Rattle.frame_calls.specs.Lists.{done_told, as_bands}
 use Rattle.frame_calls.proofs.Lists.{frame_first, frame_writes_nothing, frame_accepted, open_first, open_done, open_accepted}
-use Rattle.frame_calls.proofs.Lists.{band_first, band_writes_nothing, all_met, refused_kept}
+use Rattle.frame_calls.proofs.Lists.{band_first, band_writes_nothing, all_met, refused_kept, is_refused}
 use Rattle.frame_calls.specs.Counts.{rules_of_counts}
 use Rattle.frame_calls.proofs.Counts.{counts_first, counts_write_nothing}
 use Rattle.shift_reader.specs.Reading.{read_outcome, file_rules}
@@ -84,11 +85,6 @@ lowest rules {x} up = (first_is_lowest rules x up).0
 moves_in_order : (from : ShiftForm) (file : List ℕ) (room : ℕ) → in_order 0 (move_rules from file room) ≡ true
 moves_in_order WithoutSettings file room = refl
 moves_in_order WithSettings file room = refl
-
--- a refusal's number is not 0
-refusal : (a : Result Unit YuvError) → 1 ≤ (numbers_of a).number → (e : YuvError) × (a ≡ Err e)
-refusal (Ok done) l = absurd (omega arith)
-refusal (Err e) l = (e, refl)
 
 request_writes_nothing : {input output output' : List ℕ} (r : Result ℕ YuvError) → RequestPost input output r output' → 1 ≤ (response_numbers r).number → output' ≡ output
 request_writes_nothing (Ok n) p l = absurd (omega arith)
@@ -148,20 +144,20 @@ pub demand_1 : Demand1
 demand_1 = record {
   frame = λ k p. record {
     lowest = lowest (frame_rules k) refl p.answered;
-    writes_nothing = λ l. frame.refused_writes_nothing k (refusal k.answer l).1 p;
+    writes_nothing = λ l. frame.refused_writes_nothing k (is_refused k.answer l).1 p;
   };
   opening = λ d r p. lowest (opening_rules d) refl p.answered;
   band = λ k p. record {
     lowest = lowest (band_rules k) refl p.answered;
-    writes_nothing = λ l. band.refused_writes_nothing {k = k} (λ n. ap (λ (a : Result Unit YuvError). taken a n) (refusal k.result.answer l).1) p;
+    writes_nothing = λ l. band.refused_writes_nothing {k = k} (λ n. ap (λ (a : Result Unit YuvError). taken a n) (is_refused k.result.answer l).1) p;
   };
   counts = λ range matrix before a after p. record {
     lowest = lowest (matrix_rules matrix) refl p.answered;
-    writes_nothing = λ l. painted_same (rw (refusal a l).1 at p.counts);
+    writes_nothing = λ l. painted_same (rw (is_refused a l).1 at p.counts);
   };
   shift_reading = λ kind form file first before r after p. record {
     lowest = lowest (file_rules form file) refl p.answered;
-    writes_nothing = λ l. reading.refused_writes_nothing (reading.read_refused (refusal (read_outcome r) l).1) p;
+    writes_nothing = λ l. reading.refused_writes_nothing (reading.read_refused (is_refused (read_outcome r) l).1) p;
   };
   shift_writing = λ form records before r after p. record {
     lowest = lowest (write_rules form records (length before)) refl p.answered;
@@ -246,23 +242,23 @@ demand_1 = record {
   };
   desk_opening = λ k p. record {
     lowest = lowest (desk_open_rules k) refl p.answered;
-    writes_nothing = λ l. rw (refusal k.result.answer l).1 at p.desk;
+    writes_nothing = λ l. rw (is_refused k.result.answer l).1 at p.desk;
   };
   desk_offer = λ k p. record {
     lowest = lowest (offer_rules k) refl p.answered;
-    writes_nothing = λ l. rw (refusal k.result.answer l).1 at p.desk;
+    writes_nothing = λ l. rw (is_refused k.result.answer l).1 at p.desk;
   };
   desk_step = λ k p. record { lowest = step_Lowest k p; writes_nothing = step_unwritten k p };
   linked_desk_opening = λ k p.
       let told : numbers_told k.number k.told ≡ numbers_of p.result.answer = rw (p.number, p.told) in
       record {
         lowest = lowest (rules_of_desk_open k) refl (told ∙ p.opened.answered);
-        writes_nothing = λ l. rw (refusal p.result.answer (rw p.number at l)).1 at p.after;
+        writes_nothing = λ l. rw (is_refused p.result.answer (rw p.number at l)).1 at p.after;
       };
   linked_desk_offer = λ k p. record {
     lowest = lowest (offer_rules (as_offering k)) refl
         (alone (offer_rules (as_offering k)) p.result.answer (refl, (refl, (refl, (refl, tt)))) p.number p.offered.answered);
-    writes_nothing = λ l. rw (refusal p.result.answer (rw p.number at l)).1 at p.after;
+    writes_nothing = λ l. rw (is_refused p.result.answer (rw p.number at l)).1 at p.after;
   };
   linked_desk_step = λ k p.
       let told : numbers_told k.number k.told ≡ served_numbers p.result.served = rw (p.number, p.told) in
@@ -271,10 +267,6 @@ demand_1 = record {
         writes_nothing = λ l. step_unwritten (step_with k p.result) p.stepped (rw p.number at l);
       };
 }
-
-is_true : (b : Bool) → T b → b ≡ true
-is_true true t = refl
-is_true false t = absurd t
 
 module _ (k : FrameCall) where
   abbrev d : FrameDescription

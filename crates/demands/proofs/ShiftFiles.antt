@@ -11,6 +11,7 @@ use lib.Dec.{ltb, leb}
 use lib.ListN.{length, get_or, take, drop}
 use lib.Seq.{take_at, drop_at}
 use borrow.Author.Tests.{le-leb, le-ltb}
+use Rattle.std.proofs.lemmas.Bool.{and_from, and_parts}
 use Rattle.yuv_support.specs.declared.YuvChromaSubsampling.{YuvChromaSubsampling}
 use Rattle.yuv_support.specs.declared.YuvChromaSubsampling.TheVariants.{Yuv420, Yuv422}
 use Rattle.yuv_support.specs.declared.YuvRange.{YuvRange}
@@ -19,9 +20,10 @@ use Rattle.yuv_support.specs.declared.YuvStandardMatrix.{YuvStandardMatrix}
 use Rattle.yuv_support.specs.declared.YuvStandardMatrix.TheVariants.{Bt601, Bt709, Bt2020, Smpte240, Bt470_6, Fcc, Custom}
 use Rattle.sharp_gamma.specs.declared.SharpYuvGammaTransfer.{SharpYuvGammaTransfer}
 use Rattle.sharp_gamma.specs.declared.SharpYuvGammaTransfer.TheVariants.{Srgb, Rec709, Gamma2p2, Gamma2p8}
-use Rattle.setting_codes.specs.Codes.{sampling_codes, sampling_code, range_code, matrix_code, transfer_code}
+use Rattle.setting_codes.specs.Codes.{sampling_code, range_code, matrix_code, transfer_code}
+use Rattle.setting_codes.proofs.Codes.{sampling_there}
 use Rattle.yuv_support.specs.Sampling.{chroma_height}
-use Rattle.std.specs.Prelude.{Result, Ok}
+use Rattle.std.specs.Prelude.{Option, Result, Ok}
 use Rattle.yuv_error.specs.declared.YuvError.{YuvError}
 use Rattle.yuv_error.specs.Numbers.{Numbers, numbers, numbers_of}
 use Rattle.yuv_error.specs.Rules.{Rule, first_numbers}
@@ -39,7 +41,6 @@ use Rattle.shift_file.specs.declared.SettingCodes.{SettingCodes}
 use Rattle.shift_file.specs.File.{ShiftRecord, Allowed, is_code, codes_allowed, is_side, records_at, bytes_of, file_of, IsFileOf}
 use Rattle.shift_file.specs.Read.{records_in}
 use Rattle.shift_file.specs.Check.{is_file}
-use Rattle.shift_file.proofs.Record.{both, also}
 use Rattle.shift_file.proofs.File.{some_list, one_list, read_back, rewritten, one_form, form_of_file, some_form, form_of, its_records, is_checked, after_pairs}
 use Rattle.shift_reader.specs.declared.ShiftReading.{ShiftReading}
 use Rattle.shift_reader.specs.declared.EntryKind.{EntryKind}
@@ -51,7 +52,7 @@ use Rattle.shift_writer.specs.Output.{outcome_of, size_of, output_rules}
 use Rattle.shift_writer.specs.Writing.{WritePost}
 use Rattle.shift_writer.proofs.Count.{some_records, these_records}
 use Rattle.shift_record.specs.declared.RecordFrame.{RecordFrame}
-use Rattle.shift_record.specs.Record.{unpadded, settings_of, frame_sampling, record_made, record_size, y_lent, u_lent, v_lent, lent_rules, frame_allowed, record_rules}
+use Rattle.shift_record.specs.Record.{unpadded, record_form, settings_of, frame_sampling, record_made, record_size, y_lent, u_lent, v_lent, lent_rules, frame_allowed, record_rules}
 use Rattle.shift_record.specs.Record.{chroma_rows as rows_of_record, RecordPost}
 use Rattle.shift_record.specs.Known.{PlanesFit}
 use Rattle.shift_record.proofs.Rows.{length-unpadded, unpadded_at}
@@ -114,10 +115,10 @@ module _ (f : RecordFrame) (y u v before : List ℕ) (r : Result ℕ NotWritten)
   asked = passed (frame_allowed f) (first_numbers (lent_rules f y u v ++ last)) (sym (ap (λ (x : Numbers). x.number) (sym (ap numbers_of is) ∙ p.answered)))
 
   record_made_lem : Bytes y → Bytes u → Bytes v → f.crossing < 4294967296
-      → Allowed f.form (record_made f y u v) × (take (size_of r) after ≡ bytes_of (record_made f y u v))
+      → Allowed (record_form f) (record_made f y u v) × (take (size_of r) after ≡ bytes_of (record_made f y u v))
   record_made_lem by bu bv c =
-      let width = both (is_side f.width) _ asked.0 in
-      let height = both (is_side f.height) _ width.1 in
+      let width = and_parts (is_side f.width) _ asked.0 in
+      let height = and_parts (is_side f.height) _ width.1 in
       let fit = planes_Fit f y u v (is_frame f asked.0) (append_finished (lent_rules f y u v) last refl asked.1).0 in
       let size : size_of r ≡ length (bytes_of (record_made f y u v)) = rw is at p.size in
       let made : after ≡ bytes_of (record_made f y u v) ++ drop (length (bytes_of (record_made f y u v))) before = rw is at p.written in
@@ -134,12 +135,11 @@ plane_record n stride rows plane byte wide size is =
     (length-unpadded n stride wide rows plane all, λ i x k l. unpadded_at n stride wide rows plane all i x k l ∙ is i x k l)
 
 pub side : (x : ℕ) → 1 ≤ x → x ≤ 16384 → is_side x ≡ true
-side x l m = also (leb 1 x) (leb x 16384) (le-leb 1 x l) (le-leb x 16384 m)
+side x l m = and_from (leb 1 x) (leb x 16384) (le-leb 1 x l) (le-leb x 16384 m)
 
--- the frame of a call, as that of a record in this form with these settings
-abbrev frame_of : FrameCall → (form : ShiftForm) → (crossing : ℕ) → SettingCodes → RecordFrame
-frame_of k form crossing settings = record {
-  form = form;
+-- the frame of a call, as that of a record with these settings or none
+abbrev frame_of : FrameCall → (crossing : ℕ) → Option SettingCodes → RecordFrame
+frame_of k crossing settings = record {
   crossing = crossing;
   width = k.frame.width;
   height = k.frame.height;
@@ -149,13 +149,13 @@ frame_of k form crossing settings = record {
   v_stride = k.frame.v_stride;
 }
 
-module _ (k : FrameCall) (p : FramePost k) (is : k.answer ≡ Ok tt) (form : ShiftForm) (crossing : ℕ) (settings : SettingCodes)
-    (e : k.frame.settings.sampling ≡ frame_sampling (frame_of k form crossing settings)) where
+module _ (k : FrameCall) (p : FramePost k) (is : k.answer ≡ Ok tt) (crossing : ℕ) (settings : Option SettingCodes)
+    (e : k.frame.settings.sampling ≡ frame_sampling (frame_of k crossing settings)) where
   abbrev d : FrameDescription
   d = k.frame
 
   abbrev f : RecordFrame
-  f = frame_of k form crossing settings
+  f = frame_of k crossing settings
 
   lengths : (length k.y' ≡ length k.y) × (length k.u' ≡ length k.u) × (length k.v' ≡ length k.v)
   lengths = (p.planes.luma.size, p.planes.cb.size, p.planes.cr.size)
@@ -182,7 +182,7 @@ module _ (k : FrameCall) (p : FramePost k) (is : k.answer ≡ Ok tt) (form : Shi
       }
 
   -- no condition of a record holds of them
-  record_of_frame : (before : List ℕ) (r : Result ℕ NotWritten) (after : List ℕ) → codes_allowed form (settings_of f) ≡ true
+  record_of_frame : (before : List ℕ) (r : Result ℕ NotWritten) (after : List ℕ) → codes_allowed (record_form f) (settings_of f) ≡ true
       → RecordPost f k.y' k.u' k.v' before r after → record_size f ≤ length before → outcome_of r ≡ Ok tt
   record_of_frame before r after codes q room =
       let w = whole k p is in
@@ -209,15 +209,14 @@ module _ (k : FrameCall) (p : FramePost k) (is : k.answer ≡ Ok tt) (form : Shi
       let bytes = length (bytes_of (record_made f k.y' k.u' k.v')) in
       let fits : first_numbers (output_rules bytes (length before)) ≡ numbers 0 0 0 = rw (le-ltb (length before) bytes (omega arith)) in
       let allowed : frame_allowed f ≡ true =
-      also (is_side d.width) _ (side d.width w.width_least w.width_most)
-      (also (is_side d.height) _ (side d.height w.height_least w.height_most) codes) in
+      and_from (is_side d.width) _ (side d.width w.width_least w.width_most)
+      (and_from (is_side d.height) _ (side d.height w.height_least w.height_most) codes) in
       let all : first_numbers (record_rules f k.y' k.u' k.v' (length before)) ≡ numbers 0 0 0 =
       rw allowed (both_pass (lent_rules f k.y' k.u' k.v') (output_rules bytes (length before)) refl passes fits) in
       is_finished (outcome_of r) (ap (λ (x : Numbers). x.number) (q.answered ∙ all))
 
-frame_is : (k : FrameCall) (f : RecordFrame) → OfFrame k f → frame_of k f.form f.crossing f.settings ≡ f
+frame_is : (k : FrameCall) (f : RecordFrame) → OfFrame k f → frame_of k f.crossing f.settings ≡ f
 frame_is k f o = λ i. record {
-  form = f.form;
   crossing = f.crossing;
   width = sym o.width i;
   height = sym o.height i;
@@ -253,10 +252,6 @@ transfer_code_lem Gamma2p8 = refl
 codes_allowed_lem : (s : YuvSettings) → codes_allowed WithSettings (codes_of s) ≡ true
 codes_allowed_lem s = rw (sampling_code_lem s.sampling, range_code_lem s.range, matrix_code_lem s.matrix, transfer_code_lem s.transfer)
 
-pub sampling_said : (a : YuvChromaSubsampling) → get_or sampling_codes (sampling_code a) Yuv420 ≡ a
-sampling_said Yuv420 = refl
-sampling_said Yuv422 = refl
-
 pub shift_files : ShiftFiles
 shift_files = record {
   some_list = some_list;
@@ -281,9 +276,9 @@ shift_files = record {
   made = λ f y u v before r after by bu bv c p is. record_made_lem f y u v before r after p is by bu bv c;
   frame_accepted = λ k f before r after p is o.
       subst (λ (g : RecordFrame). RecordPost g k.y' k.u' k.v' before r after → record_size g ≤ length before → outcome_of r ≡ Ok tt)
-      (frame_is k f o) (record_of_frame k p is f.form f.crossing f.settings o.sampling before r after o.codes);
+      (frame_is k f o) (record_of_frame k p is f.crossing f.settings o.sampling before r after o.codes);
   frame = λ k f p is o.
       subst (λ (g : RecordFrame). RecordBytes k (record_made g k.y' k.u' k.v')) (frame_is k f o)
-      (of_frame k p is f.form f.crossing f.settings o.sampling);
-  frame_codes = λ s. (codes_allowed_lem s, sampling_said s.sampling);
+      (of_frame k p is f.crossing f.settings o.sampling);
+  frame_codes = λ s. (codes_allowed_lem s, sampling_there s.sampling);
 }

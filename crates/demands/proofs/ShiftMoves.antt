@@ -11,6 +11,7 @@ use lib.Dec.{ltb, eqb}
 use lib.ListN.{length, get_or, take, drop}
 use lib.Seq.{take_at, drop_at}
 use borrow.Author.Tests.{ltb-true, lt-ltb, le-ltb, eqb-true, eq-eqb}
+use Rattle.std.proofs.lemmas.Bool.{and_from, and_parts}
 use Rattle.std.specs.Prelude.{Result, Ok}
 use Rattle.yuv_error.specs.Numbers.{Numbers, numbers, numbers_of}
 use Rattle.yuv_error.proofs.Numbers.{is_finished}
@@ -20,7 +21,6 @@ use Rattle.shift_file.specs.declared.ShiftForm.TheVariants.{WithoutSettings, Wit
 use Rattle.shift_file.specs.File.{ShiftRecord, IsFileOf}
 use Rattle.shift_file.specs.Read.{records_in}
 use Rattle.shift_file.specs.Check.{is_file}
-use Rattle.shift_file.proofs.Record.{both, also}
 use Rattle.shift_file.proofs.File.{some_list, its_records, is_checked, Checked-file, one_form}
 use Rattle.shift_reader.specs.Entry.{nth}
 use Rattle.shift_writer.specs.declared.NotWritten.{NotWritten}
@@ -74,9 +74,9 @@ plain_means : (r : ShiftRecord) → (is_plain r.settings ≡ true) ↔ NothingRe
 plain_means r =
     let s = r.settings in (
       λ e.
-          let a = both (eqb (get_or s 0 0) 0) _ e in
-          let b = both (eqb (get_or s 1 0) 255) _ a.1 in
-          let c = both (eqb (get_or s 2 0) 255) _ b.1 in
+          let a = and_parts (eqb (get_or s 0 0) 0) _ e in
+          let b = and_parts (eqb (get_or s 1 0) 255) _ a.1 in
+          let c = and_parts (eqb (get_or s 2 0) 255) _ b.1 in
           record {
             sampling = eqb-true (get_or s 0 0) 0 a.0;
             range = eqb-true (get_or s 1 0) 255 b.0;
@@ -84,9 +84,9 @@ plain_means r =
             transfer = eqb-true (get_or s 3 0) 255 c.1;
           },
       λ p.
-          also (eqb (get_or s 0 0) 0) _ (eq-eqb _ _ p.sampling)
-          (also (eqb (get_or s 1 0) 255) _ (eq-eqb _ _ p.range)
-          (also (eqb (get_or s 2 0) 255) _ (eq-eqb _ _ p.matrix) (eq-eqb _ _ p.transfer))),
+          and_from (eqb (get_or s 0 0) 0) _ (eq-eqb _ _ p.sampling)
+          (and_from (eqb (get_or s 1 0) 255) _ (eq-eqb _ _ p.range)
+          (and_from (eqb (get_or s 2 0) 255) _ (eq-eqb _ _ p.matrix) (eq-eqb _ _ p.transfer))),
     )
 
 abbrev SomeRecorded : List ShiftRecord → Type 0
@@ -102,8 +102,8 @@ some_recorded (r ∷ rs) e = go (is_plain r.settings) refl e (some_recorded rs)
 
 all_plain : (rs : List ShiftRecord) → are_plain rs ≡ true → (i : ℕ) → i < length rs → NothingRecorded (nth rs i)
 all_plain [] e i h = absurd (omega arith)
-all_plain (r ∷ rs) e zero h = (plain_means r).0 (both (is_plain r.settings) (are_plain rs) e).0
-all_plain (r ∷ rs) e (suc i) h = all_plain rs (both (is_plain r.settings) (are_plain rs) e).1 i (omega arith)
+all_plain (r ∷ rs) e zero h = (plain_means r).0 (and_parts (is_plain r.settings) (are_plain rs) e).0
+all_plain (r ∷ rs) e (suc i) h = all_plain rs (and_parts (is_plain r.settings) (are_plain rs) e).1 i (omega arith)
 
 not_plain : (rs : List ShiftRecord) → SomeRecorded rs → are_plain rs ≡ false
 not_plain rs q = go (are_plain rs) refl
@@ -129,10 +129,6 @@ module _ (from : ShiftForm) (file before : List ℕ) (r : Result ℕ NotWritten)
   module _ (rs : List ShiftRecord) (f : IsFileOf from file rs) where
     its_moved : IsFileOf (other_form from) (take (size_of r) after) (moved (other_form from) rs)
     its_moved = rw front.0 (moved_is_file from file rs f (rw (its_records from file rs f) at tests.1))
-
-twice : (from : ShiftForm) → other_form (other_form from) ≡ from
-twice WithoutSettings = refl
-twice WithSettings = refl
 
 module _ (from : ShiftForm) (file before : List ℕ) (r : Result ℕ NotWritten) (after : List ℕ) (bytes : Bytes file) (p : MovePost from file before r after)
     (is : outcome_of r ≡ Ok tt) (before₂ : List ℕ) (r₂ : Result ℕ NotWritten) (after₂ : List ℕ)

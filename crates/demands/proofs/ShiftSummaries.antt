@@ -10,6 +10,7 @@ use native.Mathlib.Omega.{arith}
 use lib.Dec.{ltb, leb}
 use lib.ListN.{length, take, drop, length-append, drop_of_length-le}
 use borrow.Author.Tests.{ltb-true, ltb-false, lt-ltb, leb-true, le-leb, eq-eqb}
+use Rattle.std.proofs.lemmas.Bool.{and_from, and_parts}
 use Rattle.std.specs.Prelude.{Option, Some, None, Result, Ok}
 use Rattle.std.specs.Result.{is_ok}
 use Rattle.yuv_error.specs.declared.YuvError.{YuvError}
@@ -19,7 +20,7 @@ use Rattle.shift_file.specs.declared.ShiftForm.{ShiftForm}
 use Rattle.shift_file.specs.File.{ShiftRecord, Allowed, EachAllowed, records_at, record_bytes, bytes_of}
 use Rattle.shift_file.specs.Read.{size_at, record_at, records_in}
 use Rattle.shift_file.specs.Check.{record_stands, is_file}
-use Rattle.shift_file.proofs.Record.{both, also, Stands-true, size_bytes, stands_bytes, record_bytes_lem}
+use Rattle.shift_file.proofs.Record.{Stands-true, size_bytes, stands_bytes, record_bytes_lem}
 use Rattle.shift_file.proofs.Walk.{First-of}
 use Rattle.shift_file.proofs.File.{some_list, form_of, Checked-file, its_records, is_checked, after_pairs}
 use Rattle.shift_reader.proofs.Places.{record_there}
@@ -117,14 +118,14 @@ module _ (form : ShiftForm) (file added : List ℕ) where
     unfolding is_record
     is_record_lem =
         let size : size_at form added ≡ length added = ap (size_at form) (sym whole) ∙ size_bytes form r allowed [] ∙ ap length g.new in
-        also (record_stands form added) _ (ap (record_stands form) (sym whole) ∙ stands_bytes form r allowed []) (eq-eqb (size_at form added) (length added) size)
+        and_from (record_stands form added) _ (ap (record_stands form) (sym whole) ∙ stands_bytes form r allowed []) (eq-eqb (size_at form added) (length added) size)
 
     grows_is : may_grow form file added ≡ true
     unfolding may_grow
     grows_is =
         let few : length (records_in form file) < 4096 =
         rw (its_records form file rs g.old) (omega (arith, g.has.few, length-append rs (r ∷ []))) in
-        also (is_file form file) _ (is_checked form file rs g.old) (also (is_record form added) _ is_record_lem (lt-ltb _ _ few))
+        and_from (is_file form file) _ (is_checked form file rs g.old) (and_from (is_record form added) _ is_record_lem (lt-ltb _ _ few))
 
     back_to_back : BackToBack form (drop (records_at form (length rs)) file ++ added) (rs ++ r ∷ [])
     back_to_back = record {
@@ -142,8 +143,8 @@ module _ (form : ShiftForm) (file added : List ℕ) where
         let its = its_records form file rs g.old in
         let means = checked form rs before g.old.has b in
         rw its (
-          λ e. let p = both (leb (13 * (length rs + 1)) (length before)) _ e in (leb-true _ _ p.0, means.0 p.1),
-          λ p. also (leb (13 * (length rs + 1)) (length before)) _ (le-leb _ _ p.0) (means.1 p.1),
+          λ e. let p = and_parts (leb (13 * (length rs + 1)) (length before)) _ e in (leb-true _ _ p.0, means.0 p.1),
+          λ p. and_from (leb (13 * (length rs + 1)) (length before)) _ (le-leb _ _ p.0) (means.1 p.1),
         )
 
   module _ (bf : Bytes file) (ba : Bytes added) where

@@ -12,15 +12,16 @@ use lib.Dec.{ltb, leb}
 use lib.ListN.{length, take, drop, length-append}
 use lib.Seq.{take_at, drop_at}
 use borrow.Author.Tests.{ltb-true, ltb-false, lt-ltb, le-leb, eq-eqb}
+use Rattle.std.proofs.lemmas.Bool.{and_from, and_parts}
 use Rattle.std.specs.Prelude.{Result, Ok}
 use Rattle.yuv_error.specs.declared.YuvError.{YuvError}
 use Rattle.yuv_error.specs.Numbers.{Numbers, numbers, numbers_of}
 use Rattle.yuv_error.proofs.Numbers.{is_finished}
 use Rattle.shift_file.specs.File.{is_side}
-use Rattle.shift_file.proofs.Record.{both, also}
 use Rattle.yuv_support.specs.declared.YuvChromaSubsampling.{YuvChromaSubsampling}
 use Rattle.yuv_support.specs.Sampling.{chroma_width, chroma_height}
 use Rattle.setting_codes.specs.Codes.{sampling_code}
+use Rattle.setting_codes.proofs.Codes.{sampling_there}
 use Rattle.definitions.specs.declared.FrameDescription.{FrameDescription}
 use Rattle.definitions.specs.Image.{chroma_size, chroma_rows as frame_rows, luma_at, cb_at, cr_at}
 use Rattle.sharp_rgba_to_yuv.specs.FrameCall.{FrameCall, image_of, FramePost}
@@ -46,7 +47,7 @@ use Rattle.y4m_picture.proofs.Append.{appended}
 use Rattle.demands.specs.Demands.{WholeRows, NoY4m, Y4mTold, ShapeAllowed, PicturesIn, NoPictures, Y4mOf, WholePicture}
 use Rattle.demands.specs.Demands.{PictureCall, PictureWritten, AllWritten, bytes_written, planes_given, PictureOfFrame, PlaneBytes, Y4mFiles}
 use Rattle.demands.proofs.Demands as frames
-use Rattle.demands.proofs.ShiftFiles.{side, plane_record, sampling_said, sampling_code_lem}
+use Rattle.demands.proofs.ShiftFiles.{side, plane_record, sampling_code_lem}
 use Rattle.demands.proofs.Y4mParts.{names, entry_at, length_entries}
 
 -- ---- 19 by a test that says whether there is something
@@ -117,8 +118,8 @@ passed false s e = absurd (omega arith)
 shape_test : (code w h : ℕ) → ShapeAllowed code w h → is_shape code w h ≡ true
 unfolding is_shape
 shape_test code w h s =
-    also (ltb code 2) _ (lt-ltb code 2 s.code_is)
-    (also (is_side w) (is_side h) (side w s.width_least (omega (arith, s.width_most))) (side h s.height_least (omega (arith, s.height_most))))
+    and_from (ltb code 2) _ (lt-ltb code 2 s.code_is)
+    (and_from (is_side w) (is_side h) (side w s.width_least (omega (arith, s.width_most))) (side h s.height_least (omega (arith, s.height_most))))
 
 shape_is : (code w h : ℕ) → is_shape code w h ≡ true → ShapeAllowed code w h
 shape_is code w h e =
@@ -149,7 +150,7 @@ module _ (code w h : ℕ) (b : List ℕ) where
   made_pictures e =
       let read = back.read_back code w h b e in
       record {
-        shape = shape_is code w h (both (is_shape code w h) _ e).0;
+        shape = shape_is code w h (and_parts (is_shape code w h) _ e).0;
         each = (back.is_written code w h b e).allowed.pictures;
         same = subst (λ (f : Y4mFile). planes_of f.pictures ≡ b) read.0 read.1;
       }
@@ -159,7 +160,7 @@ module _ (code w h : ℕ) (b : List ℕ) where
   can_be ps q =
       let n = plane_bytes (sampling_of code) w h in
       let long : length b ≡ length ps * n = ap length (sym q.same) ∙ length_planes _ _ n refl ps q.each in
-      also (is_shape code w h) _ (shape_test code w h q.shape)
+      and_from (is_shape code w h) _ (shape_test code w h q.shape)
       (eq-eqb (length b % n) 0 (ap (λ (x : ℕ). x % n) long ∙ mul-mod_left (length ps) n))
 
   some_pictures : (can_write code w h (length b) ≡ true) ↔ ((ps : List Y4mPicture) × PicturesIn code w h b ps)
@@ -217,14 +218,14 @@ module _ (code w h : ℕ) (b before : List ℕ) (r : Result ℕ NotWritten) (aft
 
 module _ (f : PictureFrame) (y u v : List ℕ) where
   rows_of : (n rows stride : ℕ) (plane : List ℕ) → WholeRows n rows stride plane → is_plane n rows stride (length plane) ≡ true
-  rows_of n rows stride plane k = also (leb n stride) _ (le-leb n stride k.row) (eq-eqb (length plane) (stride * rows) k.size)
+  rows_of n rows stride plane k = and_from (leb n stride) _ (le-leb n stride k.row) (eq-eqb (length plane) (stride * rows) k.size)
 
   allowed : WholePicture f y u v → picture_allowed f (length y) (length u) (length v) ≡ true
   unfolding picture_allowed planes_allowed
   allowed k =
-      also (is_shape f.sampling f.width f.height) _ (shape_test _ _ _ k.shape)
-      (also (is_plane f.width f.height f.y_stride (length y)) _ (rows_of _ _ _ y k.y_rows)
-      (also (is_plane (chroma_width f.width) (chroma_rows f) f.u_stride (length u)) _ (rows_of _ _ _ u k.u_rows)
+      and_from (is_shape f.sampling f.width f.height) _ (shape_test _ _ _ k.shape)
+      (and_from (is_plane f.width f.height f.y_stride (length y)) _ (rows_of _ _ _ y k.y_rows)
+      (and_from (is_plane (chroma_width f.width) (chroma_rows f) f.u_stride (length u)) _ (rows_of _ _ _ u k.u_rows)
       (rows_of _ _ _ v k.v_rows)))
 
   whole : picture_allowed f (length y) (length u) (length v) ≡ true → WholePicture f y u v
@@ -232,7 +233,7 @@ module _ (f : PictureFrame) (y u v : List ℕ) where
   whole e =
       let k = planes_Fit f (length y) (length u) (length v) e in
       record {
-        shape = shape_is _ _ _ (both (is_shape f.sampling f.width f.height) _ e).0;
+        shape = shape_is _ _ _ (and_parts (is_shape f.sampling f.width f.height) _ e).0;
         y_rows = record { row = k.y_row; size = k.y_size };
         u_rows = record { row = k.u_row; size = k.u_size };
         v_rows = record { row = k.v_row; size = k.v_size };
@@ -324,7 +325,7 @@ module _ (k : FrameCall) (p : FramePost k) (is : k.answer ≡ Ok tt) where
 
   -- chroma rows of the frame are those of the picture
   rows : frame_rows d ≡ chroma_rows (picture_frame k)
-  rows = ap (λ (s : YuvChromaSubsampling). chroma_height s d.height) (sym (sampling_said d.settings.sampling))
+  rows = ap (λ (s : YuvChromaSubsampling). chroma_height s d.height) (sym (sampling_there d.settings.sampling))
 
   whole_frame : WholePicture (picture_frame k) k.y' k.u' k.v'
   whole_frame =

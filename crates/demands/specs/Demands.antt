@@ -58,7 +58,7 @@ use Rattle.shift_writer.specs.Output.{outcome_of, size_of}
 use Rattle.shift_writer.specs.Records.{BackToBack}
 use Rattle.shift_writer.specs.Writing.{write_rules, WritePost}
 use Rattle.shift_record.specs.declared.RecordFrame.{RecordFrame}
-use Rattle.shift_record.specs.Record.{settings_of, frame_sampling, record_made, record_size, record_rules, RecordPost}
+use Rattle.shift_record.specs.Record.{record_form, settings_of, frame_sampling, record_made, record_size, record_rules, RecordPost}
 use Rattle.shift_move.specs.Move.{other_form, may_move, moved, moved_file}
 use Rattle.shift_move.specs.Moving.{move_rules, MovePost}
 use Rattle.shift_move.specs.Means.{MovedIsFile, MayReturn, ThereAndBack}
@@ -373,7 +373,7 @@ NoRecords form records = (rs : List ShiftRecord) → BackToBack form records rs 
 -- RULES 11.6: the frame of a call, with the strides of its planes, as that of a record: of 4:2:0, or RULES 11.7: with its sampling recorded
 pub record OfFrame (k : FrameCall) (f : RecordFrame) : Type 0 where
   pub sampling : k.frame.settings.sampling ≡ frame_sampling f
-  pub codes : codes_allowed f.form (settings_of f) ≡ true
+  pub codes : codes_allowed (record_form f) (settings_of f) ≡ true
   pub width : f.width ≡ k.frame.width
   pub height : f.height ≡ k.frame.height
   pub y_stride : f.y_stride ≡ k.frame.y_stride
@@ -431,7 +431,7 @@ pub record ShiftFiles : Type 0 where
   -- a record from planes, which has its place in a file
   pub made : (f : RecordFrame) (y u v before : List ℕ) (r : Result ℕ NotWritten) (after : List ℕ) → Bytes y → Bytes u → Bytes v → f.crossing < 4294967296
       → RecordPost f y u v before r after → outcome_of r ≡ Ok tt
-      → Allowed f.form (record_made f y u v) × (take (size_of r) after ≡ bytes_of (record_made f y u v))
+      → Allowed (record_form f) (record_made f y u v) × (take (size_of r) after ≡ bytes_of (record_made f y u v))
   -- of the planes of a frame: it is made wherever it has room, and its planes are the frame's without padding
   pub frame_accepted : (k : FrameCall) (f : RecordFrame) (before : List ℕ) (r : Result ℕ NotWritten) (after : List ℕ) → FramePost k → k.answer ≡ Ok tt
       → OfFrame k f → RecordPost f k.y' k.u' k.v' before r after → record_size f ≤ length before → outcome_of r ≡ Ok tt
@@ -611,9 +611,9 @@ pub record NamesPlanes (file entry : List ℕ) (f : Y4mFile) (k : ℕ) : Type 0 
 
 -- RULES 14.5: everything that is told of a file
 pub record Y4mTold (file : List ℕ) (f : Y4mFile) (first : ℕ) (before : List ℕ) (r : Y4mReading) (after : List ℕ) : Type 0 where
-  pub width : r.width ≡ f.width
-  pub height : r.height ≡ f.height
-  pub sampling : r.sampling ≡ sampling_code f.sampling
+  pub width : r.header.width ≡ f.width
+  pub height : r.header.height ≡ f.height
+  pub sampling : sampling_code r.header.sampling ≡ sampling_code f.sampling
   pub count : r.count ≡ length f.pictures
   pub told : r.told ≡ min (length f.pictures - first) (length before / 6)
   pub planes : (i : ℕ) → i < r.told → NamesPlanes file (drop (6 * i) after) f (first + i)

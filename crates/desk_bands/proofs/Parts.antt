@@ -98,10 +98,6 @@ module _ (f : OpenFrame) (b : WaitingBand) (p : Buffers) (r : FrameAnswer) (y u 
       subst (Converted f b p r) (λ i. buffers_of p.source (sym (put_is x.y p.y y (part_size x.y)) i) (sym (put_is x.u p.u u (part_size x.u)) i)
       (sym (put_is x.v p.v v (part_size x.v)) i) (sym (put_is x.carried p.carried carried (part_size x.carried)) i)) made
 
-pub serve_lent : (f : OpenFrame) (b : WaitingBand) (p : Buffers) (r : FrameAnswer) (q : Buffers) → are_lent f b p ≡ true → Converted f b p r q
-    → ServePost f b p r q
-serve_lent f b p r q inside made = rw inside made
-
 -- 18
 pub serve_outside : (f : OpenFrame) (b : WaitingBand) (p : Buffers) → are_lent f b p ≡ false
     → ServePost f b p (record { state = f.state; answer = Err PartsMismatch }) p

@@ -6,6 +6,7 @@ use mathlib.Core.Bool.{Bool, true, false, cond, true≢false}
 use mathlib.Core.Logic.{inl, inr, ⊎_elim}
 use borrow.Author.Tests.{eqb-true, eqb-false}
 use lib.Dec.{eqb, leb}
+use Rattle.std.proofs.lemmas.Bool.{cond-true, cond-false}
 use Rattle.band_calls.specs.declared.FrameState.{FrameState}
 use Rattle.buffer_parts.specs.Parts.{Overlap}
 use Rattle.buffer_parts.specs.declared.BufferPart.{BufferPart}
@@ -23,7 +24,7 @@ use Rattle.desk_bands.specs.Buffers.{Buffers, planes_in, ElsewhereKept}
 use Rattle.desk.specs.declared.Desk.{Desk}
 use Rattle.desk.specs.DeskCall.{slot_at, OpenCall, opened_frame, OpenPost, OfferCall, OfferPost, StepCall, BandServed}
 use Rattle.desk_lists.specs.Isolation.{is_finished}
-use Rattle.desk_lists.proofs.Slots.{Whole, open_below, both?, if_true, if_false, is_finished_lem, opened, open_Changed, offer_Changed}
+use Rattle.desk_lists.proofs.Slots.{Whole, open_below, both?, is_finished_lem, opened, open_Changed, offer_Changed}
 use Rattle.desk_lists.proofs.Slots.{waits, served_slot}
 
 -- a frame with these parts is open
@@ -89,13 +90,13 @@ module _ (k : OpenCall) (whole : Whole k.desk) (apart : Apart k.desk) (post : Op
       both? ok (eqb k.camera a)
       (λ yes is_a own_a. both? ok (eqb k.camera b)
       (λ _ is_b _. absurd (other (sym (eqb-true k.camera a is_a) ∙ eqb-true k.camera b is_b)))
-      (λ own_b. new_clear yes b v w (subst (λ (s : Slot). HasParts s v) (if_true _ new (slot_at k.desk a) own_a) at_a)
-      (subst (λ (s : Slot). HasParts s w) (if_false _ new (slot_at k.desk b) own_b) at_b)))
+      (λ own_b. new_clear yes b v w (subst (λ (s : Slot). HasParts s v) (cond-true _ new (slot_at k.desk a) own_a) at_a)
+      (subst (λ (s : Slot). HasParts s w) (cond-false _ new (slot_at k.desk b) own_b) at_b)))
       (λ own_a. both? ok (eqb k.camera b)
-      (λ yes is_b own_b. λ o. new_clear yes a w v (subst (λ (s : Slot). HasParts s w) (if_true _ new (slot_at k.desk b) own_b) at_b)
-      (subst (λ (s : Slot). HasParts s v) (if_false _ new (slot_at k.desk a) own_a) at_a) (share_swap v w o))
-      (λ own_b. apart a b v w other (subst (λ (s : Slot). HasParts s v) (if_false _ new (slot_at k.desk a) own_a) at_a)
-      (subst (λ (s : Slot). HasParts s w) (if_false _ new (slot_at k.desk b) own_b) at_b)))
+      (λ yes is_b own_b. λ o. new_clear yes a w v (subst (λ (s : Slot). HasParts s w) (cond-true _ new (slot_at k.desk b) own_b) at_b)
+      (subst (λ (s : Slot). HasParts s v) (cond-false _ new (slot_at k.desk a) own_a) at_a) (share_swap v w o))
+      (λ own_b. apart a b v w other (subst (λ (s : Slot). HasParts s v) (cond-false _ new (slot_at k.desk a) own_a) at_a)
+      (subst (λ (s : Slot). HasParts s w) (cond-false _ new (slot_at k.desk b) own_b) at_b)))
 
 module _ (k : OfferCall) (whole : Whole k.desk) (apart : Apart k.desk) (post : OfferPost k) where
   before_offer : (s : Slot) (w : FrameParts) → HasParts (offered s k.band) w → HasParts s w
@@ -110,8 +111,8 @@ module _ (k : OfferCall) (whole : Whole k.desk) (apart : Apart k.desk) (post : O
       let new = offered (slot_at k.desk k.camera) k.band in
       both? (is_finished k.result.answer) (eqb k.camera a)
       (λ _ is own. subst (λ (j : ℕ). HasParts (slot_at k.desk j) w) (eqb-true k.camera a is)
-      (before_offer (slot_at k.desk k.camera) w (subst (λ (s : Slot). HasParts s w) (if_true _ new (slot_at k.desk a) own) h')))
-      (λ own. subst (λ (s : Slot). HasParts s w) (if_false _ new (slot_at k.desk a) own) h')) apart
+      (before_offer (slot_at k.desk k.camera) w (subst (λ (s : Slot). HasParts s w) (cond-true _ new (slot_at k.desk a) own) h')))
+      (λ own. subst (λ (s : Slot). HasParts s w) (cond-false _ new (slot_at k.desk a) own) h')) apart
 
 module _ (k : StepCall) (c : ℕ) (f : OpenFrame) (b : WaitingBand) (turn : next_waiting k.desk.places k.desk.from ≡ its_turn c f b)
     (served : BandServed k c f b) (whole : Whole k.desk) (apart : Apart k.desk) where

@@ -5,9 +5,11 @@ use mathlib.Core.Path.{◌≡◌, refl, sym, ap, subst, subst⁻¹, ◌∙◌}
 use mathlib.Core.Bool.{true, false, or-true, true≢false}
 use mathlib.Core.Logic.{◌⊎◌, inl, inr, ⊎_elim}
 use mathlib.Core.List.{List, [], ◌∷◌, ◌++◌}
+use native.Mathlib.Nat.{mod-add-mod}
 use native.Mathlib.Omega.{arith}
 use borrow.Author.Tests.{eqb-true, eqb-false, eq-eqb, ne_eqb}
 use lib.Dec.{eqb}
+use Rattle.std.proofs.lemmas.Bool.{cond-false}
 use Rattle.desk_places.specs.declared.Slot.{Slot}
 use Rattle.desk_places.specs.declared.Slot.TheVariants.{Free, Idle, Waiting}
 use Rattle.desk_places.specs.declared.Turn.{Turn}
@@ -18,19 +20,16 @@ use Rattle.desk.specs.DeskCall.{fresh, slot_at, OpenCall, OpenPost, OfferCall, O
 use Rattle.desk_lists.specs.DeskLists.{DeskCall, opening, offering, step, AllMet, handed_back, HandedOn, desk_after}
 use Rattle.desk_lists.specs.DeskLists.{steps_in, tells, served_in, Fairness}
 use Rattle.desk_lists.specs.Isolation.{is_finished}
-use Rattle.desk_lists.proofs.Slots.{Whole, open_below, both?, if_false, is_finished_lem, opened, offered_to, open_Changed, offer_Changed}
+use Rattle.desk_lists.proofs.Slots.{Whole, open_below, both?, is_finished_lem, opened, offered_to, open_Changed, offer_Changed}
 use Rattle.desk_lists.proofs.Slots.{served_slot, served_Whole, call_Whole}
 use Rattle.std.specs.Prelude.{Option}
-
-mod-add : (y z : ℕ) → (y % 32 + z) % 32 ≡ (y + z) % 32
-mod-add y z = omega arith
 
 -- the camera at p, asked from the one after that at k on
 going_round : (from k p : ℕ) → k < p → (((from + k) % 32 + 1) % 32 + (p - k - 1)) % 32 ≡ (from + p) % 32
 going_round from k p l =
     let e : from + k + (1 + (p - k - 1)) ≡ from + p = omega arith in
     let f : (from + k) % 32 + 1 + (p - k - 1) ≡ (from + k) % 32 + (1 + (p - k - 1)) = omega arith in
-    mod-add ((from + k) % 32 + 1) (p - k - 1) ∙ ap (λ (n : ℕ). n % 32) f ∙ mod-add (from + k) (1 + (p - k - 1)) ∙ ap (λ (n : ℕ). n % 32) e
+    mod-add-mod ((from + k) % 32 + 1) 32 (p - k - 1) ∙ ap (λ (n : ℕ). n % 32) f ∙ mod-add-mod (from + k) 32 (1 + (p - k - 1)) ∙ ap (λ (n : ℕ). n % 32) e
 
 -- two of the next 32 are not the same
 apart : (from k p : ℕ) → k < p → p < 32 → (from + p) % 32 ≡ (from + k) % 32 → ⊥
@@ -55,7 +54,7 @@ open_Queued {c} k q post =
     let e = open_Changed k q.whole post in
     both? (is_finished k.result.answer) (eqb k.camera c)
     (λ a same _. absurd (not_waiting q Free k.camera same (opened k post (is_finished_lem k.result.answer a)).free refl))
-    (λ other. kept q (e.slot c ∙ if_false _ _ _ other) e.from e.whole)
+    (λ other. kept q (e.slot c ∙ cond-false _ _ _ other) e.from e.whole)
 
 offer_Queued : {c p : ℕ} (k : OfferCall) → Queued c p k.desk → OfferPost k → Queued c p k.result.desk
 offer_Queued {c} k q post =
@@ -64,7 +63,7 @@ offer_Queued {c} k q post =
     (λ a same _.
     let g = offered_to k post (is_finished_lem k.result.answer a) in
     absurd (not_waiting q (Idle g.frame) k.camera same g.idle refl))
-    (λ other. kept q (e.slot c ∙ if_false _ _ _ other) e.from e.whole)
+    (λ other. kept q (e.slot c ∙ cond-false _ _ _ other) e.from e.whole)
 
 step_Queued : {c p : ℕ} (k : StepCall) → Queued c p k.desk → StepPost k
     → (tells c k.result.served ≡ true) ⊎ ((n : ℕ) × ((n < p) × Queued c n k.result.desk))
@@ -85,7 +84,7 @@ step_Queued {c} {p} k q post =
               omega arith,
               record {
                 whole = served_Whole k e t.frame t.band t.turn s q.whole;
-                waiting = ap is_waiting (slot ∙ if_false (eqb e c) _ _ other) ∙ q.waiting;
+                waiting = ap is_waiting (slot ∙ cond-false (eqb e c) _ _ other) ∙ q.waiting;
                 near = omega (arith, q.near);
                 place = ap (λ (x : Desk). asked x.from (p - t.k - 1)) s.desk ∙ going_round d.from t.k p before ∙ q.place;
               },

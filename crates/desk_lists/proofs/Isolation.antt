@@ -6,6 +6,7 @@ use mathlib.Core.Bool.{Bool, true, false, cond, true≢false}
 use mathlib.Core.List.{List, [], ◌∷◌, ◌++◌}
 use borrow.Author.Tests.{eqb-true}
 use lib.Dec.{eqb}
+use Rattle.std.proofs.lemmas.Bool.{cond-true, cond-false}
 use Rattle.band_calls.specs.declared.FrameAnswer.{FrameAnswer}
 use Rattle.band_calls.specs.BandCall.{BandCall}
 use Rattle.desk_places.specs.declared.FrameParts.{FrameParts}
@@ -24,7 +25,7 @@ use Rattle.desk_lists.specs.Isolation.{LastStep, no_step, last_step, last_of, Pl
 use Rattle.desk_lists.specs.Isolation.{OwnBand, own_band}
 use Rattle.desk_lists.specs.Isolation.{dropped, called, calls_of, bands_of, History, no_frame, since, is_finished, call_in, turned_in}
 use Rattle.desk_lists.specs.Isolation.{and_turned, and_offered, and_served, noted, history_of, Isolated, Isolation}
-use Rattle.desk_lists.proofs.Slots.{Whole, both?, if_true, if_false, is_finished_lem, opened, offered_to, open_Changed, offer_Changed}
+use Rattle.desk_lists.proofs.Slots.{Whole, both?, is_finished_lem, opened, offered_to, open_Changed, offer_Changed}
 use Rattle.desk_lists.proofs.Slots.{fresh_free, waits, served_slot, served_Whole}
 use Rattle.desk_lists.proofs.Bands.{calls_called, calls_dropped, bands_more}
 use Rattle.desk_lists.proofs.Apart.{HasParts, planes_kept, Apart, open_Apart, offer_Apart, served_Apart, served_clear}
@@ -147,7 +148,7 @@ module _ (c : ℕ) (h : History) (before : List ℕ) (l : LastStep) (k : StepCal
 
     other_good : eqb e c ≡ false → KeptOf c h (slot_at k.result.desk c) k.lent.source (last_step k)
     other_good other =
-        let slot = served_slot k e f b turn s good.whole c ∙ if_false _ _ _ other in
+        let slot = served_slot k e f b turn s good.whole c ∙ cond-false _ _ _ other in
         subst⁻¹ (λ (x : Slot). KeptOf c h x k.lent.source (last_step k)) slot
         (not_served c h k (slot_at k.desk c) before l slot (ap (tells c) s.served ∙ other) back (bands c)
         (bytes (are_lent f b k.lent) s.met other) good.kept)
@@ -157,7 +158,7 @@ module _ (c : ℕ) (h : History) (before : List ℕ) (l : LastStep) (k : StepCal
     own_good same =
         let stood : slot_at k.desk c ≡ Waiting f b
         = ap (slot_at k.desk) (sym (eqb-true e c same)) ∙ (waits k e f b turn s good.whole).slot in
-        let slot = served_slot k e f b turn s good.whole c ∙ if_true _ _ _ same in
+        let slot = served_slot k e f b turn s good.whole c ∙ cond-true _ _ _ same in
         let a = subst (λ (x : Slot). KeptOf c h x before l) stood good.kept in
         let band = subst (λ (x : Slot). SameBand x k.lent.source before) stood (bands c) in
         subst⁻¹ (λ (x : Slot). KeptOf c (and_turned h (turned_in x k s.call.answer)) (slot_at k.result.desk c) k.lent.source (last_step k))

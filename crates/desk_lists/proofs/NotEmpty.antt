@@ -131,7 +131,7 @@ run-AsLeft l d p (to_step ∷ asks) back =
 -- ---- from a desk with no frame open
 
 -- where no band waits, it is no matter what the source was before
-no_band : (s : Slot) (x y : List ℕ) → is_waiting s ≡ false → SameBand s x y
+pub no_band : (s : Slot) (x y : List ℕ) → is_waiting s ≡ false → SameBand s x y
 no_band Free x y e = tt
 no_band (Idle f) x y e = tt
 no_band (Waiting f b) x y e = absurd (true≢false e)

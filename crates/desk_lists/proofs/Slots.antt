@@ -68,14 +68,6 @@ both? true true f g = f refl refl refl
 both? true false f g = g refl
 both? false b f g = g refl
 
-pub if_true : {A : Type 0} (t : Bool) (x y : A) → t ≡ true → cond t x y ≡ x
-if_true true x y e = refl
-if_true false x y e = absurd (true≢false (sym e))
-
-pub if_false : {A : Type 0} (t : Bool) (x y : A) → t ≡ false → cond t x y ≡ y
-if_false true x y e = absurd (true≢false e)
-if_false false x y e = refl
-
 -- ---- an opening and an offer: the number that they name is set where they were accepted
 
 pub record Changed (d : Desk) (own : ℕ → Bool) (s : Slot) (e : Desk) : Type 0 where

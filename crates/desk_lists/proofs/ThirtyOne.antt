@@ -10,6 +10,7 @@ use native.Mathlib.Numerals.{add-one}
 use borrow.Author.Tests.{le-ltb, le-leb, eqb-false, ne_eqb}
 use lib.Dec.{eqb, ltb}
 use lib.ListN.{length}
+use Rattle.std.proofs.lemmas.Bool.{cond-true, cond-false}
 use Rattle.yuv_support.specs.declared.YuvSourceChannels.TheVariants.{Rgb}
 use Rattle.yuv_support.specs.declared.YuvChromaSubsampling.TheVariants.{Yuv420}
 use Rattle.yuv_support.specs.declared.YuvRange.TheVariants.{Full}
@@ -39,7 +40,7 @@ use Rattle.desk.specs.declared.Desk.{Desk}
 use Rattle.desk.specs.DeskCall.{fresh, slot_at, put_slot, left_by, open_call, open_rules, opened_frame, offer_call, offer_rules, DeskAnswer}
 use Rattle.desk.specs.DeskCall.{StepCall, step_call, BandServed, Stepped, StepPost}
 use Rattle.desk_lists.specs.DeskLists.{DeskCall, AllMet, handed_back, HandedOn, desk_after, steps_in, tells, served_in}
-use Rattle.desk_lists.proofs.Slots.{Whole, put, put_whole, if_true, if_false, fresh_free, served_slot, served_Whole}
+use Rattle.desk_lists.proofs.Slots.{Whole, put, put_whole, fresh_free, served_slot, served_Whole}
 use Rattle.desk_lists.proofs.NotEmpty.{Ask, to_open, to_offer, to_step, step_answer, step_left, answered, buffers_after, run, run_met, run_handed}
 
 -- ---- frames that take no bytes
@@ -117,10 +118,10 @@ Half-more : (old new : Slot → Bool) (n : ℕ) (d : Desk) (s : Slot) → n < 32
 Half-more old new n d s l is h = record {
   whole = put_whole d n s h.whole;
   from = h.from;
-  below = λ c m. ap old (put d n c s h.whole l ∙ if_false (eqb n c) s (slot_at d c) (ne_eqb n c (λ e. omega arith))) ∙ h.below c (omega arith);
+  below = λ c m. ap old (put d n c s h.whole l ∙ cond-false (eqb n c) s (slot_at d c) (ne_eqb n c (λ e. omega arith))) ∙ h.below c (omega arith);
   above = λ c m b. (elim (eqb n c) as (λ t. eqb n c ≡ t → new (slot_at (put_slot d n s) c) ≡ true) [
-    | true ↦ λ e. ap new (put d n c s h.whole l ∙ if_true (eqb n c) s (slot_at d c) e) ∙ is
-    | false ↦ λ e. ap new (put d n c s h.whole l ∙ if_false (eqb n c) s (slot_at d c) e) ∙ h.above c (omega (arith, eqb-false n c e)) b
+    | true ↦ λ e. ap new (put d n c s h.whole l ∙ cond-true (eqb n c) s (slot_at d c) e) ∙ is
+    | false ↦ λ e. ap new (put d n c s h.whole l ∙ cond-false (eqb n c) s (slot_at d c) e) ∙ h.above c (omega (arith, eqb-false n c e)) b
   ]) refl;
 }
 
@@ -199,7 +200,7 @@ module _ (i : ℕ) (k : StepCall) (less : i < 31) (q : Next' i k.desk) (e : ℕ)
   others_wait : (c : ℕ) → i + 1 ≤ c → c < 32 → is_waiting (slot_at k.result.desk c) ≡ true
   others_wait c m l =
       let same = served_slot k e f b turn s q.whole c
-      ∙ if_false (eqb e c) (after_band f s.call.state) (slot_at k.desk c) (ne_eqb e c (λ x. omega arith)) in
+      ∙ cond-false (eqb e c) (after_band f s.call.state) (slot_at k.desk c) (ne_eqb e c (λ x. omega arith)) in
       ap is_waiting same ∙ q.waiting c (omega arith) l
 
   passes_on : Next' (i + 1) k.result.desk

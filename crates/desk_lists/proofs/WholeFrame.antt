@@ -3,7 +3,7 @@
 -- Assumes nothing.
 use Prim.Native.Nat.{ℕ, zero, suc, ◌+◌, min, max}
 use mathlib.Core.Path.{◌≡◌, refl, sym, ap, subst, ◌∙◌}
-use mathlib.Core.Bool.{Bool, true, false, cond, ◌||◌, true≢false}
+use mathlib.Core.Bool.{Bool, true, false, cond, ◌||◌}
 use mathlib.Core.List.{List, [], ◌∷◌, ◌++◌}
 use native.Mathlib.Omega.{arith}
 use native.Mathlib.Numerals.{add-one}
@@ -29,16 +29,16 @@ use Rattle.desk_places.specs.declared.Slot.{Slot}
 use Rattle.desk_places.specs.declared.Slot.TheVariants.{Free, Idle, Waiting}
 use Rattle.desk_places.specs.Places.{slot_in, is_open, is_waiting, are_inside, overlaps_slot, overlaps_open, first_waiting, next_waiting}
 use Rattle.desk_lists.proofs.Overlaps.{overlaps_start, overlaps_next}
-use Rattle.desk_bands.specs.Buffers.{Buffers, lengths_of, are_lent, band_call_in, Converted}
+use Rattle.desk_bands.specs.Buffers.{Buffers, lengths_of, are_lent, band_call_in}
 use Rattle.desk.specs.declared.Desk.{Desk}
 use Rattle.desk.specs.DeskCall.{fresh, slot_at, put_slot, number_rules, part_rules, OpenCall, open_call, opened_frame, OpenPost, served_by}
 use Rattle.desk.specs.DeskCall.{OfferCall, offer_call, OfferPost, StepCall, step_call, served_desk, StepPost}
 use Rattle.desk_lists.specs.DeskLists.{DeskCall, opening, offering, step, AllMet, HandedOn, desk_after}
-use Rattle.desk_lists.specs.Isolation.{no_step, last_of, SameBand, AsLeft, OwnBand, own_band, Turned, called, calls_of, no_frame, since, call_in}
+use Rattle.desk_lists.specs.Isolation.{no_step, last_of, AsLeft, OwnBand, own_band, Turned, called, calls_of, no_frame, since, call_in}
 use Rattle.desk_lists.specs.Isolation.{history_of, in_view}
 use Rattle.desk_lists.proofs.Slots.{put, fresh_free}
 use Rattle.desk_lists.proofs.CanServe.{CanServe, can_serve}
-use Rattle.desk_lists.proofs.NotEmpty.{same_band}
+use Rattle.desk_lists.proofs.NotEmpty.{same_band, no_band}
 use Rattle.desk_lists.proofs.ThirtyOne.{tiny, no_bytes, no_parts, no_lengths, open_first}
 
 -- ---- a frame in the whole of each buffer
@@ -150,9 +150,6 @@ module _ (d : FrameDescription) (stride : ℕ) (p : Buffers)
   is_lent : are_lent f b p ≡ true
   is_lent = rw (whole_inside p.source, inside)
 
-  made : Converted f b p c.call c.left
-  made = rw is_lent at c.met
-
   passes : first_numbers (rules_of (band_call_in f b p c.call c.left)) ≡ numbers 0 0 0
   passes = rw (whole_is p.source, whole_is p.y, whole_is p.u, whole_is p.v, whole_is p.carried)
       (band_passes (state_of d 0) d.height stride (lent.lengths_of p.source p.y p.u p.v) (length p.carried) a)
@@ -160,12 +157,6 @@ module _ (d : FrameDescription) (stride : ℕ) (p : Buffers)
   accepted : is_accepted (call_in f b k₄ c.call.answer) ≡ true
   unfolding is_accepted
   accepted = ap (λ (x : Numbers). eqb x.number 0) passes
-
-  -- no band waits when camera 7 offers its own
-  no_band : (s : Slot) (x y : List ℕ) → is_waiting s ≡ false → SameBand s x y
-  no_band Free x y e = tt
-  no_band (Idle g) x y e = tt
-  no_band (Waiting g v) x y e = absurd (true≢false e)
 
   none_waits : (e : ℕ) → is_waiting (slot_at d₂ e) ≡ false
   none_waits e =

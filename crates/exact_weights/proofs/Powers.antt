@@ -4,7 +4,7 @@
 use mathlib.Core.Path.{◌≡◌, sym, ap, ◌∙◌, subst}
 use mathlib.Core.Bool.{Bool, true, false, not, ◌&&◌}
 use Prim.Native.Nat.{ℕ, zero, suc, ◌+◌, ◌-◌, ◌*◌, ◌/◌, ◌%◌, ◌^◌, ◌≤◌, ◌<◌}
-use native.Mathlib.Nat.{le_trans, le_of_eq, le_of_lt, le_of_suc-le-suc, lt_of_le_of_lt, lt_of_not-le, not-le_of_lt}
+use native.Mathlib.Nat.{le_trans, le_of_eq, le_of_lt, le_of_suc-le-suc, lt_of_le_of_lt, lt_of_not-le, not-le_of_lt, div-mul-le_self}
 use native.Mathlib.Nat.{mul_assoc, pow-suc, mul-one, one-mul, mul-pos, mul-le-mul_right, le_of_mul-le-mul_right}
 use native.Mathlib.Omega.{arith}
 use lib.IntN.{ℤ, pos, negsuc}
@@ -143,13 +143,10 @@ module _ (s : Bool) (m : ℕ) (e : ℤ) (lo hi : ℕ) (few : m < 2 ^ 24) (i : In
       valued (neg half *f fin s m e) (unlike true s) (1 * 1 * x) (2 * d) (lo / 2) (hi / 2 + 2) (mul-pos (lit< tt) (down_pos e))
       (round_exact binary32 (unlike true s) (1 * 1 * x) (2 * d) m k (mul-pos (lit< tt) (down_pos e)) few q<
       (halved_is (2 ^ 149) x (m * 2 ^ suc k) d hi (down_pos e) is i.1 (m * 2 ^ k) q_is))
-      (omega (arith, i.0, mul-le-mul_right d (down≤ lo)), omega (arith, i.1, mul-le-mul_right d (up≤ hi)))
+      (omega (arith, i.0, mul-le-mul_right d (div-mul-le_self lo 2)), omega (arith, i.1, mul-le-mul_right d (up≤ hi)))
     where
       half≤ : (p q : ℕ) → q ≡ p * 2 → p ≤ q
       half≤ p q e = omega arith
-
-      down≤ : (a : ℕ) → a / 2 * 2 ≤ a
-      down≤ a = omega arith
 
       up≤ : (a : ℕ) → a ≤ (a / 2 + 2) * 2
       up≤ a = omega arith

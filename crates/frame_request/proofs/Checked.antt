@@ -17,7 +17,6 @@ use Rattle.definitions.proofs.Numbers.{chroma_rows}
 use Rattle.definitions.specs.Image.{whole_source}
 use Rattle.sharp_rgba_to_yuv.specs.FrameCall.{frame_rules}
 use Rattle.sharp_rgba_to_yuv.proofs.Whole.{whole_is_old}
-use Rattle.frame_request.specs.declared.PlaneSizes.{PlaneSizes}
 use Rattle.frame_request.specs.Request.{frame_of, source_stride, luma_size, chroma_size, packed_lengths}
 use Rattle.frame_request.specs.Request.{malformed, header_rules, area_rules, opening_rules, buffer_rules, request_rules}
 use Rattle.frame_request.specs.Packed.{Packed}
@@ -56,18 +55,17 @@ chroma_small input k =
     let d = frame_of input in
     mul-le-mul (omega (arith, k.width_least)) (chroma_rows d.settings.sampling d.height k.height_least).1
 
-pub packed : (input : List ℕ) (sizes : PlaneSizes) → Checked input → sizes.luma ≡ luma_size (frame_of input) → sizes.chroma ≡ chroma_size (frame_of input)
-    → Packed (frame_of input) sizes
+pub packed : (input : List ℕ) → Checked input → Packed (frame_of input)
 unfolding frame_of
-packed input sizes k l c = record {
+packed input k = record {
   width_least = k.width_least;
+  width_most = k.width_most;
   height_least = k.height_least;
+  height_most = k.height_most;
   y_stride = refl;
   u_stride = refl;
   v_stride = refl;
-  luma = l;
-  luma_most_lem = omega (arith, k.area);
-  chroma = c;
+  luma_most = k.area;
   chroma_most = omega (arith, k.area, chroma_small input k);
 }
 

@@ -18,7 +18,6 @@ use Rattle.definitions.specs.Plane.{PlaneIs}
 use Rattle.definitions.specs.Bands.{Sharpened}
 use Rattle.definitions.proofs.Planes.{written_in, plane_other, plane_between}
 use Rattle.definitions.proofs.Finished.{finished_none, finished_last}
-use Rattle.frame_request.specs.declared.PlaneSizes.{PlaneSizes}
 use Rattle.frame_request.specs.Request.{byte_in, output_at, output_size, luma_size, chroma_size}
 use Rattle.frame_request.specs.Packed.{Packed}
 
@@ -81,11 +80,11 @@ module _ (d : FrameDescription) (image : Image) where
       )
 
 -- all three planes, put one behind the other
-pub output_Painted : (d : FrameDescription) (sizes : PlaneSizes) (image : Image) (output y u v y' u' v' : List ℕ) → Packed d sizes → 49152 ≤ length output
-    → length y' ≡ sizes.luma → length u' ≡ sizes.chroma → length v' ≡ sizes.chroma → Sharpened d 0 d.height image y u v y' u' v'
+pub output_Painted : (d : FrameDescription) (image : Image) (output y u v y' u' v' : List ℕ) → Packed d → 49152 ≤ length output
+    → length y' ≡ luma_size d → length u' ≡ chroma_size d → length v' ≡ chroma_size d → Sharpened d 0 d.height image y u v y' u' v'
     → Painted (output_size d) (output_at d image) output
-    (put_mid (sizes.luma + sizes.chroma) (length v') (put_mid sizes.luma (length u') (put_mid 0 (length y') output y') u') v')
-output_Painted d sizes image output y u v y' u' v' packed room ysize usize vsize planes = third
+    (put_mid (luma_size d + chroma_size d) (length v') (put_mid (luma_size d) (length u') (put_mid 0 (length y') output y') u') v')
+output_Painted d image output y u v y' u' v' packed room ysize usize vsize planes = third
   where
     f : ℕ → ℕ
     f = output_at d image
@@ -103,20 +102,20 @@ output_Painted d sizes image output y u v y' u' v' packed room ysize usize vsize
     cr : Painted (chroma_size d) (byte_in (cr_at d image) (chroma_width d.width)) v v'
     cr = chroma_Painted d d.v_stride (chroma_width d.width) _ v v' packed.height_least narrow packed.v_stride planes.cr
 
-    first : Painted sizes.luma f output (put_mid 0 (length y') output y')
-    first = Painted-put 0 sizes.luma f output output y' (omega arith) (omega (arith, packed))
+    first : Painted (luma_size d) f output (put_mid 0 (length y') output y')
+    first = Painted-put 0 (luma_size d) f output output y' (omega arith) (omega (arith, packed))
         (λ q l. Painted-at luma q (omega (arith, packed)) ∙ sym (luma_byte d image q (omega (arith, packed))) ∙ ap f (omega arith))
         (Painted-none f output)
 
-    second : Painted (sizes.luma + sizes.chroma) f output (put_mid sizes.luma (length u') (put_mid 0 (length y') output y') u')
-    second = Painted-put sizes.luma (sizes.luma + sizes.chroma) f output (put_mid 0 (length y') output y') u' (omega arith)
+    second : Painted (luma_size d + chroma_size d) f output (put_mid (luma_size d) (length u') (put_mid 0 (length y') output y') u')
+    second = Painted-put (luma_size d) (luma_size d + chroma_size d) f output (put_mid 0 (length y') output y') u' (omega arith)
         (omega (arith, packed, first.size))
         (λ q l. Painted-at cb q (omega (arith, packed)) ∙ sym (cb_byte d image q (omega (arith, packed))) ∙ ap f (omega (arith, packed)))
         first
 
-    third : Painted (output_size d) f output (put_mid (sizes.luma + sizes.chroma) (length v')
-        (put_mid sizes.luma (length u') (put_mid 0 (length y') output y') u') v')
-    third = Painted-put (sizes.luma + sizes.chroma) (output_size d) f output (put_mid sizes.luma (length u') (put_mid 0 (length y') output y') u') v'
+    third : Painted (output_size d) f output (put_mid (luma_size d + chroma_size d) (length v')
+        (put_mid (luma_size d) (length u') (put_mid 0 (length y') output y') u') v')
+    third = Painted-put (luma_size d + chroma_size d) (output_size d) f output (put_mid (luma_size d) (length u') (put_mid 0 (length y') output y') u') v'
         (omega (arith, packed)) (omega (arith, packed, second.size))
         (λ q l. Painted-at cr q (omega (arith, packed)) ∙ sym (cr_byte d image q (omega (arith, packed))) ∙ ap f (omega (arith, packed)))
         second

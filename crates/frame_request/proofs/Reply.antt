@@ -1,23 +1,25 @@
 -- What the program writes, from the promise of a request: planes that are painted at the start of the output stand there as a list, and a
 -- refusal leaves the output as it was until its line is put there. Assumes nothing.
-use Prim.Native.Nat.{ℕ, zero, suc, ◌+◌, ◌≤◌, ◌<◌}
+use Prim.Native.Nat.{ℕ, zero, suc, ◌+◌, ◌/◌, ◌≤◌, ◌<◌}
 use mathlib.Core.Path.{◌≡◌, refl, sym, ap, subst, ◌∙◌}
 use mathlib.Core.Bool.{Bool, true, false, cond, ◌||◌}
 use mathlib.Core.List.{List, [], ◌∷◌, ◌++◌, append_assoc}
 use native.Mathlib.Omega.{arith}
-use borrow.Author.Tests.{ne_eqb}
+use borrow.Author.Tests.{ne_eqb, lt-ltb, le-ltb}
 use lib.Dec.{ltb, eqb, lit≤}
-use lib.ListN.{length, get_or, take, drop, length-append, length-drop, get_or-append}
-use lib.Seq.{ext_get_or, get_or-take, get_or-drop, get_or_at, take_at, drop_at, drop-drop, length-take-le, take_all}
+use lib.ListN.{length, get_or, set, take, drop, length-append, length-drop, get_or-append}
+use lib.Seq.{sets, sets-eq, ext_get_or, get_or-take, get_or-drop, get_or_at, take_at, drop_at, drop-drop, length-take-le, take_all}
 use Rattle.yuv_error.specs.declared.MismatchedSize.{MismatchedSize}
 use Rattle.yuv_error.specs.declared.YuvError.{YuvError}
 use Rattle.yuv_error.specs.Numbers.{Numbers, numbers, sized, error_numbers}
 use Rattle.yuv_error.specs.Rules.{first_numbers}
 use Rattle.yuv_error.proofs.Numbers.{refused_number}
 use Rattle.definitions.specs.Painted.{Painted}
-use Rattle.definitions.proofs.Painted.{by_place, Painted-at, Painted-other, painted_same}
+use Rattle.definitions.proofs.Painted.{Painted-at, Painted-other, painted_same}
 use Rattle.definitions.proofs.Planes.{below?}
-use Rattle.std.specs.Prelude.{Result, Ok, Err}
+use Rattle.std.specs.Prelude.{Result, Ok, Err, decimal as digits}
+use Rattle.std.proofs.lemmas.Fmt.{decimal_digit, decimal_step, length-decimal-le}
+use Rattle.decimal.proofs.Digits.{sets_last}
 use Rattle.frame_request.specs.Request.{frame_of, malformed, luma_size, request_rules, response_numbers, output_size, answer_at, RequestPost}
 use Rattle.frame_request.specs.Reply.{first_bytes, decimal, refused_text, refusal_line, reply, Begins}
 use Rattle.frame_request.proofs.Answers.{rows_size, request_answer, request_answer_lem}
@@ -56,7 +58,7 @@ first_at : (f : ℕ → ℕ) (n k : ℕ) → k < n → get_or (first_bytes f n) 
 unfolding first_bytes
 first_at f zero k h = absurd (omega arith)
 first_at f (suc n) k h =
-    by_place k n (λ l. get_or-append (first_bytes f n) (f n ∷ []) 0 k (omega (arith, first_size f n)) ∙ first_at f n k l)
+    below? k n (λ l. get_or-append (first_bytes f n) (f n ∷ []) 0 k (omega (arith, first_size f n)) ∙ first_at f n k l)
     (λ l. let e : k ≡ n = omega arith in rw e (get_or_at (first_bytes f n) (f n) [] 0 n (first_size f n)))
 
 Painted-Begins : {n : ℕ} {f : ℕ → ℕ} {d e : List ℕ} → n ≤ length d → Painted n f d e → Begins (first_bytes f n) d n e
@@ -93,12 +95,28 @@ number_most input =
     go false false false false true x y = lit≤ tt
     go false false false false false x y = lit≤ tt
 
--- the line, once its text and then its digits and the newline are put down
-pub line_Begins : (n k : ℕ) (digits o p q : List ℕ) → digits ≡ decimal n → length (digits ++ (10 ∷ [])) ≡ k
-    → p ≡ refused_text ++ drop 8 o → q ≡ take 8 p ++ ((digits ++ (10 ∷ [])) ++ drop k (drop 8 p)) → Begins (refusal_line n) o (8 + k) q
-line_Begins n k digits o p q is size first second =
-    subst (λ (xs : List ℕ). Begins (refused_text ++ (xs ++ (10 ∷ []))) o (8 + k) q) is
-    (Begins-more refused_text (digits ++ (10 ∷ [])) o p q 8 k refl size first second)
+-- its digits are those that std prints
+pub digits_are : (n : ℕ) → n < 100 → digits n ≡ decimal n
+digits_are n l = below? n 10
+    (λ s. rw (lt-ltb n 10 s) (decimal_digit n s))
+    (λ s. rw (le-ltb n 10 s, decimal_step n s (omega arith), decimal_digit (n / 10) (omega arith)))
+
+pub digits_most : (n : ℕ) → n < 100 → length (digits n) ≤ 2
+digits_most n l = length-decimal-le 2 n (lit≤ tt) l (omega arith)
+
+-- the line, once its text, its digits and the newline are put down
+pub line_Begins : (n e : ℕ) (o p q : List ℕ) → n < 100 → 11 ≤ length o → p ≡ refused_text ++ drop 8 o → e ≡ 8 + length (digits n)
+    → q ≡ set (sets p 8 (digits n)) e 10 → Begins (refusal_line n) o (e + 1) q
+line_Begins n e o p q small room first end last =
+    let tail : List ℕ = digits n ++ (10 ∷ []) in
+    let long : length tail ≡ length (digits n) + 1 = length-append (digits n) (10 ∷ []) in
+    let size : length p ≡ length o = omega (arith, ap length first, length-append refused_text (drop 8 o), length-drop 8 o) in
+    let second : q ≡ take 8 p ++ (tail ++ drop (length tail) (drop 8 p)) =
+    last ∙ rw end (sym (sets_last (digits n) p 8 10)) ∙ sets-eq tail p 8 (omega (arith, long, size, digits_most n small))
+    ∙ append_assoc (take 8 p) tail (drop (8 + length tail) p) ∙ rw drop-drop refl in
+    let all : Begins (refused_text ++ tail) o (8 + length tail) q = Begins-more refused_text tail o p q 8 (length tail) refl refl first second in
+    let count : 8 + length tail ≡ e + 1 = omega (arith, long, end) in
+    rw (count, digits_are n small) at all
 
 -- ---- what is written
 

@@ -24,8 +24,9 @@ use Rattle.pixel_pairs.specs.Rows.{put_block422, block_at}
 use Rattle.pixel_pairs.specs.Rows.{LumaWritten, LumasPainted, LumasWritten, Lumas422, ChromaWritten}
 use Rattle.pixel_pairs.specs.Rows.{LumaMore, ChromaMore, Begun, Begun420, Begun422, Stepped}
 use Rattle.definitions.proofs.Painted.{Painted-more}
+use Rattle.definitions.proofs.SameRows.{colour_same}
 use Rattle.pixel_pairs.proofs.TwoRows.{two_to, two_pairs, Painted-to, Painted-pair, length_as}
-use Rattle.pixel_pairs.proofs.Weights.{shaped, shape_of, colour_same, three_same, colour_read}
+use Rattle.pixel_pairs.proofs.Weights.{shaped, shape_of, three_same, colour_read}
 use Rattle.pixel_pairs.proofs.TableSums.{in_row, light, total_fits, lumas_are, over, linears420, mixed420, linears422, mixed422}
 
 -- the tables of a frame, as its luma asks for them
@@ -88,8 +89,8 @@ chroma_more d b j {u} {v} {cb} {cr} hu hv eb er = record {
   further = λ input is u₀ v₀ p.
       let same = colour_read (input j) is in
       record {
-        cb = Painted-more cb hu (eb ∙ colour_same d.settings (cb_of d.settings) same) p.cb;
-        cr = Painted-more cr hv (er ∙ colour_same d.settings (cr_of d.settings) same) p.cr;
+        cb = Painted-more cb hu (eb ∙ colour_same d.settings (cb_of d.settings) _ _ same) p.cb;
+        cr = Painted-more cr hv (er ∙ colour_same d.settings (cr_of d.settings) _ _ same) p.cr;
       };
 }
 

@@ -19,8 +19,8 @@ use Rattle.pixel_pairs.specs.Tables.{luma_part, Places, SumTables, left_entry, r
 use Rattle.pixel_pairs.specs.Pixels.{AreBytes, sum_at, entries_at, Paired, Light, total, left_luma, right_luma, sixteenths_of, quarters_of, corrected_by, Over}
 use Rattle.pixel_pairs.specs.Pixels.{Linears}
 use Rattle.pixel_pairs.specs.Rows.{TwoPainted, RowOf}
-use Rattle.definitions.proofs.Painted.{by_place}
 use Rattle.definitions.proofs.Inputs.{input420_pair, input420_last, input422_pair}
+use Rattle.definitions.proofs.Planes.{below?}
 use Rattle.pixel_pairs.proofs.Weights.{by_three, luma_of_lem}
 
 -- ---- the tables, a place after the other
@@ -37,12 +37,12 @@ Places-more {n} {s} lin {t} {t'} weight start small part lin_is p q = record { s
   where
     left : (i x : ℕ) → i < n + 1 → x < 256 → get_or t' (256 * i + x) 0 ≡ left_entry (luma_part s i x) (linear s x)
     left i x h l =
-        by_place i n (λ k. q.other (256 * i + x) (λ a b. omega arith) (λ a b. omega arith) ∙ p.left i x k l)
+        below? i n (λ k. q.other (256 * i + x) (λ a b. omega arith) (λ a b. omega arith) ∙ p.left i x k l)
         (λ k. let e : i ≡ n = omega arith in rw e (q.in_upper x l ∙ rw (part x, lin_is x l)))
 
     right : (i x : ℕ) → i < n + 1 → x < 256 → get_or t' (768 + 256 * i + x) 0 ≡ right_entry (luma_part s i x) (linear s x)
     right i x h l =
-        by_place i n (λ k. q.other (768 + 256 * i + x) (λ a b. omega arith) (λ a b. omega arith) ∙ p.right i x k l)
+        below? i n (λ k. q.other (768 + 256 * i + x) (λ a b. omega arith) (λ a b. omega arith) ∙ p.right i x k l)
         (λ k. let e : i ≡ n = omega arith in rw e (q.in_lower x l ∙ rw (part x, lin_is x l)))
 
 -- ---- numbers in one
@@ -84,7 +84,7 @@ module _ (s : YuvSettings) (p : Shape s.range (weights_of s)) where
     -- two entries do not wrap
     pub light : Light sums
     light k h =
-        by_place k 768
+        below? k 768
         (λ l. let e : 256 * (k / 256) + k % 256 ≡ k = omega arith in rw e at (left_light (k / 256) (k % 256) (omega arith) (omega arith)))
         (λ l. let j = k - 768 in let e : 768 + 256 * (j / 256) + j % 256 ≡ k = omega arith in rw e at
         (right_light (j / 256) (j % 256) (omega arith) (omega arith)))
@@ -152,7 +152,7 @@ module _ (d : FrameDescription) (p : Shape d.settings.range (weights_of d.settin
         corrected s (9 * linear s (row (2 * j) i) + 3 * linear s (row next i) + 3 * linear s (below (2 * j) i) + 1 * linear s
         (below next i)) ≡ input420 d row below j i
     input420_is i =
-        by_place (2 * j + 1) d.width
+        below? (2 * j + 1) d.width
         (λ h. let n : next ≡ 2 * j + 1 = omega arith in rw n (input420_pair d row below j i h))
         (λ h.
         let n : next ≡ 2 * j = omega arith in

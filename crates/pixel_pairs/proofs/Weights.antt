@@ -9,10 +9,9 @@ use lib.Dec.{lit<, lit≤}
 use lib.IntN.{ℤ, pos, neg_ℤ, nat_abs, ◌+ℤ◌, ◌*ℤ◌, +ℤ_assoc, +ℤ_comm}
 use Rattle.yuv_support.specs.declared.YuvSourceChannels.{YuvSourceChannels}
 use Rattle.yuv_support.specs.declared.YuvSourceChannels.TheVariants.{Rgb, Rgba, Bgra, Bgr}
-use Rattle.yuv_support.specs.Channels.{channels_count, r_offset, g_offset, b_offset}
+use Rattle.yuv_support.specs.Channels.{r_offset, g_offset, b_offset}
 use Rattle.yuv_support.specs.declared.YuvRange.{YuvRange}
 use Rattle.yuv_support.specs.declared.YuvRange.TheVariants.{Limited, Full}
-use Rattle.yuv_support.specs.Range.{yuv_range}
 use Rattle.forward_transform.specs.declared.CbCrForwardTransform.{CbCrForwardTransform}
 use Rattle.forward_transform.specs.Shape.{Shape, luma_most, chroma_top}
 use Rattle.forward_transform.proofs.Signed.{size_neg}
@@ -21,6 +20,7 @@ use Rattle.definitions.specs.declared.YuvSettings.{YuvSettings}
 use Rattle.definitions.specs.Pixel.{floor_div, weigh, held_between, weights_of, bias_y, cap_uv, luma_of, cb_of, cr_of}
 use Rattle.definitions.specs.Row.{of_colour}
 use Rattle.definitions.proofs.Pixel.{at_most_is, held_is}
+use Rattle.definitions.proofs.SameRows.{offsets}
 use Rattle.pixel_pairs.specs.declared.tables.Conversion.{Conversion}
 use Rattle.pixel_pairs.specs.Weights.{by_place, cb_weights, cr_weights, Shaped, Converts, InByte, ByteWeights}
 use Rattle.pixel_pairs.specs.Tables.{part_of, luma_part}
@@ -37,24 +37,6 @@ by_three P p q r (suc (suc zero)) h = r
 by_three P p q r (suc (suc (suc i))) h = absurd (omega arith)
 
 -- ---- the order of a pixel's bytes
-
-pub count_range : (channels : YuvSourceChannels) → (3 ≤ channels_count channels) × (channels_count channels ≤ 4)
-count_range Rgb = (lit≤ tt, lit≤ tt)
-count_range Rgba = (lit≤ tt, lit≤ tt)
-count_range Bgra = (lit≤ tt, lit≤ tt)
-count_range Bgr = (lit≤ tt, lit≤ tt)
-
-offsets : (c : YuvSourceChannels) → (r_offset c < 3) × (g_offset c < 3) × (b_offset c < 3)
-offsets Rgb = (lit< tt, lit< tt, lit< tt)
-offsets Rgba = (lit< tt, lit< tt, lit< tt)
-offsets Bgra = (lit< tt, lit< tt, lit< tt)
-offsets Bgr = (lit< tt, lit< tt, lit< tt)
-
--- a function of r, g, b reads the first three bytes of a pixel and nothing else
-pub colour_same : (s : YuvSettings) (f : ℕ → ℕ → ℕ → ℕ) {p q : ℕ → ℕ} → ((i : ℕ) → i < 3 → p i ≡ q i) → of_colour s f p ≡ of_colour s f q
-colour_same s f same =
-    let o = offsets s.channels in
-    rw (same (r_offset s.channels) o.0, same (g_offset s.channels) o.1, same (b_offset s.channels) o.2)
 
 pub three_same : {p q : ℕ → ℕ} → ((i : ℕ) → i < 3 → p i ≡ q i) → first_three p ≡ first_three q
 three_same same = rw (same 0 (lit< tt), same 1 (lit< tt), same 2 (lit< tt))
@@ -156,10 +138,6 @@ pub record Small (wr wg wb : ℤ) : Type 0 where
 limits : (range : YuvRange) → (luma_most range ≤ 8193) × (chroma_top range ≤ 4096)
 limits Limited = (lit≤ tt, lit≤ tt)
 limits Full = (lit≤ tt, lit≤ tt)
-
-pub bias_small : (range : YuvRange) → (yuv_range range).bias_y ≤ 16
-bias_small Limited = lit≤ tt
-bias_small Full = lit≤ tt
 
 positive : {w : ℤ} (n : ℕ) → w ≡ pos n → n ≤ 8193 → nat_abs w ≤ 8193
 positive n e h = rw e h

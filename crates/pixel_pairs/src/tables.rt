@@ -77,15 +77,13 @@ fn weighed(x: usize, weight: u64, start: u64) -> u64
 
 // The entries of one place of a pixel, in both tables: `start` is what luma starts from there.
 fn fill(linear: &[u16; 256], at: usize, weight: u64, start: u64, sums: &mut [u64; 1536])
-    requires at_bound { (at ≤ 512) × (weight ≤ 8193) × (start < 2097152) }
-    requires sums_len { length sums.old ≡ 1536 }
+    requires { (at ≤ 512) × (weight ≤ 8193) × (start < 2097152) }
     ensures { TwoPainted at (768 + at) 256 (λ x. left_entry (x * weight + start) (get_or linear.now x 0))
         (λ x. right_entry (x * weight + start) (get_or linear.now x 0)) sums.old sums.new }
 {
     let right = 768 + at;
-    // by number: a step writes two entries of one array, and x is in what it writes
-    for x in 0..256 {
-        let value = u64::from(linear[x]);
+    for (x, &value) in linear.iter().enumerate() {
+        let value = u64::from(value);
         let luma = weighed(x, weight, start);
         sums[at + x] = LINEAR * (3 * value + 2) + luma;
         sums[right + x] = LINEAR * value + RIGHT * luma;
@@ -101,7 +99,6 @@ pub fn sum_tables(
 )
     requires weighed { Weighed frame.settings t }
     requires table_of { TableOf 256 (linear_of frame.settings) linear.now }
-    requires sums_len { length sums.old ≡ 1536 }
     ensures { SumTables frame.settings sums.new }
 {
     let weights = by_place(frame.settings.channels, t.yr, t.yg, t.yb);

@@ -20,16 +20,6 @@ step : (t : Bool) (i f : ℕ) → suc i ≤ cond t (suc f) 0 → (t ≡ true) ×
 step true i f h = (refl, omega arith)
 step false i f h = absurd (omega arith)
 
-pub front_most : (a b : List ℕ) → equal_front a b ≤ length a
-unfolding equal_front
-front_most [] b = omega arith
-front_most (x ∷ a) [] = omega arith
-front_most (x ∷ a) (y ∷ b) = at (front_most a b) (eqb x y)
-  where
-    at : equal_front a b ≤ length a → (t : Bool) → cond t (suc (equal_front a b)) 0 ≤ suc (length a)
-    at h true = omega arith
-    at h false = omega arith
-
 pub front_more : (a b : List ℕ) (i : ℕ) → i < length a → i < length b → get_or a i 0 ≡ get_or b i 0 → i ≤ equal_front a b → i + 1 ≤ equal_front a b
 unfolding equal_front
 front_more [] b i ha hb e h = absurd (omega arith)
@@ -136,9 +126,6 @@ tail_told (suc n) i a b ha hb h =
 -- a row below h ends within h rows
 pub row_end : (w r h : ℕ) → r < h → w * r + w ≤ w * h
 row_end w r h l = omega (arith, mul-le-mul_left {m = suc r} {n = h} w (omega arith), mul-suc w r)
-
-pub next_row : (w r : ℕ) → w * (r + 1) ≡ w * r + w
-next_row w r = omega (arith, mul-suc w r)
 
 -- ---- what a comparison answers
 

@@ -1,24 +1,22 @@
 -- Two sizes that test as the same are one size; a plane has the bytes that its size says; the planes say what the first unequal one says.
 -- Assumes nothing.
-use Prim.Native.Nat.{ℕ, zero, suc, ◌*◌, ◌≤◌, ◌<◌}
+use Prim.Native.Nat.{ℕ, zero, suc, ◌*◌, ◌≤◌}
 use mathlib.Core.Path.{◌≡◌, refl, sym, ◌∙◌, ap, ap₂}
 use mathlib.Core.Bool.{Bool, true, false, not, ◌&&◌, true≢false}
 use denote.Enum.Bare.{sameb}
 use mathlib.Core.List.{List, [], ◌++◌, append-nil}
 use borrow.Author.Tests.{eqb-true, eq-eqb}
-use native.Mathlib.Omega.{arith}
 use lib.Dec.{eqb}
 use lib.ListN.{length}
+use Rattle.std.proofs.lemmas.Bool.{and_parts}
 use Rattle.yuv_support.specs.contracts.YuvChromaSubsampling.{the_type}
 use Rattle.yuv_support.specs.declared.YuvChromaSubsampling.{YuvChromaSubsampling}
 use Rattle.yuv_support.specs.declared.YuvChromaSubsampling.TheVariants.{Yuv420, Yuv422}
 use Rattle.shift_file.specs.declared.ShiftForm.{ShiftForm}
 use Rattle.shift_file.specs.File.{ShiftRecord, Allowed, chroma_bytes, bytes_of, header_size, sampling_of}
-use Rattle.shift_file.specs.Read.{settings_at, records_in}
-use Rattle.shift_file.proofs.Record.{both, settings_is}
-use Rattle.shift_reader.specs.declared.file.ShiftFile.{ShiftFile}
-use Rattle.shift_reader.specs.Entry.{record_of}
-use Rattle.shift_reader.proofs.Places.{Known, known, allowed, header_there}
+use Rattle.shift_file.specs.Read.{settings_at}
+use Rattle.shift_file.proofs.Record.{settings_is}
+use Rattle.shift_reader.proofs.Places.{header_there}
 use Rattle.std.proofs.Common.{Option, Some, None}
 use Rattle.record_difference.specs.declared.Plane.{Plane}
 use Rattle.record_difference.specs.declared.Plane.TheVariants.{Y, U, «V»}
@@ -42,8 +40,8 @@ sampling_itself Yuv422 = refl
 
 pub size_same : (a b : FrameSize) → same_size a b ≡ true → a ≡ b
 size_same a b e =
-    let p = both (eqb a.width b.width) _ e in
-    let q = both (eqb a.height b.height) _ p.1 in
+    let p = and_parts (eqb a.width b.width) _ e in
+    let q = and_parts (eqb a.height b.height) _ p.1 in
     let width = eqb-true a.width b.width p.0 in
     let height = eqb-true a.height b.height q.0 in
     let sampling = sampling_same a.sampling b.sampling q.1 in
@@ -65,11 +63,6 @@ sizes_differ a b t e =
     true≢false (t ∙ ap not (same ∙ ap (same_size a) (sym e) ∙ size_itself a))
 
 -- ---- planes
-
-pub its_Allowed : (f : ShiftFile) (k : ℕ) → k < f.count → Allowed f.form (record_of f.form f.bytes.now k)
-its_Allowed f k h =
-    let its : Known f.form f.bytes.now = known f.form f.bytes.now f.checked f.are_bytes in
-    allowed f.form f.bytes.now (records_in f.form f.bytes.now) k its.its (omega (arith, its.count, f.counted, h))
 
 pub picked : (plane : Plane) (r : ShiftRecord) (y u v : List ℕ) → y ≡ r.y → u ≡ r.u → v ≡ r.v → pick plane y u v ≡ plane_of plane r
 picked Y r y u v ey eu ev = ey

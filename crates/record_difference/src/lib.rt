@@ -36,7 +36,7 @@ impl From<Plane> for u64 {
     }
 }
 
-// What two frames must have in common before their planes are compared. `HeaderLine` of `y4m_line` has the same fields: what a line says, of any size.
+// What two frames must have in common before their planes are compared. `HeaderLine` of `y4m_line` has the same fields: what a line says, as `usize`.
 #[derive(Clone, Copy, Debug, PartialEq, Eq)]
 pub struct FrameSize {
     pub width: u16,

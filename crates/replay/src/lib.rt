@@ -5,5 +5,5 @@
 mod list;
 mod printed;
 
-pub use list::{List, each, over_streams, replay};
+pub use list::{List, each, over_streams, repeat, replay};
 pub use printed::{Answer, Digest, Left, Numbers, Planes, crc32};

@@ -19,7 +19,8 @@ pub struct List<'a> {
     pub alloc: Global,
 }
 
-fn repeat(buffer: &mut [u8], block: usize)
+// Repeats the first `block` bytes of a buffer to its end. A block of none leaves the buffer as it was.
+pub fn repeat(buffer: &mut [u8], block: usize)
     requires { block ≤ length buffer.old }
     ensures repeats { Repeats block buffer.new }
     ensures front { take block buffer.new ≡ take block buffer.old }
@@ -122,12 +123,16 @@ impl<'a> List<'a> {
             (planes.y.items ≡ replicate (next_room most left) 0)
             × (planes.u.items ≡ replicate (next_room most (drop 4 left)) 0)
             × (planes.v.items ≡ replicate (next_room most (drop 8 left)) 0)) }
-        ensures left { OnOk result (self.new.rest.now ≡ drop 12 self.old.rest.now) }
+        ensures left { self.new.rest.now ≡ drop 12 self.old.rest.now }
     {
-        let y = self.buffer(most)?;
-        let u = self.buffer(most)?;
-        let v = self.buffer(most)?;
-        Ok(Planes { y, u, v })
+        let y = self.room(most);
+        let u = self.room(most);
+        let v = self.room(most);
+        Ok(Planes {
+            y: vec![in self.alloc; 0u8; y]?,
+            u: vec![in self.alloc; 0u8; u]?,
+            v: vec![in self.alloc; 0u8; v]?,
+        })
     }
 
     // Fills a buffer with the next block, which is repeated.

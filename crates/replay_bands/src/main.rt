@@ -82,7 +82,8 @@ fn sequence<W: Write + Drop>(sequence: u32, list: &mut List<'_>, out: &mut W) ->
     })
 }
 
-// The program replay_desk has such a main too. One function for both would be `over_streams` once more, with `each`'s contract in place of `replay`'s: longer than both.
+// The program replay_desk has such a main too. One function for both, of which `over_streams` would be a case, was tried in three ways that the check does not
+// cover: a closure that moves its call into `replay::replay`, `replay::each` handed on as it is, and a closure's parameter of a function's type.
 fn main(rt: HostRuntime) -> io::Result<()> {
     let alloc = rt.alloc();
     let mut bytes = Vec::new(alloc);

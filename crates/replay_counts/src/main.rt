@@ -33,7 +33,7 @@ impl fmt::Display for Lines<'_> {
 }
 
 fn reply<W: Write + Drop>(request: &[u8], out: &mut W) -> io::Result<()> {
-    // The program's memory is fixed, so an output fills part of this.
+    // `reply_to` takes an array of this size, and the reply fills a part of it.
     let mut output = [0; 3328];
     let size = counts_request::reply_to(request, &mut output);
     let reply = Reply(&output[..size]);

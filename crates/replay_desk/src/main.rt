@@ -211,41 +211,49 @@ fn deliver(list: &mut List<'_>, source: &mut [u8]) {
     list.fill(&mut part[..length]);
 }
 
-// A call of this kind, and its line, which ends with the digest of the desk. The stored list says the kind by a number: here it becomes the call. An enum of the
-// kinds, made of the number first, would be matched once more and be no plainer.
-fn call<W: Write + Drop>(
-    kind: u32,
+// Makes a call and prints its line: the numbers of the history and of the call, what the call prints, and the digest of the desk.
+fn call<W: Write + Drop, F: FnOnce(&mut List<'_>, &mut Desk, &mut W) -> io::Result<()>>(
+    history: u32,
+    place: u32,
     list: &mut List<'_>,
     desk: &mut Desk,
-    buffers: &mut Buffers,
     out: &mut W,
-) -> io::Result<()> {
-    match kind {
-        OPENING => open(list, desk, out)?,
-        STEP => step(list, desk, buffers, out)?,
-        _ => offer(list, desk, out)?,
-    }
+    make: F,
+) -> io::Result<()>
+    requires { F.IsAlwaysCallable make }
+{
+    write!(out, "{history}.{place} ")?;
+    make(list, desk, out)?;
     let bytes = bytes_of(list.alloc, desk)?;
     let digest = Digest(&bytes);
     writeln!(out, " desk={digest}")
 }
 
-// The buffers, the desk, and what is asked, all of it on these.
+// The buffers, the desk, and what is asked, all of it on these. The stored list says what is asked by a number: here the number becomes the call. An enum of
+// the calls, made of it first, would be no plainer.
 fn history<W: Write + Drop>(history: u32, list: &mut List<'_>, out: &mut W) -> io::Result<()> {
     let mut buffers = read_buffers(list)?;
     let mut desk = read_desk(list);
-    replay::each(list, out, |place, list, out| {
-        let kind = list.number();
-        if kind == DELIVERY {
+    replay::each(list, out, |place, list, out| match list.number() {
+        OPENING => call(history, place, list, &mut desk, out, open),
+        STEP => call(
+            history,
+            place,
+            list,
+            &mut desk,
+            out,
+            |list, desk, out| step(list, desk, &mut buffers, out),
+        ),
+        DELIVERY => {
             deliver(list, &mut buffers.source);
-            return Ok(());
+            Ok(())
         }
-        write!(out, "{history}.{place} ")?;
-        call(kind, list, &mut desk, &mut buffers, out)
+        _ => call(history, place, list, &mut desk, out, offer),
     })
 }
 
-// The program replay_bands has such a main too. One function for both would be `over_streams` once more, with `each`'s contract in place of `replay`'s: longer than both.
+// The program replay_bands has such a main too. One function for both, of which `over_streams` would be a case, was tried in three ways that the check does not
+// cover: a closure that moves its call into `replay::replay`, `replay::each` handed on as it is, and a closure's parameter of a function's type.
 fn main(rt: HostRuntime) -> io::Result<()> {
     let alloc = rt.alloc();
     let mut bytes = Vec::new(alloc);

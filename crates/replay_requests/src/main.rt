@@ -12,7 +12,7 @@ use std::io;
 use std::io::Write;
 
 fn reply<W: Write + Drop>(request: &[u8], out: &mut W) -> io::Result<()> {
-    // The program's memory is fixed, so an output fills part of this.
+    // `reply_to` takes an array of this size, and the reply fills a part of it.
     let mut output = [0; 49152];
     let size = frame_request::reply_to(request, &mut output);
     let reply = Reply(&output[..size]);

@@ -33,7 +33,7 @@ fn read<W: Write + Drop>(kind: EntryKind, list: &mut List<'_>, out: &mut W) -> i
     let reading = shift_reader::read_records(kind, form, &file, first, &mut entries);
     let answer = Answer(reading.map(|_| ()));
     // Both 0 with a refusal.
-    let ShiftReading { count, told } = reading.unwrap_or(ShiftReading { count: 0, told: 0 });
+    let ShiftReading { count, told } = reading.unwrap_or_default();
     write!(out, "{answer} count={count} told={told}")?;
     if kind == EntryKind::PlacesAndSettings {
         // 1 for a file with settings; 0 after a refusal too.
@@ -42,6 +42,14 @@ fn read<W: Write + Drop>(kind: EntryKind, list: &mut List<'_>, out: &mut W) -> i
     }
     let entries = Numbers(&entries);
     write!(out, " entries{entries}")
+}
+
+fn left_of(written: Result<usize, NotWritten>, output: &[u8]) -> Left<'_> {
+    Left {
+        answer: shift_writer::outcome_of(written),
+        size: shift_writer::size_of(written),
+        output,
+    }
 }
 
 // Makes a call that reads the first of two buffers and writes into the second.
@@ -57,11 +65,7 @@ fn convert<W: Write + Drop, F: FnOnce(&[u8], &mut [u8]) -> Result<usize, NotWrit
     list.fill(&mut input);
     list.fill(&mut output);
     let written = make(&input, &mut output);
-    let left = Left {
-        answer: shift_writer::outcome_of(written),
-        size: shift_writer::size_of(written),
-        output: &output,
-    };
+    let left = left_of(written, &output);
     write!(out, "{left}")
 }
 
@@ -73,23 +77,24 @@ fn write<W: Write + Drop>(form: ShiftForm, list: &mut List<'_>, out: &mut W) -> 
     )
 }
 
-fn read_codes(list: &mut List<'_>, form: ShiftForm) -> SettingCodes {
-    match form {
-        ShiftForm::WithoutSettings => SettingCodes {
-            sampling: 0,
-            range: 0,
-            matrix: 0,
-            transfer: 0,
-        },
-        ShiftForm::WithSettings => SettingCodes {
-            sampling: list.number(),
-            range: list.number(),
-            matrix: list.number(),
-            transfer: list.number(),
-        },
+fn move_file<W: Write + Drop>(from: ShiftForm, list: &mut List<'_>, out: &mut W) -> io::Result<()> {
+    convert(
+        list,
+        out,
+        |file, output| shift_move::move_file(from, file, output),
+    )
+}
+
+fn read_codes(list: &mut List<'_>) -> SettingCodes {
+    SettingCodes {
+        sampling: list.number(),
+        range: list.number(),
+        matrix: list.number(),
+        transfer: list.number(),
     }
 }
 
+// The frame of a record: its settings stand in the list in the form that has them.
 fn read_frame(list: &mut List<'_>, form: ShiftForm) -> RecordFrame {
     let crossing = list.number();
     let width = list.number();
@@ -97,9 +102,11 @@ fn read_frame(list: &mut List<'_>, form: ShiftForm) -> RecordFrame {
     let y_stride = list.number();
     let u_stride = list.number();
     let v_stride = list.number();
-    let settings = read_codes(list, form);
+    let settings = match form {
+        ShiftForm::WithoutSettings => None,
+        ShiftForm::WithSettings => Some(read_codes(list)),
+    };
     RecordFrame {
-        form,
         crossing,
         width,
         height,
@@ -121,11 +128,7 @@ fn write_record<W: Write + Drop>(
     list.fill_planes(&mut planes);
     list.fill(&mut output);
     let written = shift_record::write_record(frame, &planes.y, &planes.u, &planes.v, &mut output);
-    let left = Left {
-        answer: shift_writer::outcome_of(written),
-        size: shift_writer::size_of(written),
-        output: &output,
-    };
+    let left = left_of(written, &output);
     write!(out, "{left}")
 }
 
@@ -138,8 +141,8 @@ fn call<W: Write + Drop>(list: &mut List<'_>, out: &mut W) -> io::Result<()> {
         3 => read(EntryKind::PlacesAndSettings, list, out),
         4 => write(ShiftForm::WithSettings, list, out),
         5 => write_record(ShiftForm::WithSettings, list, out),
-        6 => convert(list, out, shift_move::move_forward),
-        _ => convert(list, out, shift_move::move_back),
+        6 => move_file(ShiftForm::WithoutSettings, list, out),
+        _ => move_file(ShiftForm::WithSettings, list, out),
     }
 }
 

@@ -21,28 +21,37 @@ impl fmt::Display for Found {
     }
 }
 
-fn build<W: Write + Drop>(file: &[u8], summary: &mut [u8], out: &mut W) -> io::Result<()> {
-    let form = shift_file::form_of(file);
-    let answer = Answer(summary_calls::build_summary(form, file, summary));
-    let digest = Digest(summary);
+fn build<W: Write + Drop>(list: &mut List<'_>, out: &mut W) -> io::Result<()> {
+    let mut file = list.buffer(ROOM)?;
+    let mut summary = list.buffer(ROOM)?;
+    list.fill(&mut file);
+    list.fill(&mut summary);
+    let form = shift_file::form_of(&file);
+    let answer = Answer(summary_calls::build_summary(form, &file, &mut summary));
+    let digest = Digest(&summary);
     write!(out, "{answer} summary={digest}")
 }
 
-fn check<W: Write + Drop>(file: &[u8], summary: &[u8], out: &mut W) -> io::Result<()> {
-    let verdict = summary_calls::check_summary(shift_file::form_of(file), file, summary);
+fn check<W: Write + Drop>(list: &mut List<'_>, out: &mut W) -> io::Result<()> {
+    let mut file = list.buffer(ROOM)?;
+    let mut summary = list.buffer(ROOM)?;
+    list.fill(&mut file);
+    list.fill(&mut summary);
+    let form = shift_file::form_of(&file);
+    let verdict = summary_calls::check_summary(form, &file, &summary);
     let answer = Answer(verdict.map(|_| ()));
     let yes = u8::from(verdict.unwrap_or(false));
     write!(out, "{answer} yes={yes}")
 }
 
-fn find<W: Write + Drop>(
-    file: &[u8],
-    summary: &[u8],
-    crossing: u32,
-    out: &mut W,
-) -> io::Result<()> {
-    let form = shift_file::form_of(file);
-    let finding = summary_calls::find_record(form, file, summary, crossing);
+fn find<W: Write + Drop>(list: &mut List<'_>, out: &mut W) -> io::Result<()> {
+    let mut file = list.buffer(ROOM)?;
+    let mut summary = list.buffer(ROOM)?;
+    let crossing = list.number();
+    list.fill(&mut file);
+    list.fill(&mut summary);
+    let form = shift_file::form_of(&file);
+    let finding = summary_calls::find_record(form, &file, &summary, crossing);
     let answer = Answer(finding.map(|_| ()));
     let found = Found(finding.unwrap_or(None));
     write!(out, "{answer}{found}")
@@ -61,25 +70,13 @@ fn update<W: Write + Drop>(list: &mut List<'_>, out: &mut W) -> io::Result<()> {
     write!(out, "{answer} summary={digest}")
 }
 
-// A call of this kind on a file and a buffer for its summary.
-fn call_on_two<W: Write + Drop>(kind: u32, list: &mut List<'_>, out: &mut W) -> io::Result<()> {
-    let mut file = list.buffer(ROOM)?;
-    let mut summary = list.buffer(ROOM)?;
-    let crossing = if kind < 2 { 0 } else { list.number() };
-    list.fill(&mut file);
-    list.fill(&mut summary);
-    match kind {
-        0 => build(&file, &mut summary, out),
-        1 => check(&file, &summary, out),
-        _ => find(&file, &summary, crossing, out),
-    }
-}
-
 // The stored list says which call it is by a number: here the number becomes the call. An enum of the calls, made of it first, would be no plainer.
 fn call<W: Write + Drop>(list: &mut List<'_>, out: &mut W) -> io::Result<()> {
     match list.number() {
+        0 => build(list, out),
+        1 => check(list, out),
         3 => update(list, out),
-        kind => call_on_two(kind, list, out),
+        _ => find(list, out),
     }
 }
 

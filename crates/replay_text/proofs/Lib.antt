@@ -1,4 +1,5 @@
 -- Lemmas of the lines, their requests and their calls.
+pub mod Again
 pub mod Made
 pub mod Opened
 pub mod Stars

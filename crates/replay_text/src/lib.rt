@@ -90,15 +90,11 @@ fn repeat(room: &mut [u8], given: usize, size: usize) -> usize
     ensures bytes { take result room.new ≡ repeated (take given room.old) size (length room.old) }
     ensures bound { result ≤ length room.new }
 {
-    if given <= HEADER || room.len() < size {
+    if given <= HEADER || size <= given || room.len() < size {
         return given;
     }
-    let period = given - HEADER;
-    // By index: each byte is one of the same room, which no iterator lends beside the place to write.
-    for n in given..size {
-        room[n] = room[HEADER + (n - given) % period];
-    }
-    given.max(size)
+    replay::repeat(&mut room[HEADER..size], given - HEADER);
+    size
 }
 
 // The request of what stands behind the bar of a line, ` 01 00 FF` or ` 01 00 FF * 9`, in the room that the caller lends. No byte comes again

@@ -24,22 +24,21 @@ struct Reading(Result<Y4mReading, YuvError>);
 impl fmt::Display for Reading {
     fn fmt<W: fmt::Write>(&self, f: &mut fmt::Formatter<W>) -> fmt::Result {
         let answer = Answer(self.0.map(|_| ()));
-        // Each of these is 0 with a refusal.
-        let Y4mReading {
-            width,
-            height,
-            sampling,
-            count,
-            told,
-        } = self.0.unwrap_or(Y4mReading {
-            width: 0,
-            height: 0,
-            sampling: 0,
-            count: 0,
-            told: 0,
-        });
-        write!(f, "{answer} width={width} height={height}")?;
-        write!(f, " sampling={sampling} count={count} told={told}")
+        let Ok(read) = self.0 else {
+            return write!(f, "{answer} width=0 height=0 sampling=0 count=0 told=0");
+        };
+        let header = read.header;
+        let sampling = u32::from(header.sampling);
+        write!(
+            f,
+            "{answer} width={} height={}",
+            header.width, header.height
+        )?;
+        write!(
+            f,
+            " sampling={sampling} count={} told={}",
+            read.count, read.told
+        )
     }
 }
 

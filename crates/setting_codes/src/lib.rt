@@ -8,8 +8,9 @@ ghost use Rattle.setting_codes.specs.Codes.{channels_code, sampling_code, range_
 use sharp_gamma::{SharpYuvGammaTransfer, TableRounding};
 use yuv_support::{YuvChromaSubsampling, YuvRange, YuvSourceChannels, YuvStandardMatrix};
 
-// Public names, each one line over a `TryFrom` or a `From` that stands beside its type: `TryFrom` has no value for a code without a meaning, and
-// callers that refuse such a code elsewhere want the first meaning for it.
+// Each is one line over a `TryFrom` or a `From` that stands beside its type. `TryFrom` has no value for a code without a meaning, and callers that refuse
+// such a code elsewhere want the first meaning for it. One function over the six types would be `try_from(code).unwrap_or(first)` itself, with the first
+// meaning at each call.
 pub fn channels_of(code: u32) -> YuvSourceChannels
     ensures { result ≡ get_or channels_codes code YuvSourceChannels.Rgb }
 {

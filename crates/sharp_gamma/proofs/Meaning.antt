@@ -9,6 +9,7 @@ use native.Mathlib.Omega.{arith}
 use native.Mathlib.Decide.{dec_le}
 use lib.Dec.{T, T_not, le→leb}
 use lib.ListN.{replicate}
+use mir.Facts.{and_yes}
 use Rattle.sharp_gamma.specs.declared.SharpYuvGammaTransfer.{SharpYuvGammaTransfer}
 use Rattle.sharp_gamma.specs.declared.SharpYuvGammaTransfer.TheVariants.{Srgb, Rec709, Gamma2p2, Gamma2p8}
 use Rattle.sharp_gamma.specs.declared.TableRounding.{TableRounding}
@@ -16,7 +17,7 @@ use Rattle.sharp_gamma.specs.declared.TableRounding.TheVariants.{Truncated, Near
 use Rattle.sharp_gamma.specs.Fraction.{◌over◌}
 use Rattle.sharp_gamma.specs.Curve.{Curve, curve_of, under_curve, under_inverse}
 use Rattle.sharp_gamma.specs.Entry.{largest, place, linear_entry, gamma_entry}
-use Rattle.sharp_gamma.proofs.Computed.{both, three, every, every_at}
+use Rattle.sharp_gamma.proofs.Computed.{three, every, every_at}
 use Rattle.sharp_gamma.proofs.Largest.{largest_means}
 use Rattle.sharp_gamma.proofs.Place.{place_starts, place_rises}
 use Rattle.sharp_gamma.proofs.Order.{curve_down, inverse_down}
@@ -35,7 +36,7 @@ module _ (c : Curve) (r : TableRounding) where
 
   pub linear_means_on : T linear_bounds → (v n : ℕ) → v < 256 → T (linear_under v n) ↔ n ≤ largest (linear_under v) 65535
   linear_means_on t v n h =
-      let b = both (linear_under v 0) (not (linear_under v 65536)) (every_at (λ v _. linear_under v 0 && not (linear_under v 65536)) (replicate 256 0) t v h) in
+      let b = and_yes (linear_under v 0) (not (linear_under v 65536)) (every_at (λ v _. linear_under v 0 && not (linear_under v 65536)) (replicate 256 0) t v h) in
       largest_means (linear_under v) (λ m n h. curve_down c _ (place_rises r 65535 h) (v over 255)) b.0 65535 (T_not (linear_under v 65536) b.1) n
 
   -- at each i the entries start at 0 and end by 255: as the inverse rises, two indices are enough, the last and, as 1 is its own branch, the one before
@@ -51,7 +52,7 @@ module _ (c : Curve) (r : TableRounding) where
     start i = inverse_rises c (place r 255 0) parts.0 0 i zero-le (omega (arith, le→leb, place_starts r 255))
 
     end : (i : ℕ) → i < 65536 → T (gamma_under i 256) → ⊥
-    end i h u = go (both (not (gamma_under 65534 256)) (not (gamma_under 65535 256)) parts.2) (dec_le i 65534)
+    end i h u = go (and_yes (not (gamma_under 65534 256)) (not (gamma_under 65535 256)) parts.2) (dec_le i 65534)
       where
         go : T (not (gamma_under 65534 256)) × T (not (gamma_under 65535 256)) → Dec (i ≤ 65534) → ⊥
         go f (yes g) = T_not (gamma_under 65534 256) f.0 (rises_to c (place r 255 256) parts.1 i 65534 g (λ one. absurd one) u)

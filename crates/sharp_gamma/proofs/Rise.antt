@@ -6,9 +6,9 @@ use Prim.Native.Nat.{ℕ, zero, suc, ◌*◌, ◌^◌, ◌≤◌, ◌<◌}
 use native.Mathlib.Nat.{le_refl, mul-le-mul, mul-le-mul_right, le_of_mul-le-mul_right, one-le-pow, pow-zero, pow-suc}
 use native.Mathlib.Omega.{arith}
 use lib.Dec.{T, ltb, lit<, leb→le, le→leb, ltb→lt, nleb→lt, nltb→le}
+use mir.Facts.{and_yes}
 use Rattle.sharp_gamma.specs.Fraction.{Fraction, ◌over◌, whole, ◌times◌, power, ◌not_above◌, ◌below◌}
 use Rattle.sharp_gamma.specs.Curve.{Curve, Branch, at_zero, straight, curved, at_one, branch_at, under_inverse_on, under_inverse}
-use Rattle.sharp_gamma.proofs.Computed.{both}
 
 -- the break's denominator is not 0, and if x is not above the straight branch at the break, it is not above the curved one there
 abbrev pub crosses : Curve → Fraction → Bool
@@ -60,7 +60,7 @@ module _ (c : Curve) (x : Fraction) where
   module _ (cross : T (crosses c x)) (i j : ℕ) (h : i ≤ j) where
     crossed : T (not (j over 65535 below c.break)) → T (x not_above c.slope times c.break) → T (under_inverse_on curved c x (j over 65535))
     crossed b u =
-        let t = both (ltb 0 c.break.den) (cond (x not_above c.slope times c.break) (under_inverse_on curved c x c.break) true) cross in
+        let t = and_yes (ltb 0 c.break.den) (cond (x not_above c.slope times c.break) (under_inverse_on curved c x c.break) true) cross in
         curved_up c.break (j over 65535) (ltb→lt 0 c.break.den t.0) (nltb→le _ _ b)
         (then (x not_above c.slope times c.break) (under_inverse_on curved c x c.break) t.1 u)
 
@@ -90,5 +90,5 @@ module _ (c : Curve) (x : Fraction) where
 
   pub inverse_rises : T (steady c x) → (i j : ℕ) → i ≤ j → T (under_inverse c x (i over 65535)) → T (under_inverse c x (j over 65535))
   inverse_rises s i j h =
-      let t = both (crosses c x) (x not_above whole 1) s in
+      let t = and_yes (crosses c x) (x not_above whole 1) s in
       rises_to t.0 i j h (λ _. t.1)

@@ -11,12 +11,13 @@ use native.Mathlib.Omega.{arith}
 use native.Mathlib.Decide.{dec_lt}
 use lib.Dec.{T, T_not}
 use lib.ListN.{get_or, length}
+use mir.Facts.{and_yes}
 use Rattle.sharp_gamma.specs.declared.SharpYuvGammaTransfer.{SharpYuvGammaTransfer}
 use Rattle.sharp_gamma.specs.declared.TableRounding.{TableRounding}
 use Rattle.sharp_gamma.specs.Curve.{Curve, curve_of}
 use Rattle.sharp_gamma.specs.Entry.{place, linear_entry, gamma_entry, TableOf}
 use Rattle.sharp_gamma.specs.FirstIndices.{FirstIndices}
-use Rattle.sharp_gamma.proofs.Computed.{both, three, every, every_at}
+use Rattle.sharp_gamma.proofs.Computed.{three, every, every_at}
 use Rattle.sharp_gamma.proofs.Rise.{steady, inverse_rises}
 use Rattle.sharp_gamma.proofs.Meaning.{linear_under, gamma_under, linear_means, gamma_means}
 
@@ -25,7 +26,7 @@ abbrev pub is_last : (ℕ → Bool) → ℕ → Bool
 is_last p n = p n && not (p (suc n))
 
 last_is : (p : ℕ → Bool) (e : ℕ) → ((n : ℕ) → T (p n) ↔ n ≤ e) → (n : ℕ) → T (is_last p n) → e ≡ n
-last_is p e means n t = go (both (p n) (not (p (suc n))) t) (dec_lt n e)
+last_is p e means n t = go (and_yes (p n) (not (p (suc n))) t) (dec_lt n e)
   where
     go : T (p n) × T (not (p (suc n))) → Dec (n < e) → e ≡ n
     go l (yes h) = absurd (T_not (p (suc n)) l.1 ((means (suc n)).1 h))

@@ -3,13 +3,13 @@
 use mathlib.Core.Path.{◌≡◌}
 use mathlib.Core.Bool.{◌&&◌}
 use lib.Dec.{T, lit<}
+use mir.Facts.{and_yes}
 use Rattle.sharp_gamma.specs.declared.SharpYuvGammaTransfer.{SharpYuvGammaTransfer}
 use Rattle.sharp_gamma.specs.declared.SharpYuvGammaTransfer.TheVariants.{Srgb, Rec709, Gamma2p2, Gamma2p8}
 use Rattle.sharp_gamma.specs.declared.TableRounding.{TableRounding}
 use Rattle.sharp_gamma.specs.declared.TableRounding.TheVariants.{Truncated, Nearest}
 use Rattle.sharp_gamma.specs.Curve.{under_curve, under_inverse}
 use Rattle.sharp_gamma.specs.Entry.{linear_entry, gamma_entry}
-use Rattle.sharp_gamma.proofs.Computed.{both}
 use Rattle.sharp_gamma.proofs.Table.{is_linear, is_gamma, linear_is, gamma_is}
 
 pub record Worked : Type 0 where
@@ -56,9 +56,9 @@ pub record Ends (t : SharpYuvGammaTransfer) (r : TableRounding) : Type 0 where
 module _ (t : SharpYuvGammaTransfer) (r : TableRounding) where
   ends_of : T ((is_linear t r 0 0 && is_linear t r 255 65535) && (is_gamma t r 0 0 && is_gamma t r 65535 255)) → Ends t r
   ends_of test =
-      let p = both (is_linear t r 0 0 && is_linear t r 255 65535) (is_gamma t r 0 0 && is_gamma t r 65535 255) test in
-      let l = both (is_linear t r 0 0) (is_linear t r 255 65535) p.0 in
-      let g = both (is_gamma t r 0 0) (is_gamma t r 65535 255) p.1 in
+      let p = and_yes (is_linear t r 0 0 && is_linear t r 255 65535) (is_gamma t r 0 0 && is_gamma t r 65535 255) test in
+      let l = and_yes (is_linear t r 0 0) (is_linear t r 255 65535) p.0 in
+      let g = and_yes (is_gamma t r 0 0) (is_gamma t r 65535 255) p.1 in
       record {
         linear_0 = linear_is t r 0 0 (lit< tt) l.0;
         linear_255 = linear_is t r 255 65535 (lit< tt) l.1;

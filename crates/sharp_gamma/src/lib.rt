@@ -32,8 +32,9 @@ pub enum TableRounding {
     Nearest,
 }
 
-// The linear value of each byte. Its match is that of `first_index_table` with other constants: a struct of both tables of a curve would be made whole where
-// one of them is wanted. Transfer and rounding come as two parameters: a struct of both would be made for a call and taken apart in it.
+// The linear value of each byte. Its match is that of `first_index_table` with other constants: a constant is made anew wherever it is named, so a struct of
+// both tables of a curve would be made whole where one of them is wanted. Transfer and rounding come as two parameters: a struct of both would be made for a
+// call and taken apart in it.
 pub fn linear_map_table(transfer: SharpYuvGammaTransfer, rounding: TableRounding) -> [u16; 256]
     ensures { TableOf 256 (linear_entry transfer rounding) result }
 {
@@ -61,7 +62,6 @@ pub fn gamma_map_table(
     rounding: TableRounding,
     table: &mut [u8; 65536],
 )
-    requires { length table.old ≡ 65536 }
     ensures { TableOf 65536 (gamma_entry transfer rounding) table.new }
 {
     let first = first_index_table(transfer, rounding);

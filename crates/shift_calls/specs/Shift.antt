@@ -1,7 +1,7 @@
 -- The shift file for C and Rust: what the calls `segvartin_call_shift_records`, `_records_any`, `_write`, `_write_settings`, `_record`,
 -- `_record_settings`, `_forward` and `_back` answer and leave, which is the promise of the call under each. docs/RULES.md, 10.5.
 -- Assumes nothing.
-use Rattle.std.specs.Prelude.{ℕ, ◌≡◌, List, [], ◌∷◌, length, Result}
+use Rattle.std.specs.Prelude.{ℕ, ◌≡◌, List, [], ◌∷◌, length, Option, Some, None, Result}
 use Rattle.yuv_error.specs.declared.YuvError.{YuvError}
 use Rattle.yuv_error.specs.Numbers.{numbers_of}
 use Rattle.yuv_error.specs.Rules.{Rule}
@@ -110,14 +110,14 @@ exported_record numbers y u v output number told output' =
     record { numbers = numbers; y = y; u = u; v = v; output = output; number = number; told = told; output' = output' }
 
 -- RULES 10.5: the codes of sampling, range, matrix and transfer, behind the other numbers, in the form that has them
-abbrev pub codes_of_record : ShiftForm → (numbers : List ℕ) → SettingCodes
-codes_of_record WithoutSettings numbers = record { sampling = 0; range = 0; matrix = 0; transfer = 0 }
-codes_of_record WithSettings numbers = record { sampling = at numbers 6; range = at numbers 7; matrix = at numbers 8; transfer = at numbers 9 }
+abbrev pub codes_of_record : ShiftForm → (numbers : List ℕ) → Option SettingCodes
+codes_of_record WithoutSettings numbers = None
+codes_of_record WithSettings numbers =
+    Some (record { sampling = at numbers 6; range = at numbers 7; matrix = at numbers 8; transfer = at numbers 9 })
 
--- RULES 10.5: crossing, width, height, and the strides of Y, U and V, with these settings
-abbrev pub frame_with : ShiftForm → (numbers : List ℕ) → SettingCodes → RecordFrame
-frame_with form numbers settings = record {
-  form = form;
+-- RULES 10.5: crossing, width, height, and the strides of Y, U and V, with these settings or none
+abbrev pub frame_with : (numbers : List ℕ) → Option SettingCodes → RecordFrame
+frame_with numbers settings = record {
   crossing = at numbers 0;
   width = at numbers 1;
   height = at numbers 2;
@@ -129,7 +129,7 @@ frame_with form numbers settings = record {
 
 -- RULES 10.5: crossing, width, height, and the strides of Y, U and V, then the settings
 abbrev pub frame_of_record : ShiftForm → (numbers : List ℕ) → RecordFrame
-frame_of_record form numbers = frame_with form numbers (codes_of_record form numbers)
+frame_of_record form numbers = frame_with numbers (codes_of_record form numbers)
 
 -- RULES 10.5: 15, 8 to 12, 16
 abbrev pub rules_of_record : ShiftForm → ExportedRecord → List Rule
@@ -160,7 +160,7 @@ exported_move file output number told output' = record { file = file; output = o
 abbrev pub rules_of_move : (from : ShiftForm) → ExportedMove → List Rule
 rules_of_move from k = move_rules from k.file (length k.output)
 
--- RULES 10.5: the promise of `move_forward` and of `move_back`; told is the moved file's size
+-- RULES 10.5: the promise of `move_file`; told is the moved file's size
 pub record MoveKept (from : ShiftForm) (k : ExportedMove) : Type 0 where
   pub written : Result ℕ NotWritten
   pub number : k.number ≡ (numbers_of (outcome_of written)).number

@@ -28,7 +28,7 @@ fn tell_reading(reading: Result<ShiftReading, YuvError>, told: &mut [usize; 2]) 
     ensures number { result ≡ (numbers_of (read_outcome reading)).number }
     ensures told { told.new ≡ (reading_of reading).count ∷ (reading_of reading).told ∷ [] }
 {
-    let read = reading.unwrap_or(ShiftReading { count: 0, told: 0 });
+    let read = reading.unwrap_or_default();
     *told = [read.count, read.told];
     error_numbers::answer_numbers(reading.map(|_| ())).number
 }
@@ -60,7 +60,7 @@ fn tell_reading_any(
     ensures number { result ≡ (numbers_of (read_outcome reading)).number }
     ensures told { told.new ≡ (reading_of reading).count ∷ (reading_of reading).told ∷ taken (read_outcome reading) (form_number form) ∷ [] }
 {
-    let read = reading.unwrap_or(ShiftReading { count: 0, told: 0 });
+    let read = reading.unwrap_or_default();
     let with_settings = reading.is_ok() && form == ShiftForm::WithSettings;
     *told = [read.count, read.told, usize::from(with_settings)];
     error_numbers::answer_numbers(reading.map(|_| ())).number
@@ -125,12 +125,11 @@ fn tell_written(written: Result<usize, NotWritten>, told: &mut [usize; 3]) -> u3
 }
 
 // The frame of a record, from the six numbers that both forms have first: crossing, width, height, and the strides of Y, U and V.
-fn frame_of(form: ShiftForm, numbers: &[u32], settings: SettingCodes) -> RecordFrame
+fn frame_of(numbers: &[u32], settings: Option<SettingCodes>) -> RecordFrame
     requires { 6 ≤ length numbers.now }
-    ensures { result ≡ frame_with form numbers.now settings }
+    ensures { result ≡ frame_with numbers.now settings }
 {
     RecordFrame {
-        form,
         crossing: numbers[0],
         width: numbers[1],
         height: numbers[2],
@@ -153,13 +152,7 @@ pub fn call_shift_record(
     ensures { RecordKept ShiftForm.WithoutSettings (exported_record numbers.now y.now u.now v.now
         «record».old result told.new «record».new) }
 {
-    let settings = SettingCodes {
-        sampling: 0,
-        range: 0,
-        matrix: 0,
-        transfer: 0,
-    };
-    let frame = frame_of(ShiftForm::WithoutSettings, numbers, settings);
+    let frame = frame_of(numbers, None);
     let written = shift_record::write_record(frame, y, u, v, record);
     tell_written(written, told)
 }
@@ -182,7 +175,7 @@ pub fn call_shift_record_settings(
         matrix: numbers[8],
         transfer: numbers[9],
     };
-    let frame = frame_of(ShiftForm::WithSettings, numbers, settings);
+    let frame = frame_of(numbers, Some(settings));
     let written = shift_record::write_record(frame, y, u, v, record);
     tell_written(written, told)
 }
@@ -243,16 +236,8 @@ fn tell_broken(pairing: Result<PairReport, BrokenFile>, told: &mut [usize; 1]) -
     ensures number { result ≡ (numbers_of (pairing_outcome pairing)).number }
     ensures told { told.new ≡ broken_told pairing ∷ [] }
 {
-    match pairing {
-        Ok(_) => {
-            *told = [0];
-            0
-        }
-        Err(broken) => {
-            *told = [u32::from(broken) as usize];
-            error_numbers::error_numbers(broken.into()).number
-        }
-    }
+    *told = [pairing.err().map_or(0, u32::from) as usize];
+    error_numbers::answer_numbers(pairing.map(|_| ()).map_err(YuvError::from)).number
 }
 
 // `segvartin_call_shift_pairs` of crate `segvartin` is one call of this.

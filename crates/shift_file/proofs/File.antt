@@ -10,6 +10,7 @@ use lib.Dec.{leb, eqb}
 use lib.ListN.{length, get_or, take, drop, length-append, length-drop, take-append-drop}
 use lib.Seq.{drop-drop, drop_at}
 use borrow.Author.Tests.{leb-true, le-leb, eqb-true, eq-eqb, ne_eqb}
+use Rattle.std.proofs.lemmas.Bool.{and_from, and_parts}
 use Rattle.little_endian.specs.Number.{Bytes, low_bytes, number_in}
 use Rattle.little_endian.proofs.Number.{length_low, bytes_drop, number_low, low_number, low_rest, drop_low}
 use Rattle.shift_file.specs.declared.ShiftForm.{ShiftForm}
@@ -18,7 +19,7 @@ use Rattle.shift_file.specs.File.{ShiftRecord, EachAllowed, HasFile, IsFileOf, m
 use Rattle.shift_file.specs.Read.{count_at, records_in}
 use Rattle.shift_file.specs.Check.{is_marked, records_follow, is_file, form_in}
 use Rattle.shift_file.specs.Means.{SomeList, OneList, ReadBack, Rewritten, OneForm, FormOfFile, SomeForm}
-use Rattle.shift_file.proofs.Record.{both, also, size_most}
+use Rattle.shift_file.proofs.Record.{size_most}
 use Rattle.shift_file.proofs.Walk.{Walked, walk_records, records_walk, records_are, pair_drop}
 
 pub length_pairs : (at : ℕ) (rs : List ShiftRecord) → length (pairs_of at rs) ≡ 12 * length rs
@@ -81,10 +82,10 @@ file_checked form rs h =
     let starts : records_at form n ≤ length file = omega arith in
     let header : pairs_at form ≤ length file = omega arith in
     rw (count_is form rs h.few)
-    (also (leb (pairs_at form) (length file)) _ (le-leb _ _ header)
-    (also (is_marked form file) _ (marked_file form rs)
-    (also (leb n 4096) _ (le-leb _ _ h.few)
-    (also (leb (records_at form n) (length file)) _ (le-leb _ _ starts)
+    (and_from (leb (pairs_at form) (length file)) _ (le-leb _ _ header)
+    (and_from (is_marked form file) _ (marked_file form rs)
+    (and_from (leb n 4096) _ (le-leb _ _ h.few)
+    (and_from (leb (records_at form n) (length file)) _ (le-leb _ _ starts)
     (records_walk form file (record_bytes rs) rs (pairs_at form) (records_at form n) (file_most form rs h) starts h.each
     (after_count form rs) (after_pairs form rs))))))
 
@@ -114,10 +115,10 @@ pub Checked-file : (form : ShiftForm) (b : List ℕ) → Bytes b → is_file for
 unfolding is_file records_follow
 Checked-file form b bytes e =
     let n = count_at form b in
-    let e₁ = both (leb (pairs_at form) (length b)) _ e in
-    let e₂ = both (is_marked form b) _ e₁.1 in
-    let e₃ = both (leb n 4096) _ e₂.1 in
-    let e₄ = both (leb (records_at form n) (length b)) _ e₃.1 in
+    let e₁ = and_parts (leb (pairs_at form) (length b)) _ e in
+    let e₂ = and_parts (is_marked form b) _ e₁.1 in
+    let e₃ = and_parts (leb n 4096) _ e₂.1 in
+    let e₄ = and_parts (leb (records_at form n) (length b)) _ e₃.1 in
     let starts : records_at form n ≤ length b = leb-true _ _ e₄.0 in
     let w = walk_records form b n (pairs_at form) (records_at form n) bytes starts starts e₄.1 in
     record {
@@ -154,12 +155,12 @@ some_list form b bytes = (λ e. (records_in form b, (Checked-file form b bytes e
 pub form_of_file : FormOfFile
 unfolding is_file count_at form_in
 form_of_file WithSettings b e =
-    let p = both (leb 8 (length b)) _ e in
-    let q = both (eqb (number_in 4 b) 4294967295) _ p.1 in
+    let p = and_parts (leb 8 (length b)) _ e in
+    let q = and_parts (eqb (number_in 4 b) 4294967295) _ p.1 in
     rw (le-leb 4 (length b) (omega (arith, leb-true 8 (length b) p.0)), q.0)
 form_of_file WithoutSettings b e =
-    let p = both (leb 4 (length b)) _ e in
-    let q = both (leb (number_in 4 b) 4096) _ p.1 in
+    let p = and_parts (leb 4 (length b)) _ e in
+    let q = and_parts (leb (number_in 4 b) 4096) _ p.1 in
     rw (p.0, ne_eqb (number_in 4 b) 4294967295 (λ z. omega (arith, leb-true (number_in 4 b) 4096 q.0)))
 
 pub form_of : (form : ShiftForm) (b : List ℕ) (rs : List ShiftRecord) → IsFileOf form b rs → form_in b ≡ form

@@ -3,4 +3,3 @@ pub mod Products
 pub mod Record
 pub mod Walk
 pub mod File
-pub mod Tests

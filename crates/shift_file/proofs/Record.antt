@@ -2,13 +2,14 @@
 -- stands whole, `bytes_of` gives its bytes again. Assumes nothing.
 use Prim.Native.Nat.{ℕ, ◌+◌, ◌*◌, ◌^◌, ◌≤◌}
 use mathlib.Core.Path.{◌≡◌, refl, sym, ◌∙◌}
-use mathlib.Core.Bool.{Bool, true, ◌&&◌, and-eq-true_iff}
+use mathlib.Core.Bool.{true}
 use mathlib.Core.List.{List, ◌++◌, append_assoc}
 use native.Mathlib.Omega.{arith}
 use lib.Dec.{leb}
 use lib.ListN.{length, take, drop, length-append, length-drop}
 use lib.Seq.{take-add, drop-drop, drop_at, take_at, length-take-le}
 use borrow.Author.Tests.{le-leb, leb-true}
+use Rattle.std.proofs.lemmas.Bool.{and_from, and_parts}
 use Rattle.little_endian.specs.Number.{Bytes, low_bytes, number_in}
 use Rattle.little_endian.proofs.Number.{length_low, bytes_drop, bytes_take, number_low, low_number, number_below, drop_low}
 use Rattle.shift_file.specs.declared.ShiftForm.{ShiftForm}
@@ -18,16 +19,8 @@ use Rattle.shift_file.specs.Read.{width_at, height_at, settings_at, luma_at, chr
 use Rattle.shift_file.specs.Check.{shape_allowed, record_stands}
 use Rattle.shift_file.proofs.Products.{luma_most, chroma_most}
 
--- ---- tests that hold together
-
-pub both : (a b : Bool) → (a && b) ≡ true → (a ≡ true) × (b ≡ true)
-both a b h = (and-eq-true_iff a b).0 h
-
-pub also : (a b : Bool) → a ≡ true → b ≡ true → (a && b) ≡ true
-also a b h k = (and-eq-true_iff a b).1 (h, k)
-
 pub side_bounds : (x : ℕ) → is_side x ≡ true → (1 ≤ x) × (x ≤ 16384)
-side_bounds x h = let p = both (leb 1 x) (leb x 16384) h in (leb-true 1 x p.0, leb-true x 16384 p.1)
+side_bounds x h = let p = and_parts (leb 1 x) (leb x 16384) h in (leb-true 1 x p.0, leb-true x 16384 p.1)
 
 -- ---- the settings that are told
 
@@ -52,23 +45,19 @@ module _ (form : ShiftForm) (l : List ℕ) where
   pub Stands-true : record_stands form l ≡ true → Stands form l
   unfolding record_stands shape_allowed
   Stands-true h =
-      let p = both (leb (header_size form) (length l)) _ h in
-      let q = both (shape_allowed form l) _ p.1 in
-      let s = both (is_side (width_at l)) _ q.0 in
-      let t = both (is_side (height_at l)) _ s.1 in
+      let p = and_parts (leb (header_size form) (length l)) _ h in
+      let q = and_parts (shape_allowed form l) _ p.1 in
+      let s = and_parts (is_side (width_at l)) _ q.0 in
+      let t = and_parts (is_side (height_at l)) _ s.1 in
       record { header = leb-true _ _ p.0; width = s.0; height = t.0; codes = t.1; whole = leb-true _ _ q.1 }
 
   Stands-is : Stands form l → record_stands form l ≡ true
   unfolding record_stands shape_allowed
   Stands-is s =
-      also (leb (header_size form) (length l)) _ (le-leb _ _ s.header)
-      (also (shape_allowed form l) _
-      (also (is_side (width_at l)) _ s.width (also (is_side (height_at l)) _ s.height s.codes))
+      and_from (leb (header_size form) (length l)) _ (le-leb _ _ s.header)
+      (and_from (shape_allowed form l) _
+      (and_from (is_side (width_at l)) _ s.width (and_from (is_side (height_at l)) _ s.height s.codes))
       (le-leb _ _ s.whole))
-
-  pub size_positive : 8 ≤ size_at form l
-  unfolding size_at
-  size_positive = omega arith
 
 -- the parts of a record's bytes
 cut : (e a c : ℕ) (l : List ℕ)

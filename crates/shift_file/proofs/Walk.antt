@@ -10,6 +10,7 @@ use lib.Dec.{eqb}
 use lib.ListN.{length, drop, length-append, length-drop, take-append-drop, drop_of_length-le}
 use lib.Seq.{drop-drop, drop_at, length-take-le}
 use borrow.Author.Tests.{eqb-true, eq-eqb}
+use Rattle.std.proofs.lemmas.Bool.{and_from, and_parts}
 use Rattle.little_endian.specs.Number.{Bytes, low_bytes, number_in}
 use Rattle.little_endian.proofs.Number.{bytes_drop, number_low, low_rest, drop_low}
 use Rattle.shift_file.specs.declared.ShiftForm.{ShiftForm}
@@ -17,7 +18,7 @@ use Rattle.shift_file.specs.File.{ShiftRecord, EachAllowed, bytes_of, pairs_of, 
 use Rattle.std.specs.Prelude.{Some, None}
 use Rattle.shift_file.specs.Read.{size_at, record_at, records_from}
 use Rattle.shift_file.specs.Check.{record_stands, pair_is, next_size, walk}
-use Rattle.shift_file.proofs.Record.{both, also, Stands, Stands-true, bytes_record, record_Allowed, size_bytes, stands_bytes, size_most, record_bytes_lem}
+use Rattle.shift_file.proofs.Record.{Stands, Stands-true, bytes_record, record_Allowed, size_bytes, stands_bytes, size_most, record_bytes_lem}
 
 -- ---- records back to back
 
@@ -43,7 +44,7 @@ records_are form b (r ∷ rs) at es e =
 pair_Bytes : (l : List ℕ) (at size : ℕ) → Bytes l → 12 ≤ length l → pair_is l at size ≡ true → l ≡ low_bytes 8 at ++ (low_bytes 4 size ++ drop 12 l)
 unfolding pair_is
 pair_Bytes l at size b h e =
-    let q = both (eqb (number_in 8 l) at) _ e in
+    let q = and_parts (eqb (number_in 8 l) at) _ e in
     let offset : low_bytes 8 at ≡ low_bytes 8 (number_in 8 l) = ap (low_bytes 8) (sym (eqb-true _ _ q.0)) in
     let extent : low_bytes 4 size ≡ low_bytes 4 (number_in 4 (drop 8 l)) = ap (low_bytes 4) (sym (eqb-true _ _ q.1)) in
     let rest = low_rest 4 (drop 8 l) (bytes_drop 8 l b) (rw length-drop (omega arith)) in
@@ -59,7 +60,7 @@ module _ (l t : List ℕ) (at size : ℕ) (e : l ≡ low_bytes 8 at ++ (low_byte
   pair_read : at < 256 ^ 8 → size < 256 ^ 4 → pair_is l at size ≡ true
   unfolding pair_is
   pair_read ha hs =
-      also (eqb (number_in 8 l) at) (eqb (number_in 4 (drop 8 l)) size) (eq-eqb _ _ (offset_in ha)) (eq-eqb _ _ (extent_in hs))
+      and_from (eqb (number_in 8 l) at) (eqb (number_in 4 (drop 8 l)) size) (eq-eqb _ _ (offset_in ha)) (eq-eqb _ _ (extent_in hs))
 
   pub pair_drop : drop 12 l ≡ t
   pair_drop = sym (drop-drop 4 8 l) ∙ rw (e, drop_low 8 at (low_bytes 4 size ++ t)) (drop_low 4 size t)
@@ -100,8 +101,8 @@ walk_records form b zero pair at hb hp ha e = record {
 }
 walk_records form b (suc n) pair at hb hp ha e =
     let l = drop at b in
-    let q = both (record_stands form l) _ e in
-    let u = both (pair_is (drop pair b) at (size_at form l)) _ q.1 in
+    let q = and_parts (record_stands form l) _ e in
+    let u = and_parts (pair_is (drop pair b) at (size_at form l)) _ q.1 in
     let s = Stands-true form l q.0 in
     walked_more form b n pair at _ hb hp s u.0
     (walk_records form b n (pair + 12) (at + size_at form l) hb (omega arith) (omega (arith, s.whole, length-drop at b)) u.1)
@@ -117,8 +118,8 @@ records_walk form b t (r ∷ rs) pair at hb ha es hp hs =
     let here : drop pair b ≡ low_bytes 8 at ++ (low_bytes 4 size ++ (pairs_of (at + size) rs ++ t)) = hp ∙ simp append_assoc in
     let long : length b - at ≡ size + length (record_bytes rs) = sym (length-drop at b) ∙ ap length hs ∙ length-append (bytes_of r) (record_bytes rs) in
     rw (hs, size_bytes form r es.0 (record_bytes rs))
-    (also (record_stands form (bytes_of r ++ record_bytes rs)) _ (stands_bytes form r es.0 (record_bytes rs))
-    (also (pair_is (drop pair b) at size) _ (pair_read (drop pair b) _ at size here (omega arith) (omega (arith, size_most form r es.0)))
+    (and_from (record_stands form (bytes_of r ++ record_bytes rs)) _ (stands_bytes form r es.0 (record_bytes rs))
+    (and_from (pair_is (drop pair b) at size) _ (pair_read (drop pair b) _ at size here (omega arith) (omega (arith, size_most form r es.0)))
     (records_walk form b t rs (pair + 12) (at + size) hb (omega arith) es.1
     (sym (drop-drop 12 pair b) ∙ pair_drop (drop pair b) _ at size here)
     (sym (drop-drop size at b) ∙ rw hs (drop_at (bytes_of r) (record_bytes rs) size refl)))))

@@ -167,8 +167,8 @@ pub fn codes_at(part: &[u8]) -> SettingCodes
     SettingCodes::from(little_endian::array_at::<4>(part, 8))
 }
 
-// The settings of a record; 4:2:0, and nothing recorded, where it has none. This, `sampling_at`, `size_at` and `record_stands` are public names, with
-// their contracts, of what is one line over `Part`.
+// The settings of a record; 4:2:0, and nothing recorded, where it has none. This, `sampling_at`, `size_at` and `record_stands` say of bytes what
+// RULES 11.1 and 11.2 say of them; each is one line over `Part`.
 pub fn settings_told(form: ShiftForm, part: &[u8]) -> SettingCodes
     requires { header_size form ≤ length part.now }
     ensures { code_list result ≡ settings_told form (settings_at form part.now) }
@@ -192,7 +192,7 @@ pub fn luma_size(width: usize, height: usize) -> usize
     width * height
 }
 
-// The bytes of a chroma plane.
+// The bytes of a chroma plane. Its sides are those of a record, of a picture or of a header's line: a struct of them would be made for the call.
 pub fn chroma_size(sampling: YuvChromaSubsampling, width: usize, height: usize) -> usize
     requires { (width < 65536) × (height < 65536) }
     ensures { (result ≡ chroma_width width * chroma_height sampling height) × (result ≤ 65536 * 65536) }
@@ -227,7 +227,7 @@ pub fn record_stands(form: ShiftForm, part: &[u8]) -> bool
 
 // ---- a file
 
-// What stands from a place on. This and `part_of` are public names, with their contracts, of what is one line over a slice.
+// What stands from a place on. This and `part_of` are one line over a slice, whose contracts say it by `drop` and `take` alone, as the definitions of files do.
 pub fn from_place(bytes: &[u8], at: usize) -> &[u8]
     requires { at ≤ length bytes.now }
     ensures { result.now ≡ drop at bytes.now }

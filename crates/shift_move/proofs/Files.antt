@@ -2,21 +2,22 @@
 use Prim.Native.Nat.{ℕ, ◌+◌, ◌*◌, ◌^◌, ◌≤◌, ◌<◌}
 use mathlib.Core.Path.{◌≡◌, refl, ap, sym, ◌∙◌}
 use mathlib.Core.Bool.{true, cond, not}
-use mathlib.Core.List.{List, [], ◌∷◌}
+use mathlib.Core.List.{List, [], ◌∷◌, ◌++◌}
 use native.Mathlib.Nat.{mul-zero, mul-suc}
 use native.Mathlib.Omega.{arith}
 use lib.Dec.{ltb}
 use lib.ListN.{length, length-append, length-map}
 use lib.Seq.{sets}
+use Rattle.std.proofs.lemmas.Bool.{and_parts}
 use Rattle.little_endian.specs.Number.{Bytes, low_bytes}
 use Rattle.yuv_error.specs.Numbers.{numbers}
 use Rattle.yuv_error.specs.Rules.{first_numbers}
 use Rattle.shift_file.specs.declared.ShiftForm.{ShiftForm}
 use Rattle.shift_file.specs.declared.ShiftForm.TheVariants.{WithoutSettings, WithSettings}
-use Rattle.shift_file.specs.File.{ShiftRecord, Allowed, EachAllowed, HasFile, IsFileOf, mark, mark_size, settings_size, header_size, records_at, bytes_of, pairs_of, record_bytes, file_of}
+use Rattle.shift_file.specs.File.{ShiftRecord, Allowed, EachAllowed, HasFile, IsFileOf, mark, settings_size, header_size, pairs_at, records_at, bytes_of, pairs_of, record_bytes, file_of}
 use Rattle.shift_file.specs.Read.{count_at, records_in}
 use Rattle.shift_file.specs.Check.{is_file}
-use Rattle.shift_file.proofs.Record.{both, length_bytes, size_most}
+use Rattle.shift_file.proofs.Record.{length_bytes, size_most}
 use Rattle.shift_reader.specs.declared.file.ShiftFile.{ShiftFile}
 use Rattle.shift_reader.specs.Entry.{record_of}
 use Rattle.shift_reader.proofs.Places.{Known, known, allowed}
@@ -66,7 +67,7 @@ file_moves f k below = moves f.form f.bytes.now k f.count f.checked f.are_bytes 
 
 first_plain : (from : ShiftForm) (r : ShiftRecord) (rs : List ShiftRecord) → may_move from (r ∷ rs) ≡ true → Plain from r × (may_move from rs ≡ true)
 first_plain WithoutSettings r rs e = (tt, refl)
-first_plain WithSettings r rs e = both (is_plain r.settings) (are_plain rs) e
+first_plain WithSettings r rs e = and_parts (is_plain r.settings) (are_plain rs) e
 
 moved_each : (from to : ShiftForm) (rs : List ShiftRecord) → EachAllowed from rs → may_move from rs ≡ true → EachAllowed to (moved to rs)
 moved_each from to [] a e = tt
@@ -164,7 +165,7 @@ back_size from file n e h =
       length_records WithSettings WithoutSettings (records_in WithSettings file) f.has.each,
     ))
 
--- ---- mark, count, pairs and records put one after the other, from what each step tells
+-- ---- mark and count, pairs and records put one after the other, from what each step tells
 
 module _ (from : ShiftForm) (file : List ℕ) (n : ℕ) (h : HasRecords from file n) where
   abbrev to : ShiftForm
@@ -176,12 +177,11 @@ module _ (from : ShiftForm) (file : List ℕ) (n : ℕ) (h : HasRecords from fil
   pub room : records_at (other_form from) n + length (record_bytes (moved (other_form from) (records_in from file))) ≡ length (moved_file from file)
   room = rw h.count (sym (length_of_moved from file (records_in from file) h.is_file_lem))
 
-  pub file_steps : (d out₁ out₂ out₃ out₄ : List ℕ) (form : ShiftForm) (m : ℕ) → form ≡ to → out₁ ≡ sets d 0 (mark form) → m ≡ mark_size to
-      → out₂ ≡ sets out₁ m (low_bytes 4 n) → out₃ ≡ sets out₂ (m + 4) (pairs_of (m + 4 + 12 * n) ms)
-      → out₄ ≡ sets out₃ (m + 4 + 12 * n) (record_bytes ms) → out₄ ≡ sets d 0 (moved_file from file)
+  pub file_steps : (d out₁ out₂ out₃ : List ℕ) (form : ShiftForm) (m : ℕ) → form ≡ to → out₁ ≡ sets d 0 (mark form ++ low_bytes 4 n) → m ≡ pairs_at to
+      → out₂ ≡ sets out₁ m (pairs_of (m + 12 * n) ms) → out₃ ≡ sets out₂ (m + 12 * n) (record_bytes ms) → out₃ ≡ sets d 0 (moved_file from file)
   unfolding moved_file
-  file_steps d out₁ out₂ out₃ out₄ form m ef e₁ em e₂ e₃ e₄ =
-      rw (e₄, e₃, e₂, e₁, ef, em, h.count) (rw (length-map (records_in from file) (moved_record to)) at (parts_put to ms d))
+  file_steps d out₁ out₂ out₃ form m ef e₁ em e₂ e₃ =
+      rw (e₃, e₂, e₁, ef, em, h.count) (rw (length-map (records_in from file) (moved_record to)) at (parts_put to ms d))
 
 -- ---- 15, then 20, then 16
 

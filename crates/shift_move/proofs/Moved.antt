@@ -2,12 +2,15 @@
 use Prim.Native.Nat.{ℕ, ◌+◌}
 use mathlib.Core.Path.{◌≡◌, refl, ap, sym, ◌∙◌}
 use mathlib.Core.Bool.{true}
-use mathlib.Core.List.{List, [], ◌∷◌, ◌++◌, append_assoc}
+use mathlib.Core.List.{List, ◌++◌, append_assoc}
 use native.Mathlib.Omega.{arith}
 use lib.Dec.{eqb}
 use lib.ListN.{length, get_or, take, drop, length-append}
 use lib.Seq.{sets, take_at, drop_at}
 use borrow.Author.Tests.{eqb-true}
+use Rattle.std.proofs.lemmas.Bool.{and_parts}
+use Rattle.std.proofs.lemmas.List.{nil_from_length}
+use Rattle.std.proofs.NetLemmas.Arrays.{four_items}
 use Rattle.yuv_support.specs.declared.YuvChromaSubsampling.TheVariants.{Yuv420}
 use Rattle.little_endian.specs.Number.{low_bytes}
 use Rattle.little_endian.proofs.Number.{length_low}
@@ -15,8 +18,6 @@ use Rattle.little_endian.proofs.Stores.{sets-append}
 use Rattle.shift_file.specs.declared.ShiftForm.{ShiftForm}
 use Rattle.shift_file.specs.declared.ShiftForm.TheVariants.{WithoutSettings, WithSettings}
 use Rattle.shift_file.specs.File.{ShiftRecord, Allowed, settings_size, header_size, sampling_of, chroma_bytes, codes_allowed, bytes_of}
-use Rattle.shift_file.proofs.Record.{both}
-use Rattle.shift_file.proofs.Tests.{four}
 use Rattle.shift_move.specs.Move.{plain_settings, is_plain, moved_record}
 
 -- the settings are plain, in a form that has any
@@ -88,20 +89,16 @@ module _ (to from : ShiftForm) (r : ShiftRecord) (e : length r.settings ≡ sett
 
 -- ---- the record
 
-none : (s : List ℕ) → length s ≡ 0 → [] ≡ s
-none [] e = refl
-none (a ∷ s) e = absurd (omega arith)
-
 -- settings that may move are those that moving sets
 pub Plain-is : (from : ShiftForm) (r : ShiftRecord) → length r.settings ≡ settings_size from → Plain from r → plain_settings from ≡ r.settings
-Plain-is WithoutSettings r e p = none r.settings e
+Plain-is WithoutSettings r e p = sym (nil_from_length r.settings e)
 Plain-is WithSettings r e p =
     let s = r.settings in
-    let a = both (eqb (get_or s 0 0) 0) _ p in
-    let b = both (eqb (get_or s 1 0) 255) _ a.1 in
-    let c = both (eqb (get_or s 2 0) 255) _ b.1 in
+    let a = and_parts (eqb (get_or s 0 0) 0) _ p in
+    let b = and_parts (eqb (get_or s 1 0) 255) _ a.1 in
+    let c = and_parts (eqb (get_or s 2 0) 255) _ b.1 in
     rw (eqb-true (get_or s 0 0) 0 a.0, eqb-true (get_or s 1 0) 255 b.0, eqb-true (get_or s 2 0) 255 c.0, eqb-true (get_or s 3 0) 255 c.1)
-    at (four s e)
+    at (sym (four_items s e))
 
 module _ (from : ShiftForm) (r : ShiftRecord) (a : Allowed from r) (p : Plain from r) where
   moved_chroma : (to : ShiftForm) (w h : ℕ) → chroma_bytes from r.settings w h ≡ chroma_bytes to (plain_settings to) w h

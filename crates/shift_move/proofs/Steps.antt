@@ -2,10 +2,11 @@
 use Prim.Native.Nat.{ℕ, ◌+◌, ◌≤◌, ◌<◌}
 use mathlib.Core.Path.{◌≡◌, sym}
 use mathlib.Core.Bool.{true, ◌&&◌}
-use mathlib.Core.List.{List, [], ◌∷◌, ◌++◌, append_assoc}
+use mathlib.Core.List.{List, ◌∷◌, ◌++◌, append_assoc}
 use native.Mathlib.Numerals.{add-one}
-use lib.ListN.{length, drop, length-append, drop_of_length-le}
+use lib.ListN.{length, drop, length-append}
 use lib.Seq.{sets, drop-cons}
+use Rattle.std.proofs.lemmas.List.{drop_all}
 use Rattle.little_endian.specs.Number.{low_bytes}
 use Rattle.little_endian.proofs.Number.{length_low}
 use Rattle.little_endian.proofs.Stores.{sets-append}
@@ -29,15 +30,12 @@ module _ (rs : List ShiftRecord) (k : ℕ) where
   next : k < length rs → drop k rs ≡ nth rs k ∷ drop (k + 1) rs
   next h = rw add-one (drop-cons rs k no_record h)
 
-  last : length rs ≤ k → drop k rs ≡ []
-  last h = drop_of_length-le rs {i = k} h
-
   -- looking at them
   pub plain_next : k < length rs → are_plain (drop k rs) ≡ (is_plain (nth rs k).settings && are_plain (drop (k + 1) rs))
   plain_next h = rw (next h)
 
   pub plain_last : length rs ≤ k → are_plain (drop k rs) ≡ true
-  plain_last h = rw (last h)
+  plain_last h = rw (drop_all k rs h)
 
   module _ (to : ShiftForm) where
     -- so many bytes are left
@@ -59,7 +57,7 @@ module _ (rs : List ShiftRecord) (k : ℕ) where
 
       pub pair_last : (pair : ℕ) → length rs ≤ k → sets d pair (pairs_of at (moved to (drop k rs))) ≡ d
       unfolding pairs_of
-      pair_last pair h = rw (last h)
+      pair_last pair h = rw (drop_all k rs h)
 
       -- one record put, and the rest still to put
       pub record_next : (size : ℕ) → k < length rs → size ≡ length (bytes_of (moved_record to (nth rs k)))
@@ -70,4 +68,4 @@ module _ (rs : List ShiftRecord) (k : ℕ) where
 
       pub record_last : length rs ≤ k → sets d at (record_bytes (moved to (drop k rs))) ≡ d
       unfolding record_bytes
-      record_last h = rw (last h)
+      record_last h = rw (drop_all k rs h)

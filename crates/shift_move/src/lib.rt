@@ -92,7 +92,8 @@ fn put_record(file: &ShiftFile, k: usize, output: &mut [u8])
 
 // ---- a file in the other form
 
-// The pairs of the moved records, the first of which is to stand at `first`.
+// The pairs of the moved records, the first of which is to stand at `first`. `RecordList` of `shift_writer` writes its own: its sizes are read from bytes,
+// each where the one before it ends, and these are a checked file's by number. One function over a closure of sizes would ask for both, which is no plainer.
 fn write_pairs(file: &ShiftFile, first_pair: usize, first: usize, output: &mut [u8])
     requires room { first_pair + 12 * file.now.count ≤ length output.old }
     requires most { first + length (record_bytes (moved (other_form file.now.form) (records_in file.now.form file.now.bytes.now))) < 2 ^ 64 }
@@ -125,11 +126,8 @@ fn put_file(file: &ShiftFile, output: &mut [u8])
     ensures { output.new ≡ sets output.old 0 (moved_file file.now.form file.now.bytes.now) }
 {
     let to = other_form(file.form);
-    let counted = to.mark_size();
-    let pairs = counted + 4;
+    let pairs = shift_writer::write_front(to, file.count, output);
     let first = pairs + 12 * file.count;
-    shift_writer::write_mark(to, output);
-    little_endian::write_number(output, counted, file.count as u64, 4);
     write_pairs(file, pairs, first, output);
     put_records(file, first, output);
 }
@@ -146,7 +144,9 @@ fn file_size(file: &ShiftFile) -> usize
     }
 }
 
-// Writes a shift file of either form as one of the other: `move_forward` and `move_back` are this of one form each.
+// Writes a shift file of this form as one of the other, at the front of the output: one without settings gets 4:2:0 and nothing recorded, and one with
+// settings loses just that. Or answers 15 where these bytes are no shift file of the form, 20 where a record of a file with settings has 4:2:2 or a
+// recorded setting, 16 where the output is shorter than the moved file, and writes nothing.
 pub fn move_file(from: ShiftForm, file: &[u8], output: &mut [u8]) -> Result<usize, NotWritten>
     ensures { MovePost from file.now output.old result output.new }
 {
@@ -160,20 +160,4 @@ pub fn move_file(from: ShiftForm, file: &[u8], output: &mut [u8]) -> Result<usiz
     }
     put_file(&file, output);
     Ok(size)
-}
-
-// Writes a shift file without settings as one with them, 4:2:0 and nothing recorded, at the front of the output; or answers 15 where these bytes are
-// no shift file without settings, 16 where the output is shorter than the moved file, and writes nothing.
-pub fn move_forward(file: &[u8], output: &mut [u8]) -> Result<usize, NotWritten>
-    ensures { MovePost ShiftForm.WithoutSettings file.now output.old result output.new }
-{
-    move_file(ShiftForm::WithoutSettings, file, output)
-}
-
-// Writes a shift file with settings as one without them at the front of the output; or answers 15 where these bytes are no shift file with settings, 20
-// where a record has 4:2:2 or a recorded setting, 16 where the output is shorter than the moved file, and writes nothing.
-pub fn move_back(file: &[u8], output: &mut [u8]) -> Result<usize, NotWritten>
-    ensures { MovePost ShiftForm.WithSettings file.now output.old result output.new }
-{
-    move_file(ShiftForm::WithSettings, file, output)
 }

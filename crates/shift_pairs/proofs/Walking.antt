@@ -3,10 +3,9 @@
 use Prim.Native.Nat.{ℕ, ◌+◌, ◌-◌, ◌/◌, ◌%◌, ◌^◌, ◌≤◌, ◌<◌}
 use mathlib.Core.Path.{◌≡◌, sym, ◌∙◌, ap, ap₂}
 use mathlib.Core.List.{List, [], ◌∷◌, ◌++◌, map, append_assoc, append-nil}
-use native.Mathlib.Numerals.{add-one}
 use native.Mathlib.Omega.{arith}
 use lib.ListN.{length, get_or, drop, drop_of_length-le, length-append, length-map}
-use lib.Seq.{drop-cons}
+use Rattle.std.proofs.lemmas.List.{drop_more}
 use Rattle.merge_sort.specs.Order.{count}
 use Rattle.merge_sort.specs.Ascending.{sorted, keys_from}
 use Rattle.shift_file.specs.File.{HasFile}
@@ -29,10 +28,6 @@ pub record Walking (f : Files) (a b : List ℕ) (i j : ℕ) (t : Tally) : Type 0
   pub few_ours : length done ≤ i
   pub few_theirs : length done ≤ j
   pub rest : (zs : List Pair) → Walk (drop i a) (drop j b) zs → Walk a b (done ++ zs)
-
--- the keys that are left, and the first of them
-left : (l : List ℕ) (i : ℕ) → i < length l → drop i l ≡ get_or l i 0 ∷ drop (i + 1) l
-left l i h = rw (add-one) (drop-cons l i 0 h)
 
 module _ (f : Files) (a b : List ℕ) where
   pub Walking-none : Walking f a b 0 0 (record { equal = 0; differing = 0; first = None })
@@ -59,7 +54,7 @@ module _ (f : Files) (a b : List ℕ) where
         tallied = inv.tallied;
         few_ours = omega (arith, inv.few_ours);
         few_theirs = inv.few_theirs;
-        rest = λ zs w. inv.rest zs (rw (left a i hi, left b j hj) (ours_only h (rw (left b j hj) at w)));
+        rest = λ zs w. inv.rest zs (rw (drop_more a i 0 hi, drop_more b j 0 hj) (ours_only h (rw (drop_more b j 0 hj) at w)));
       }
 
       pub Walking-theirs : get_or b j 0 / 4096 < get_or a i 0 / 4096 → Walking f a b i (j + 1) t
@@ -68,7 +63,7 @@ module _ (f : Files) (a b : List ℕ) where
         tallied = inv.tallied;
         few_ours = inv.few_ours;
         few_theirs = omega (arith, inv.few_theirs);
-        rest = λ zs w. inv.rest zs (rw (left a i hi, left b j hj) (theirs_only h (rw (left a i hi) at w)));
+        rest = λ zs w. inv.rest zs (rw (drop_more a i 0 hi, drop_more b j 0 hj) (theirs_only h (rw (drop_more a i 0 hi) at w)));
       }
 
       pub Walking-both : get_or a i 0 / 4096 ≡ get_or b j 0 / 4096 → (k m : ℕ) → k ≡ get_or a i 0 % 4096 → m ≡ get_or b j 0 % 4096 → (t' : Tally)
@@ -82,7 +77,7 @@ module _ (f : Files) (a b : List ℕ) where
             tallied = more.tallied inv.done inv.tallied;
             few_ours = omega (arith, inv.few_ours);
             few_theirs = omega (arith, inv.few_theirs);
-            rest = λ zs w. rw (append_assoc inv.done (p ∷ []) zs) (inv.rest (p ∷ zs) (rw (left a i hi, left b j hj) (both h w)));
+            rest = λ zs w. rw (append_assoc inv.done (p ∷ []) zs) (inv.rest (p ∷ zs) (rw (drop_more a i 0 hi, drop_more b j 0 hj) (both h w)));
           }
 
     pub all_ours : length a ≤ i → Walk a b inv.done

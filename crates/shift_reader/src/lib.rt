@@ -50,8 +50,8 @@ pub struct ShiftEntry {
     pub chroma_length: usize,
 }
 
-// What was read: the file's records, and how many of them were told.
-#[derive(Clone, Copy, Debug, PartialEq, Eq)]
+// What was read: the file's records, and how many of them were told. The default, 0 and 0, is what is told with a refusal.
+#[derive(Clone, Copy, Debug, Default, PartialEq, Eq)]
 pub struct ShiftReading {
     pub count: usize,
     pub told: usize,
@@ -81,7 +81,8 @@ impl From<ShiftEntry> for [u64; 11] {
     }
 }
 
-// ---- the same of bytes of which a record is known: public names, with their contracts, of what is one line over `ShiftFile`
+// ---- record k of bytes that are known to have it. RULES 11.4 has a record and each of its planes be a part of the file, and these promise it of the bytes
+// themselves; each is one line over `ShiftFile`.
 
 // The file that these bytes are.
 fn known_file(form: ShiftForm, file: &[u8], k: usize) -> ShiftFile

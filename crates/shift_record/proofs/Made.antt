@@ -1,17 +1,18 @@
 -- A record made of planes: its size, that it is allowed, its bytes as they are put, and the answer by the checks. Assumes nothing.
 use Prim.Native.Nat.{ℕ, ◌+◌, ◌*◌, ◌^◌, ◌≤◌, ◌<◌}
 use mathlib.Core.Path.{◌≡◌, refl, ap, sym, ◌∙◌}
-use mathlib.Core.Bool.{Bool, true, false, cond, not, ◌&&◌, ◌||◌}
+use mathlib.Core.Bool.{Bool, true, false, cond, not, ◌&&◌}
 use mathlib.Core.List.{List, [], ◌∷◌, ◌++◌, append_assoc}
 use native.Mathlib.Omega.{arith}
-use lib.Dec.{ltb, eqb}
-use borrow.Author.Tests.{ltb-true, eqb-true, not-true}
+use lib.Dec.{eqb}
+use borrow.Author.Tests.{not-true}
 use lib.ListN.{length, length-append}
 use lib.Seq.{sets}
+use Rattle.std.proofs.lemmas.Bool.{and_parts}
 use Rattle.yuv_support.specs.declared.YuvChromaSubsampling.{YuvChromaSubsampling}
 use Rattle.yuv_support.specs.declared.YuvChromaSubsampling.TheVariants.{Yuv420, Yuv422}
 use Rattle.yuv_support.specs.Sampling.{chroma_width, chroma_height}
-use Rattle.std.specs.Prelude.{Err}
+use Rattle.std.specs.Prelude.{Option, Some, None, Err}
 use Rattle.yuv_error.specs.declared.YuvError.{YuvError}
 use Rattle.yuv_error.specs.Numbers.{Numbers, numbers_of}
 use Rattle.yuv_error.specs.Rules.{Rule, first_numbers}
@@ -19,55 +20,24 @@ use Rattle.yuv_error.proofs.Numbers.{refused_number}
 use Rattle.yuv_error.proofs.Accepted.{accepted_planes}
 use Rattle.little_endian.specs.Number.{Bytes, low_bytes}
 use Rattle.little_endian.proofs.Number.{length_low}
-use Rattle.shift_file.specs.declared.ShiftForm.{ShiftForm}
-use Rattle.shift_file.specs.declared.ShiftForm.TheVariants.{WithoutSettings, WithSettings}
 use Rattle.shift_file.specs.declared.SettingCodes.{SettingCodes}
-use Rattle.shift_file.specs.File.{Allowed, settings_size, header_size, is_code, code_list, codes_allowed, sampling_of, is_side, chroma_bytes, bytes_of}
-use Rattle.shift_file.proofs.Record.{both, side_bounds}
+use Rattle.shift_file.specs.File.{Allowed, settings_size, header_size, is_side, chroma_bytes, bytes_of}
+use Rattle.shift_file.proofs.Record.{side_bounds}
 use Rattle.shift_writer.specs.Output.{size_told}
 use Rattle.shift_writer.proofs.Pairs.{sets_four}
 use Rattle.shift_record.specs.declared.RecordFrame.{RecordFrame}
-use Rattle.shift_record.specs.Record.{unpadded, codes_in, settings_of, chroma_rows, record_made, header, record_size, y_lent, u_lent, v_lent, lent_rules, frame_allowed, opening_rules}
+use Rattle.shift_record.specs.Record.{unpadded, form_with, codes_in, record_form, settings_of, chroma_rows, record_made, header, record_size, y_lent, u_lent, v_lent, lent_rules, frame_allowed, opening_rules}
 use Rattle.shift_record.specs.Known.{IsFrame, PlanesFit}
 use Rattle.shift_record.proofs.Rows.{length-unpadded, Bytes-unpadded}
 
 -- ---- the settings
 
-pub length_codes : (form : ShiftForm) (c : SettingCodes) → length (codes_in form c) ≡ settings_size form
-length_codes WithoutSettings c = refl
-length_codes WithSettings c = refl
+pub length_codes : (settings : Option SettingCodes) → length (codes_in settings) ≡ settings_size (form_with settings)
+length_codes None = refl
+length_codes (Some c) = refl
 
--- a form without settings looks at no code
-pub allowed_in : (form : ShiftForm) (c : SettingCodes) → codes_allowed form (code_list c) ≡ codes_allowed form (codes_in form c)
-allowed_in WithoutSettings c = refl
-allowed_in WithSettings c = refl
-
-pub sampling_in : (form : ShiftForm) (c : SettingCodes) → sampling_of form (code_list c) ≡ sampling_of form (codes_in form c)
-sampling_in WithoutSettings c = refl
-sampling_in WithSettings c = refl
-
-code_byte : (n code : ℕ) → n ≤ 255 → is_code n code ≡ true → code < 256
-code_byte n code h e = go (ltb code n) refl e
-  where
-    go : (t : Bool) → ltb code n ≡ t → (t || eqb code 255) ≡ true → code < 256
-    go true below p = omega (arith, ltb-true code n below)
-    go false below p = omega (arith, eqb-true code 255 p)
-
--- codes that are allowed are bytes
-pub code_bytes : (c : SettingCodes) → codes_allowed WithSettings (codes_in WithSettings c) ≡ true
-    → (c.sampling < 256) × (c.range < 256) × (c.matrix < 256) × (c.transfer < 256)
-code_bytes c e =
-    let s = both (ltb c.sampling 2) _ e in
-    let r = both (is_code 2 c.range) _ s.1 in
-    let m = both (is_code 7 c.matrix) _ r.1 in (
-      omega (arith, ltb-true c.sampling 2 s.0),
-      code_byte 2 c.range (omega arith) r.0,
-      code_byte 7 c.matrix (omega arith) m.0,
-      code_byte 4 c.transfer (omega arith) m.1,
-    )
-
-pub length-header : (f : RecordFrame) → length (header f) ≡ header_size f.form
-length-header f = simp (length-append, length_low) (omega (arith, length_codes f.form f.settings))
+pub length-header : (f : RecordFrame) → length (header f) ≡ header_size (record_form f)
+length-header f = simp (length-append, length_low) (omega (arith, length_codes f.settings))
 
 -- a frame has chroma rows, and no more than rows
 pub rows_bounds : (s : YuvChromaSubsampling) (h : ℕ) → 1 ≤ h → h ≤ 16384 → (1 ≤ chroma_height s h) × (chroma_height s h ≤ 16384)
@@ -91,16 +61,16 @@ module _ (f : RecordFrame) (y u v : List ℕ) where
 
   pub length_made : Fit → length (bytes_of (record_made f y u v)) ≡ record_size f
   unfolding bytes_of
-  length_made p = simp (length-append, length_low) (omega (arith, length_codes f.form f.settings, y_size p, u_size p, v_size p))
+  length_made p = simp (length-append, length_low) (omega (arith, length_codes f.settings, y_size p, u_size p, v_size p))
 
   pub made_Allowed : Fit → f.crossing < 256 ^ 4 → is_side f.width ≡ true → is_side f.height ≡ true → Bytes y → Bytes u → Bytes v
-      → Allowed f.form (record_made f y u v)
+      → Allowed (record_form f) (record_made f y u v)
   unfolding chroma_bytes
   made_Allowed p c w h by bu bv = record {
     crossing = c;
     width = w;
     height = h;
-    settings = length_codes f.form f.settings;
+    settings = length_codes f.settings;
     codes = p.frame.codes;
     y_size = y_size p;
     u_size = u_size p;
@@ -111,7 +81,7 @@ module _ (f : RecordFrame) (y u v : List ℕ) where
   }
 
   -- header and planes put one after the other
-  record_put : Fit → (d : List ℕ) (y_at u_at v_at : ℕ) → y_at ≡ header_size f.form → u_at ≡ y_at + f.width * f.height
+  record_put : Fit → (d : List ℕ) (y_at u_at v_at : ℕ) → y_at ≡ header_size (record_form f) → u_at ≡ y_at + f.width * f.height
       → v_at ≡ u_at + chroma_width f.width * chroma_rows f
       → let r = record_made f y u v in sets (sets (sets (sets d 0 (header f)) y_at r.y) u_at r.u) v_at r.v ≡ sets d 0 (bytes_of r)
   unfolding bytes_of
@@ -124,7 +94,7 @@ module _ (f : RecordFrame) (y u v : List ℕ) where
 
   -- the same, from what each step tells
   pub record_steps : Fit → (d out₁ out₂ out₃ out₄ : List ℕ) (width rows y_at u_at v_at : ℕ) → out₁ ≡ sets d 0 (header f)
-      → y_at ≡ header_size f.form → out₂ ≡ sets out₁ y_at (unpadded f.width f.y_stride f.height y)
+      → y_at ≡ header_size (record_form f) → out₂ ≡ sets out₁ y_at (unpadded f.width f.y_stride f.height y)
       → width ≡ chroma_width f.width → rows ≡ chroma_rows f
       → u_at ≡ y_at + f.width * f.height → out₃ ≡ sets out₂ u_at (unpadded width f.u_stride rows u)
       → v_at ≡ u_at + chroma_width f.width * chroma_rows f → out₄ ≡ sets out₃ v_at (unpadded width f.v_stride rows v)
@@ -154,8 +124,8 @@ header_put f d =
 
 pub is_frame : (f : RecordFrame) → frame_allowed f ≡ true → IsFrame f
 is_frame f e =
-    let p = both (is_side f.width) _ e in
-    let q = both (is_side f.height) _ p.1 in
+    let p = and_parts (is_side f.width) _ e in
+    let q = and_parts (is_side f.height) _ p.1 in
     let w = side_bounds _ p.0 in
     let h = side_bounds _ q.0 in
     record { width_least = w.0; width_most = w.1; height_least = h.0; height_most = h.1; codes = q.1 }
@@ -174,7 +144,7 @@ either_says false n x y p q = q
 not_said : (n : ℕ) (rs : List Rule) → not (eqb 0 n) ≡ true → none_says n rs ≡ true → not (eqb (first_numbers rs).number n) ≡ true
 not_said n [] z e = z
 not_said n (r ∷ rs) z e =
-    let p = both (not (eqb r.says.number n)) _ e in
+    let p = and_parts (not (eqb r.says.number n)) _ e in
     either_says r.holds n r.says (first_numbers rs) p.0 (not_said n rs z p.1)
 
 pub refused_size : (f : RecordFrame) (y u v : List ℕ) (e : YuvError) (n : ℕ) → numbers_of (Err e) ≡ first_numbers (opening_rules f y u v) → 0 ≡ size_told (Err e) n

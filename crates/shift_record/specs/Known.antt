@@ -4,7 +4,7 @@ use Rattle.std.specs.Prelude.{ℕ, ◌*◌, ◌≤◌, ◌≡◌, true}
 use Rattle.yuv_support.specs.Sampling.{chroma_width}
 use Rattle.shift_file.specs.File.{codes_allowed}
 use Rattle.shift_record.specs.declared.RecordFrame.{RecordFrame}
-use Rattle.shift_record.specs.Record.{settings_of, chroma_rows}
+use Rattle.shift_record.specs.Record.{record_form, settings_of, chroma_rows}
 
 -- sides of 1 to 16,384, and codes that are allowed
 -- two contracts ask it, of a frame that callers fill in: no type carries it; y4m_picture has another fact of this name
@@ -13,7 +13,7 @@ pub record IsFrame (f : RecordFrame) : Type 0 where
   pub width_most : f.width ≤ 16384
   pub height_least : 1 ≤ f.height
   pub height_most : f.height ≤ 16384
-  pub codes : codes_allowed f.form (settings_of f) ≡ true
+  pub codes : codes_allowed (record_form f) (settings_of f) ≡ true
 
 -- planes of whole rows, by their lengths
 pub record PlanesFit (f : RecordFrame) (y u v : ℕ) : Type 0 where

@@ -1,6 +1,6 @@
 -- A record from planes with strides: docs/RULES.md, 11.6; with settings 11.7.
 -- Assumes nothing.
-use Rattle.std.specs.Prelude.{ℕ, zero, suc, ◌+◌, ◌*◌, ◌≡◌, Bool, not, ◌&&◌, List, [], ◌∷◌, ◌++◌, length, take, drop, Result}
+use Rattle.std.specs.Prelude.{ℕ, zero, suc, ◌+◌, ◌*◌, ◌≡◌, Bool, not, ◌&&◌, List, [], ◌∷◌, ◌++◌, Option, Some, None, length, take, drop, Result}
 use Rattle.yuv_support.specs.declared.YuvChromaSubsampling.{YuvChromaSubsampling}
 use Rattle.yuv_support.specs.Sampling.{chroma_width, chroma_height}
 use Rattle.yuv_error.specs.declared.LentBuffer.{LentBuffer}
@@ -20,18 +20,27 @@ unfoldable pub unpadded : (n stride rows : ℕ) → (plane : List ℕ) → List 
 unpadded n stride zero plane = []
 unpadded n stride (suc rows) plane = take n plane ++ unpadded n stride rows (drop stride plane)
 
+-- RULES 11.7: the form of a record with these settings, or with none
+abbrev pub form_with : Option SettingCodes → ShiftForm
+form_with None = WithoutSettings
+form_with (Some c) = WithSettings
+
 -- RULES 11.7: four codes, or none in the form without settings
-abbrev pub codes_in : ShiftForm → SettingCodes → List ℕ
-codes_in WithoutSettings c = []
-codes_in WithSettings c = code_list c
+abbrev pub codes_in : Option SettingCodes → List ℕ
+codes_in None = []
+codes_in (Some c) = code_list c
+
+-- RULES 11.7
+abbrev pub record_form : RecordFrame → ShiftForm
+record_form f = form_with f.settings
 
 -- RULES 11.7
 abbrev pub settings_of : RecordFrame → List ℕ
-settings_of f = codes_in f.form f.settings
+settings_of f = codes_in f.settings
 
 -- RULES 11.6: 4:2:0. RULES 11.7: the recorded sampling
 abbrev pub frame_sampling : RecordFrame → YuvChromaSubsampling
-frame_sampling f = sampling_of f.form (settings_of f)
+frame_sampling f = sampling_of (record_form f) (settings_of f)
 
 -- RULES 11.6: ch
 abbrev pub chroma_rows : RecordFrame → ℕ
@@ -55,7 +64,7 @@ header f = low_bytes 4 f.crossing ++ (low_bytes 2 f.width ++ (low_bytes 2 f.heig
 
 -- RULES 11.2: 8 + w × h + 2 × cw × ch. RULES 11.7: and 4 for the settings
 abbrev pub record_size : RecordFrame → ℕ
-record_size f = header_size f.form + (f.width * f.height + 2 * (chroma_width f.width * chroma_rows f))
+record_size f = header_size (record_form f) + (f.width * f.height + 2 * (chroma_width f.width * chroma_rows f))
 
 -- ---- the conditions
 
@@ -77,7 +86,7 @@ lent_rules f y u v = planes_rules (y_lent f (length y)) (u_lent f (length u)) (v
 
 -- RULES 11.6: the sides are those of a frame. RULES 11.7: the settings have such codes
 abbrev pub frame_allowed : RecordFrame → Bool
-frame_allowed f = is_side f.width && (is_side f.height && codes_allowed f.form (settings_of f))
+frame_allowed f = is_side f.width && (is_side f.height && codes_allowed (record_form f) (settings_of f))
 
 -- RULES 11.6: 15, then 8 to 12: what is asked before the output is measured
 abbrev pub opening_rules : RecordFrame → (y u v : List ℕ) → List Rule

@@ -8,7 +8,7 @@ pub mod padded; // the rows of a plane
 ghost use Rattle.std.specs.Prelude.{◌≡◌};
 ghost use Rattle.yuv_error.specs.Numbers.{numbers_of};
 ghost use Rattle.yuv_error.specs.Rules.{first_numbers, planes_rules};
-ghost use Rattle.shift_record.specs.Record.{frame_sampling, y_lent, u_lent, v_lent, frame_allowed};
+ghost use Rattle.shift_record.specs.Record.{record_form, frame_sampling, y_lent, u_lent, v_lent, frame_allowed};
 ghost use Rattle.shift_record.specs.Record.{RecordPost};
 ghost use Rattle.shift_record.specs.Known.{IsFrame};
 
@@ -18,37 +18,46 @@ use shift_writer::NotWritten;
 use yuv_error::{LentBuffer, YuvError};
 use yuv_support::YuvChromaSubsampling;
 
-// What a record says of its frame, and the strides of the planes that it is made of. In the form without settings theirs are not looked at: no `Option`,
-// since C lends the codes in either form, and the form is what its calls name.
+// What a record says of its frame, and the strides of the planes that it is made of. A record of the form without settings has `None` for them.
 #[derive(Clone, Copy, Debug, PartialEq, Eq)]
 pub struct RecordFrame {
-    pub form: ShiftForm,
     pub crossing: u32,
     pub width: u32,
     pub height: u32,
-    pub settings: SettingCodes,
+    pub settings: Option<SettingCodes>,
     pub y_stride: u32,
     pub u_stride: u32,
     pub v_stride: u32,
 }
 
 impl RecordFrame {
-    // The sampling of the planes.
-    #[tactic(auto, using(crate::proofs::Made::sampling_in))]
+    // The form of the record.
+    pub fn form(self) -> ShiftForm
+        ensures { result ≡ record_form self }
+    {
+        match self.settings {
+            None => ShiftForm::WithoutSettings,
+            Some(_) => ShiftForm::WithSettings,
+        }
+    }
+
+    // The sampling of the planes: 4:2:0 where no settings are recorded.
     fn sampling(self) -> YuvChromaSubsampling
         ensures { result ≡ frame_sampling self }
     {
-        self.settings.sampling_in(self.form)
+        self.settings.map_or(
+            YuvChromaSubsampling::Yuv420,
+            |codes| setting_codes::sampling_of(codes.sampling),
+        )
     }
 
-    // Whether the sides, and the settings in a form that has them, are allowed.
-    #[tactic(auto, using(crate::proofs::Made::allowed_in))]
+    // Whether the sides are allowed, and the settings where there are some.
     fn is_allowed(self) -> bool
         ensures { result ≡ frame_allowed self }
     {
         shift_file::is_side(self.width as usize)
             && shift_file::is_side(self.height as usize)
-            && self.settings.are_allowed_in(self.form)
+            && self.settings.is_none_or(SettingCodes::are_allowed)
     }
 
     // Refusals 8 to 12.

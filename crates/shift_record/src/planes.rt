@@ -4,7 +4,6 @@ ghost use Rattle.shift_record.specs.Known.{PlanesFit};
 
 use crate::RecordFrame;
 use crate::padded::PaddedRows;
-use shift_file::ShiftForm;
 use yuv_error::YuvError;
 
 #[derive(Clone, Copy)]
@@ -22,9 +21,10 @@ impl<'a> FramePlanes<'a> {
     ghost use Rattle.yuv_error.specs.Numbers.{numbers_of};
     ghost use Rattle.yuv_error.specs.Rules.{first_numbers};
     ghost use Rattle.shift_file.specs.File.{header_size, bytes_of};
-    ghost use Rattle.shift_record.specs.Record.{settings_of, header, record_made, opening_rules};
+    ghost use Rattle.shift_record.specs.Record.{record_form, settings_of, header, record_made, opening_rules};
 
-    // This frame with these planes; or 15 where a side or a setting is not allowed, 8 to 12 where a plane is not of whole rows.
+    // This frame with these planes, which C lends as three slices: here they become one thing.
+    // Or 15 where a side or a setting is not allowed, 8 to 12 where a plane is not of whole rows.
     pub fn open(
         frame: RecordFrame,
         y: &'a [u8],
@@ -51,31 +51,27 @@ impl<'a> FramePlanes<'a> {
         let height = self.frame.height as usize;
         let luma = shift_file::luma_size(width, height);
         let chroma = shift_file::chroma_size(self.frame.sampling(), width, height);
-        self.frame.form.header_size() + (luma + 2 * chroma)
+        self.frame.form().header_size() + (luma + 2 * chroma)
     }
 
     // The settings, after crossing, width and height: C lends each code in 32 bits, and an allowed one fits a byte.
     fn put_settings(&self, output: &mut [u8])
-        requires { header_size self.now.frame.form ≤ length output.old }
+        requires { header_size (record_form self.now.frame) ≤ length output.old }
         ensures { output.new ≡ sets output.old 8 (settings_of self.now.frame) }
     {
-        match self.frame.form {
-            ShiftForm::WithoutSettings => {}
-            ShiftForm::WithSettings => {
-                let settings = self.frame.settings;
-                let codes = [
-                    settings.sampling as u8,
-                    settings.range as u8,
-                    settings.matrix as u8,
-                    settings.transfer as u8,
-                ];
-                little_endian::put(output, 8, &codes);
-            }
+        if let Some(settings) = self.frame.settings {
+            let codes = [
+                settings.sampling as u8,
+                settings.range as u8,
+                settings.matrix as u8,
+                settings.transfer as u8,
+            ];
+            little_endian::put(output, 8, &codes);
         }
     }
 
     fn put_header(&self, output: &mut [u8])
-        requires { header_size self.now.frame.form ≤ length output.old }
+        requires { header_size (record_form self.now.frame) ≤ length output.old }
         ensures { output.new ≡ sets output.old 0 (header self.now.frame) }
     {
         little_endian::write_number(output, 0, self.frame.crossing.into(), 4);
@@ -96,7 +92,7 @@ impl<'a> FramePlanes<'a> {
         let sampling = self.frame.sampling();
         let chroma_width = yuv_support::chroma_width(width);
         let chroma_height = sampling.chroma_height(height);
-        let y_at = self.frame.form.header_size();
+        let y_at = self.frame.form().header_size();
         let u_at = y_at + shift_file::luma_size(width, height);
         let v_at = u_at + shift_file::chroma_size(sampling, width, height);
         let y = PaddedRows {

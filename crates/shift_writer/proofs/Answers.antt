@@ -9,6 +9,7 @@ use lib.ListN.{length, drop}
 use lib.Seq.{sets, sets-eq}
 use borrow.Author.Tests.{leb-true}
 use Rattle.std.specs.Prelude.{Some, None}
+use Rattle.std.proofs.lemmas.Option.{cond_some}
 use Rattle.little_endian.specs.Number.{Bytes}
 use Rattle.shift_file.specs.declared.ShiftForm.{ShiftForm}
 use Rattle.shift_file.specs.File.{records_at, file_of}
@@ -16,17 +17,17 @@ use Rattle.shift_file.specs.Read.{records_from}
 use Rattle.shift_file.proofs.File.{length_file}
 use Rattle.shift_writer.specs.Records.{count_from, are_records, count_back, file_made}
 use Rattle.shift_writer.specs.Known.{Counted}
-use Rattle.shift_writer.proofs.Count.{standing, not_standing, length_from, counted}
+use Rattle.shift_writer.proofs.Count.{not_standing, length_from, counted}
 
 pub no_records : (form : ShiftForm) (b : List ℕ) → count_back form b ≡ None → are_records form b ≡ false
 no_records form b e = not_standing (are_records form b) (count_from form b 0 4096) e
 
 module _ (form : ShiftForm) (b : List ℕ) (n : ℕ) (e : count_back form b ≡ Some n) where
   pub are_records_lem : are_records form b ≡ true
-  are_records_lem = (standing (are_records form b) (count_from form b 0 4096) n e).0
+  are_records_lem = (cond_some (are_records form b) (count_from form b 0 4096) n e).0
 
   pub count_is : count_from form b 0 4096 ≡ n
-  count_is = (standing (are_records form b) (count_from form b 0 4096) n e).1
+  count_is = (cond_some (are_records form b) (count_from form b 0 4096) n e).1
 
   pub few : n ≤ 4096
   few = rw (← count_is) (leb-true (count_from form b 0 4096) 4096 are_records_lem)

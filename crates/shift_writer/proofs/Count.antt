@@ -9,7 +9,9 @@ use native.Mathlib.Omega.{arith}
 use lib.Dec.{eqb}
 use Rattle.std.proofs.Math.Arith.{lt_of_le-ne}
 use lib.ListN.{length, drop, length-append, length-drop, drop_of_length-le}
-use lib.Seq.{drop-drop, drop_at}
+use lib.Seq.{drop-drop}
+use Rattle.std.proofs.lemmas.Option.{cond_some}
+use Rattle.std.proofs.CharBoundary.{drop_past_prefix}
 use borrow.Author.Tests.{eq-eqb, ne_eqb, eqb-true, eqb-false, leb-true, le-leb}
 use Rattle.little_endian.specs.Number.{Bytes}
 use Rattle.little_endian.proofs.Number.{bytes_drop}
@@ -29,17 +31,13 @@ length_from form b at (suc n) = ap suc (length_from form b (at + size_at form (d
 
 -- ---- one step
 
-pub standing : (t : Bool) (n s : ℕ) → cond t (Some n) None ≡ Some s → (t ≡ true) × (n ≡ s)
-standing true n s e = (refl, cc)
-standing false n s e = cc
-
 pub not_standing : (t : Bool) (n : ℕ) → cond t (Some n) None ≡ None → t ≡ false
 not_standing true n e = cc
 not_standing false n e = refl
 
 pub standing_some : (form : ShiftForm) (l : List ℕ) (s : ℕ) → size_standing form l ≡ Some s → (record_stands form l ≡ true) × (size_at form l ≡ s)
 unfolding size_standing
-standing_some form l s e = standing (record_stands form l) (size_at form l) s e
+standing_some form l s e = cond_some (record_stands form l) (size_at form l) s e
 
 pub standing_none : (form : ShiftForm) (l : List ℕ) → size_standing form l ≡ None → record_stands form l ≡ false
 unfolding size_standing
@@ -110,11 +108,6 @@ count_at_most form b at k c h = rw (c.many h)
 
 -- ---- from the records to the count
 
--- past the first of some records
-pub past_first : (b : List ℕ) (r : ShiftRecord) (rs : List ShiftRecord) (at : ℕ) → drop at b ≡ bytes_of r ++ record_bytes rs
-    → drop (at + length (bytes_of r)) b ≡ record_bytes rs
-past_first b r rs at e = sym (drop-drop (length (bytes_of r)) at b) ∙ rw e (drop_at (bytes_of r) (record_bytes rs) (length (bytes_of r)) refl)
-
 records_counted : (form : ShiftForm) (b : List ℕ) (rs : List ShiftRecord) (at n : ℕ) → EachAllowed form rs → length rs ≤ n → at ≤ length b
     → drop at b ≡ record_bytes rs → count_from form b at n ≡ length rs
 unfolding record_bytes
@@ -124,7 +117,7 @@ records_counted form b (r ∷ rs) at (suc n) es hn ha e =
     let size : size_at form (drop at b) ≡ length (bytes_of r) = ap (size_at form) e ∙ size_bytes form r es.0 (record_bytes rs) in
     let long : length b - at ≡ length (bytes_of r) + length (record_bytes rs) = sym (length-drop at b) ∙ ap length e ∙ length-append (bytes_of r) (record_bytes rs) in
     count_more form b at (suc n) n refl (omega (arith, length_bytes form r es.0)) (ap (record_stands form) e ∙ stands_bytes form r es.0 (record_bytes rs))
-    ∙ rw size (ap suc (records_counted form b rs (at + length (bytes_of r)) n es.1 (omega arith) (omega arith) (past_first b r rs at e)))
+    ∙ rw size (ap suc (records_counted form b rs (at + length (bytes_of r)) n es.1 (omega arith) (omega arith) (drop_past_prefix b (bytes_of r) (record_bytes rs) at e)))
 
 -- ---- from the count to the records
 
@@ -189,7 +182,7 @@ module _ (form : ShiftForm) (b : List ℕ) (at n : ℕ) (c : Counted form b at (
       omega (arith, next_size, length-drop at b, ap length here, length-append (bytes_of r) (record_bytes rest), length_bytes form r allowed.0)
 
   next_Counted : Counted form b (at + size_at form (drop at b)) n
-  next_Counted = record { each = allowed.1; bytes = ap (λ (n : ℕ). drop (at + n) b) next_size ∙ past_first b r rest at here }
+  next_Counted = record { each = allowed.1; bytes = ap (λ (n : ℕ). drop (at + n) b) next_size ∙ drop_past_prefix b (bytes_of r) (record_bytes rest) at here }
 
 -- a record that was counted: its header is there, it is whole, and those after it were counted too
 pub record Next (form : ShiftForm) (b : List ℕ) (at n : ℕ) : Type 0 where

@@ -47,17 +47,23 @@ pub sets_four : (a b c e d : List ℕ) (p q r : ℕ) → length a ≡ p → p + 
 sets_four a b c e d p q r hp hq hr =
     rw (sets-append a (b ++ (c ++ e)) d 0, zero-add (length a), hp, sets-append b (c ++ e) (sets d 0 a) p, hq, sets-append c e (sets (sets d 0 a) p b) q, hr)
 
--- mark, count, pairs and records
+-- mark and count
+pub front_put : (form : ShiftForm) (n : ℕ) (d : List ℕ)
+    → sets (sets d 0 (mark form)) (mark_size form) (low_bytes 4 n) ≡ sets d 0 (mark form ++ low_bytes 4 n)
+front_put form n d = rw (sets-append (mark form) (low_bytes 4 n) d 0, zero-add (length (mark form)), length-mark form)
+
+-- mark and count, pairs and records
 pub parts_put : (form : ShiftForm) (rs : List ShiftRecord) (d : List ℕ) → let n = length rs in
-    sets (sets (sets (sets d 0 (mark form)) (mark_size form) (low_bytes 4 n)) (pairs_at form) (pairs_of (records_at form n) rs)) (records_at form n) (record_bytes rs)
+    sets (sets (sets d 0 (mark form ++ low_bytes 4 n)) (pairs_at form) (pairs_of (records_at form n) rs)) (records_at form n) (record_bytes rs)
     ≡ sets d 0 (file_of form rs)
 unfolding file_of
 parts_put form rs d =
     let n = length rs in
-    sets_four (mark form) (low_bytes 4 n) (pairs_of (records_at form n) rs) (record_bytes rs) d (mark_size form) (pairs_at form) (records_at form n)
-    (length-mark form) (rw length_low) (rw length_pairs)
+    rw (← front_put form n d)
+    (sets_four (mark form) (low_bytes 4 n) (pairs_of (records_at form n) rs) (record_bytes rs) d (mark_size form) (pairs_at form) (records_at form n)
+    (length-mark form) (rw length_low) (rw length_pairs))
 
 pub file_put : (form : ShiftForm) (b d : List ℕ) (n : ℕ) → Counted form b 0 n → let rs = records_from form b 0 n in
-    sets (sets (sets (sets d 0 (mark form)) (mark_size form) (low_bytes 4 n)) (pairs_at form) (pairs_of (records_at form n) rs)) (records_at form n) b
+    sets (sets (sets d 0 (mark form ++ low_bytes 4 n)) (pairs_at form) (pairs_of (records_at form n) rs)) (records_at form n) b
     ≡ sets d 0 (file_of form rs)
 file_put form b d n c = rw (length_from form b 0 n, ← c.bytes) at (parts_put form (records_from form b 0 n) d)

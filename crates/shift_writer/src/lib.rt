@@ -8,7 +8,7 @@ ghost use Rattle.std.specs.Prelude.{◌≡◌, ◌++◌, ◌+◌, ◌≤◌, len
 ghost use Rattle.std.proofs.lemmas.List.Edits.{sets};
 ghost use Rattle.yuv_error.specs.Numbers.{numbers_of};
 ghost use Rattle.little_endian.specs.Number.{low_bytes};
-ghost use Rattle.shift_file.specs.File.{mark};
+ghost use Rattle.shift_file.specs.File.{mark, pairs_at};
 ghost use Rattle.shift_writer.specs.Records.{count_back};
 ghost use Rattle.shift_writer.specs.Output.{outcome_of, size_of};
 ghost use Rattle.shift_writer.specs.Writing.{WritePost};
@@ -101,6 +101,20 @@ pub fn write_mark(form: ShiftForm, output: &mut [u8])
             little_endian::write_number(output, 0, shift_file::MARK.into(), 4);
         }
     }
+}
+
+// Mark and count of a file of so many records, at the front of the output; answers where the pairs stand.
+#[tactic(auto, using(crate::proofs::Pairs::front_put))]
+pub fn write_front(form: ShiftForm, count: usize, output: &mut [u8]) -> usize
+    requires { pairs_at form ≤ length output.old }
+    ensures value { result ≡ pairs_at form }
+    ensures most { result ≤ 8 }
+    ensures written { output.new ≡ sets output.old 0 (mark form ++ low_bytes 4 count) }
+{
+    let counted = form.mark_size();
+    write_mark(form, output);
+    little_endian::write_number(output, counted, count as u64, 4);
+    counted + 4
 }
 
 // Writes the file of these records at the front of the output; or answers 15 where they are no list of records that has a file, 16 where the output

@@ -42,7 +42,7 @@ impl<'a> RecordList<'a> {
         self.form.mark_size() + 4 + 12 * self.count + self.bytes.len()
     }
 
-    // The pairs, the first of which tells of a record at `first`.
+    // The pairs, the first of which tells of a record at `first`. `write_pairs` of `shift_move` says why it stands beside this one.
     fn write_pairs(&self, first_pair: usize, first: usize, output: &mut [u8])
         requires { (first_pair + 12 * self.now.count ≤ length output.old) × (first + length self.now.bytes.now < 2 ^ 64) }
         ensures { output.new ≡ sets output.old first_pair (pairs_of first (records_back self.now.form self.now.bytes.now)) }
@@ -61,11 +61,8 @@ impl<'a> RecordList<'a> {
         requires { length (file_made self.now.form self.now.bytes.now) ≤ length output.old }
         ensures { output.new ≡ sets output.old 0 (file_made self.now.form self.now.bytes.now) }
     {
-        let counted = self.form.mark_size();
-        let pairs = counted + 4;
+        let pairs = crate::write_front(self.form, self.count, output);
         let first = pairs + 12 * self.count;
-        crate::write_mark(self.form, output);
-        little_endian::write_number(output, counted, self.count as u64, 4);
         self.write_pairs(pairs, first, output);
         little_endian::put(output, first, self.bytes);
     }

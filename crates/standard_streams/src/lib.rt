@@ -55,7 +55,7 @@ pub fn read_input<R: Read>(reader: &mut R, buffer: &mut [u8]) -> Result<usize, S
 {
     let mut size = 0;
     let mut retries = RETRIES;
-    // A while loop: a read gives as many bytes as it likes.
+    // A while loop: a read gives as many bytes as it likes. Not std's `read_to_end`: it needs a heap, and makes an interrupted call again up to 2^64 times.
     while size < buffer.len() {
         match reader.read(&mut buffer[size..]) {
             Ok(0) => return Ok(size),
@@ -76,12 +76,14 @@ pub fn write_output<W: Write>(writer: &mut W, bytes: &[u8]) -> Result<(), Stoppe
     ensures all { OnOk result (Appends (W.contents writer.old) (W.contents writer.new) bytes.now) }
     ensures start { (n : ℕ) × (n ≤ length bytes.now)
         × Appends (W.contents writer.old) (W.contents writer.new) (take n bytes.now) }
+    ensures cut_within { IfErr result (λ stopped. stopped.size ≤ length bytes.now) }
     ensures cut { IfErr result (λ stopped.
         Appends (W.contents writer.old) (W.contents writer.new) (take stopped.size bytes.now)) }
 {
     let mut done = 0;
     let mut retries = RETRIES;
-    // A while loop: a write takes as many bytes as it likes.
+    // A while loop: a write takes as many bytes as it likes. Not std's `write_all`: it makes an interrupted call again up to 2^64 times, and says
+    // nothing of what was written before an error.
     while done < bytes.len() {
         match writer.write(&bytes[done..]) {
             Ok(0) => {

@@ -12,7 +12,8 @@ use shift_reader::file::ShiftFile;
 use summary_entry::ENTRY;
 use yuv_error::YuvError;
 
-// Writes a file's summary, or refuses bytes that are no file (15) and room that is too short (17), and writes nothing.
+// Writes a file's summary, or refuses bytes that are no file (15) and room that is too short (17), and writes nothing. The form is what the caller asks of the
+// bytes; a struct of both would be made for this call, or for one of those below, and taken apart by `ShiftFile::open`, which makes what carries them on.
 pub fn build_summary(form: ShiftForm, file: &[u8], summary: &mut [u8]) -> Result<(), YuvError>
     ensures { BuildPost form file.now summary.old result summary.new }
 {

@@ -7,6 +7,7 @@ use native.Mathlib.Nat.{add-zero, add_assoc}
 use native.Mathlib.Omega.{arith}
 use borrow.Author.Tests.{ltb-true, eqb-true}
 use lib.ListN.{length, drop, length-append}
+use Rattle.std.proofs.lemmas.Bool.{and_parts}
 use Rattle.little_endian.specs.Number.{Bytes}
 use Rattle.merge_sort.specs.Order.{count, All, Permutation, Ordered}
 use Rattle.merge_sort.proofs.Permuted.{All-at, count-append, permuted_map, permutation_trans}
@@ -21,7 +22,7 @@ use Rattle.shift_file.specs.declared.ShiftForm.{ShiftForm}
 use Rattle.shift_file.specs.File.{ShiftRecord, Allowed, EachAllowed, HasFile, IsFileOf, file_of, bytes_of, record_bytes, records_at}
 use Rattle.shift_file.specs.Read.{size_at, record_at, records_in}
 use Rattle.shift_file.specs.Check.{record_stands, is_file}
-use Rattle.shift_file.proofs.Record.{both, Stands-true, record_Allowed}
+use Rattle.shift_file.proofs.Record.{Stands-true, record_Allowed}
 use Rattle.shift_file.proofs.File.{Checked-file, length_file}
 use Rattle.shift_summary.specs.Summary.{entry_of, entries_from, entries_of, IsSummary}
 use Rattle.shift_summary.specs.Built.{summary_of}
@@ -75,9 +76,9 @@ pub record MayGrow (form : ShiftForm) (file r : List ℕ) : Type 0 where
 pub may_grow_lem : (form : ShiftForm) (file r : List ℕ) → may_grow form file r ≡ true → MayGrow form file r
 unfolding may_grow is_record
 may_grow_lem form file r e =
-    let p = both (is_file form file) _ e in
-    let q = both (is_record form r) _ p.1 in
-    let t = both (record_stands form r) _ q.0 in
+    let p = and_parts (is_file form file) _ e in
+    let q = and_parts (is_record form r) _ p.1 in
+    let t = and_parts (record_stands form r) _ q.0 in
     record { is_file_lem = p.0; stands = t.0; whole = eqb-true _ _ t.1; few = ltb-true _ _ q.1 }
 
 module _ (form : ShiftForm) (file r : List ℕ) (bf : Bytes file) (br : Bytes r) (e : may_grow form file r ≡ true) where

@@ -16,7 +16,7 @@ use Rattle.shift_file.specs.declared.ShiftForm.{ShiftForm}
 use Rattle.shift_file.specs.File.{Allowed, header_size}
 use Rattle.shift_file.specs.Read.{luma_at, size_at, record_at, records_in}
 use Rattle.shift_file.specs.Check.{record_stands}
-use Rattle.shift_file.proofs.Record.{Stands, Stands-true}
+use Rattle.shift_file.proofs.Record.{Stands-true}
 use Rattle.shift_summary.specs.Summary.{mean_of, entry_of}
 use Rattle.shift_summary.proofs.Entries.{some_luma, most_luma}
 use Rattle.summary_update.specs.Update.{new_entry, updated}
@@ -38,12 +38,9 @@ length-updated form file added s =
 -- ---- the new record
 
 module _ (form : ShiftForm) (l : List ℕ) (h : record_stands form l ≡ true) where
-  pub stands : Stands form l
-  stands = Stands-true form l h
-
   pub luma_inside : header_size form + luma_at l ≤ length l
   unfolding size_at
-  luma_inside = omega (arith, stands.whole)
+  luma_inside = omega (arith, (Stands-true form l h).whole)
 
   pub luma_there : (n : ℕ) → n ≡ luma_at l → take n (drop (header_size form) l) ≡ (record_at form l).y
   unfolding record_at

@@ -2,6 +2,7 @@
 -- under each. docs/RULES.md, 10.8.
 -- Assumes nothing.
 use Rattle.std.specs.Prelude.{ℕ, ◌≡◌, List, [], ◌∷◌, length, get_or, Result}
+use Rattle.yuv_support.specs.Codes.{sampling_code}
 use Rattle.yuv_error.specs.declared.YuvError.{YuvError}
 use Rattle.yuv_error.specs.Numbers.{numbers_of}
 use Rattle.yuv_error.specs.Rules.{Rule}
@@ -35,7 +36,8 @@ rules_of_y4m_reading k = file_rules k.file
 
 -- RULES 10.8: what is told of a reading
 abbrev pub y4m_told : Y4mReading → List ℕ
-y4m_told reading = reading.width ∷ reading.height ∷ reading.sampling ∷ reading.count ∷ reading.told ∷ []
+y4m_told reading =
+    reading.header.width ∷ reading.header.height ∷ sampling_code reading.header.sampling ∷ reading.count ∷ reading.told ∷ []
 
 -- RULES 10.8: the promise of `read_pictures`; told are width, height, the sampling's code, the file's count and how many entries were written
 pub record Y4mReadingKept (k : ExportedY4mReading) : Type 0 where

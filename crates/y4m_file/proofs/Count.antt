@@ -8,8 +8,8 @@ use native.Mathlib.Omega.{arith}
 use lib.Dec.{leb, ltb}
 use lib.ListN.{length, drop, length-drop}
 use borrow.Author.Tests.{lt-ltb, ne_eqb, leb-true, leb-false, ltb-true, eqb-true}
+use Rattle.std.proofs.lemmas.Bool.{and_parts}
 use Rattle.y4m_file.specs.Check.{picture_stands, picture_size, pictures, count_in, count_of}
-use Rattle.shift_file.proofs.Record.{both}
 use Rattle.y4m_line.specs.Words.{upto}
 use Rattle.y4m_line.specs.Header.{line_end}
 use Rattle.y4m_file.proofs.Sizes.{Stands-true}
@@ -72,14 +72,14 @@ count_is n (suc m) zero [] e h = rw (none_there n)
 count_is n (suc m) zero (a ∷ l) e h = absurd (omega (arith, eqb-true (suc (length l)) 0 e))
 count_is n zero (suc k) l e h = absurd (omega arith)
 count_is n (suc m) (suc k) l e h =
-    let p = both (ltb 0 (picture_size n l)) _ e in
+    let p = and_parts (ltb 0 (picture_size n l)) _ e in
     rw p.0 (ap suc (count_is n m k (drop (picture_size n l) l) p.1 (omega arith)))
 
 pub few : (n k : ℕ) (l : List ℕ) → pictures n k l ≡ true → k ≤ length l
 unfolding pictures
 few n zero l e = omega arith
 few n (suc k) l e =
-    let p = both (ltb 0 (picture_size n l)) _ e in
+    let p = and_parts (ltb 0 (picture_size n l)) _ e in
     let s = Stands-true n l (ltb-true 0 (picture_size n l) p.0) in
     omega (arith, few n k (drop (picture_size n l) l) p.1, length-drop (picture_size n l) l, s.whole, s.size)
 

@@ -8,9 +8,9 @@ use native.Mathlib.Omega.{arith}
 use lib.Dec.{ltb, leb}
 use lib.ListN.{length, get_or}
 use borrow.Author.Tests.{lt-ltb, ltb-true, leb-true, le-leb}
+use Rattle.std.proofs.lemmas.Bool.{and_from, and_parts}
 use Rattle.yuv_support.specs.declared.YuvChromaSubsampling.{YuvChromaSubsampling}
 use Rattle.yuv_support.specs.declared.YuvChromaSubsampling.TheVariants.{Yuv420, Yuv422}
-use Rattle.shift_file.proofs.Record.{both, also}
 use Rattle.y4m_line.specs.Line.{magic, text_of, tagged, SaysSide, text420, text420jpeg, text420mpeg2, text422}
 use Rattle.y4m_line.specs.Words.{words, same}
 use Rattle.y4m_line.specs.Header.{tags_in, is_line, is_header, line_end, one_size, one_code, code, width_of, height_of, sampling_of, sampling_said}
@@ -139,16 +139,16 @@ module _ (f : Y4mFile) (a : Allowed f) where
   is_header_lem : is_header (header_of b) ≡ true
   unfolding is_header
   is_header_lem =
-      also (is_line magic (header_of b)) _ (ap (is_line magic) header ∙ text_line magic f.tags magic_tag a.line.each)
-      (also (leb 1 (width_in b)) _ (rw width_is (le-leb 1 f.width a.width.least))
-      (also (leb 1 (height_in b)) _ (rw height_is (le-leb 1 f.height a.height.least))
+      and_from (is_line magic (header_of b)) _ (ap (is_line magic) header ∙ text_line magic f.tags magic_tag a.line.each)
+      (and_from (leb 1 (width_in b)) _ (rw width_is (le-leb 1 f.width a.width.least))
+      (and_from (leb 1 (height_in b)) _ (rw height_is (le-leb 1 f.height a.height.least))
       (rw code_is (le-leb 1 (code_of f.sampling) (code_some f.sampling)))))
 
   pub file_checked : is_y4m (file_bytes f) ≡ true
   unfolding is_y4m b luma chroma
   file_checked =
-      also (ltb (line_end b) 256) _ (lt-ltb (line_end b) 256 short)
-      (also (is_header (header_of b)) _ is_header_lem
+      and_from (ltb (line_end b) 256) _ (lt-ltb (line_end b) 256 short)
+      (and_from (is_header (header_of b)) _ is_header_lem
       (rw (count_is, planes_are, rest) (pictures_are luma chroma f.pictures a.pictures).0))
 
   pub file_read : file_in (file_bytes f) ≡ f
@@ -172,20 +172,20 @@ module _ (b : List ℕ) (e : is_y4m b ≡ true) where
   checked : Checked
   unfolding is_y4m
   checked =
-      let p = both (ltb (line_end b) 256) _ e in
-      let q = both (is_header (header_of b)) _ p.1 in
+      let p = and_parts (ltb (line_end b) 256) _ e in
+      let q = and_parts (is_header (header_of b)) _ p.1 in
       record { short = ltb-true (line_end b) 256 p.0; header = q.0; pictures = q.1 }
 
 module _ (l : List ℕ) (e : is_header l ≡ true) where
   first : is_line magic l ≡ true
   unfolding is_header
-  first = (both (is_line magic l) _ e).0
+  first = (and_parts (is_line magic l) _ e).0
 
   sides : (1 ≤ width_of l) × ((1 ≤ height_of l) × (1 ≤ sampling_of l))
   unfolding is_header
   sides =
-      let p = both (leb 1 (width_of l)) _ (both (is_line magic l) _ e).1 in
-      let q = both (leb 1 (height_of l)) _ p.1 in
+      let p = and_parts (leb 1 (width_of l)) _ (and_parts (is_line magic l) _ e).1 in
+      let q = and_parts (leb 1 (height_of l)) _ p.1 in
       (leb-true 1 (width_of l) p.0, (leb-true 1 (height_of l) q.0, leb-true 1 (sampling_of l) q.1))
 
   width_tag : width_of l ≡ one_size (tagged 87 (tags_in l))

@@ -10,7 +10,7 @@ use lib.Dec.{ltb}
 use lib.ListN.{length, take, drop, length-append, length-drop, take-append-drop}
 use lib.Seq.{take-add, drop-drop, drop_at, take_at, length-take-le}
 use borrow.Author.Tests.{lt-ltb, ltb-true, eqb-true}
-use Rattle.shift_file.proofs.Record.{both, also}
+use Rattle.std.proofs.lemmas.Bool.{and_from, and_parts}
 use Rattle.y4m_line.specs.Line.{line_of, frame, text_of}
 use Rattle.y4m_line.specs.Header.{tags_in, is_line, line_end}
 use Rattle.y4m_line.proofs.Text.{frame_tag, tags_text, text_line, length_line, end_is, end_short, text_is, rest_is, front_line, front_split}
@@ -148,7 +148,7 @@ module _ (luma chroma : ℕ) where
       let ih = pictures_are ps e.1 in
       let size = size_there p e.0 (pictures_bytes ps) l refl in
       let next = next_there p e.0 (pictures_bytes ps) l refl in (
-        also (ltb 0 (picture_size sum l)) _ (lt-ltb 0 (picture_size sum l) (omega (arith, size))) (rw next ih.0),
+        and_from (ltb 0 (picture_size sum l)) _ (lt-ltb 0 (picture_size sum l) (omega (arith, size))) (rw next ih.0),
         ap₂ (λ q qs. q ∷ qs) (picture_is p e.0 (pictures_bytes ps) l refl) (rw next ih.1),
       )
 
@@ -161,7 +161,7 @@ module _ (luma chroma : ℕ) where
   unfolding pictures pictures_bytes pictures_from
   pictures_split zero l e = (tt, empty l (eqb-true (length l) 0 e))
   pictures_split (suc k) l e =
-      let p = both (ltb 0 (picture_size sum l)) _ e in
+      let p = and_parts (ltb 0 (picture_size sum l)) _ e in
       let s = Stands-true sum l (ltb-true 0 (picture_size sum l) p.0) in
       let ih = pictures_split k (drop (picture_size sum l) l) p.1 in
       ((picture_allowed l s, ih.0), rw ih.1 (picture_split l s))

@@ -7,8 +7,8 @@ use native.Mathlib.Omega.{arith}
 use lib.Dec.{ltb}
 use lib.ListN.{length, take}
 use borrow.Author.Tests.{lt-ltb, le-leb, ltb-true, leb-true}
+use Rattle.std.proofs.lemmas.Bool.{and_parts}
 use Rattle.y4m_line.specs.Header.{is_line, line_end}
-use Rattle.shift_file.proofs.Record.{both}
 use Rattle.y4m_line.specs.Line.{frame}
 use Rattle.y4m_file.specs.Check.{picture_stands, picture_size}
 
@@ -28,8 +28,8 @@ pub Stands-true : (n : ℕ) (l : List ℕ) → 0 < picture_size n l → Stands n
 unfolding picture_size picture_stands
 Stands-true n l h =
     let p = pick _ (line_end l + 1 + n) h in
-    let q = both (ltb (line_end l) 256) _ p.0 in
-    let r = both (is_line frame (take (line_end l) l)) _ q.1 in
+    let q = and_parts (ltb (line_end l) 256) _ p.0 in
+    let r = and_parts (is_line frame (take (line_end l) l)) _ q.1 in
     record {
       short = ltb-true (line_end l) 256 q.0;
       line = r.0;

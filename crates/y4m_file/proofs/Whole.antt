@@ -15,6 +15,7 @@ use Rattle.y4m_line.specs.declared.HeaderLine.{HeaderLine}
 use Rattle.y4m_line.proofs.Decimal.{one_bound}
 use Rattle.y4m_file.specs.Check.{plane_bytes, pictures, count_of, header_of, rest_of, planes_in, pictures_in, is_y4m}
 use Rattle.y4m_file.specs.Known.{IsRead}
+use Rattle.y4m_file.specs.declared.opened.Y4mRead.{Y4mRead}
 
 pub width_bound : (l : List ℕ) → width_of l ≤ 16384
 unfolding width_of
@@ -27,6 +28,10 @@ height_bound l = one_bound (tagged 72 (words l))
 -- what a header's line says
 pub said_sizes : (l : List ℕ) (h : HeaderLine) → SaysHeader l h → (h.width ≤ 16384) × (h.height ≤ 16384)
 said_sizes l h s = (rw s.width (width_bound l), rw s.height (height_bound l))
+
+-- the sides of a file that was opened
+pub read_sizes : (r : Y4mRead) → (r.header.width ≤ 16384) × (r.header.height ≤ 16384)
+read_sizes r = let k = r.is_read in (rw k.width (width_bound (header_of r.bytes.now)), rw k.height (height_bound (header_of r.bytes.now)))
 
 -- none is told of bytes that are no file
 pub not_some : {X : Type 0} (b : List ℕ) → is_y4m b ≡ false → (r : Option X) → r ≡ None → IsSome r ↔ (is_y4m b ≡ true)

@@ -13,8 +13,9 @@ pub struct Y4mRead<'a> {
 }
 
 impl<'a> Y4mRead<'a> {
-    ghost use Rattle.std.specs.Prelude.{◌≡◌, ◌↔◌, true, IfSome, IsSome};
+    ghost use Rattle.std.specs.Prelude.{◌≡◌, ◌≤◌, ◌^◌, ◌↔◌, true, IfSome, IsSome};
     ghost use Rattle.y4m_file.specs.Check.{is_y4m};
+    ghost use Rattle.y4m_file.specs.Read.{luma_in, chroma_in};
 
     // These bytes as a file; none where they are no file.
     pub fn open(bytes: &'a [u8]) -> Option<Y4mRead<'a>>
@@ -30,5 +31,20 @@ impl<'a> Y4mRead<'a> {
             header,
             count,
         })
+    }
+
+    // The bytes of the luma plane of each picture.
+    pub fn luma_size(&self) -> usize
+        ensures { (result ≡ luma_in self.now.bytes.now) × (result ≤ 2 ^ 32) }
+    {
+        shift_file::luma_size(self.header.width, self.header.height)
+    }
+
+    // The bytes of each of its chroma planes.
+    pub fn chroma_size(&self) -> usize
+        ensures { (result ≡ chroma_in self.now.bytes.now) × (result ≤ 2 ^ 32) }
+    {
+        let header = self.header;
+        shift_file::chroma_size(header.sampling, header.width, header.height)
     }
 }

@@ -8,10 +8,13 @@ use lib.Dec.{leb, eqb}
 use lib.ListN.{length, get_or, drop, drop_of_length-le}
 use lib.Seq.{drop-cons}
 use borrow.Author.Tests.{le-leb, lt-leb, leb-true, leb-false, eq-eqb, ne_eqb}
-use Rattle.std.specs.Prelude.{Some, None}
+use Rattle.std.proofs.lemmas.Bool.{and_parts}
+use Rattle.std.specs.Prelude.{Option, Some, None, SomeIff}
+use Rattle.std.specs.Char.{digit_value}
+use Rattle.std.specs.Option.{unwrap_or}
+use Rattle.std.proofs.lemmas.Bool.Decides.{nat_tests}
 use Rattle.std.proofs.lemmas.Option.{none-some, same_Some}
 use Rattle.yuv_support.specs.declared.YuvChromaSubsampling.{YuvChromaSubsampling}
-use Rattle.shift_file.proofs.Record.{both}
 use Rattle.y4m_line.specs.Line.{digit, digits, value}
 use Rattle.y4m_line.specs.Header.{is_size, size, one_size, sampling_said}
 use Rattle.y4m_line.specs.Found.{side_told, sampling_told}
@@ -27,6 +30,12 @@ digit_high d h = rw (le-leb 48 d (omega arith), lt-leb d 57 h)
 pub digit_is : (d : ℕ) → 48 ≤ d → d ≤ 57 → digit d ≡ d - 48
 unfolding digit
 digit_is d h k = rw (le-leb 48 d h, le-leb d 57 k)
+
+-- what `to_digit` of radix 10 answers
+pub digit_told : (d : ℕ) (r : Option ℕ) → SomeIff r (digit_value d < 10) (digit_value d) → unwrap_or r 10 ≡ digit d
+unfolding digit
+digit_told d None none = grind (arith, nat_tests)
+digit_told d (Some x) some = let is : x ≡ digit_value d = some.1 in let low : digit_value d < 10 = some.0 in grind (arith, nat_tests)
 
 module _ (t : List ℕ) (i : ℕ) (h : i < length t) where
   pub digits_bad : 9 < digit (get_or t i 0) → digits (drop i t) ≡ false
@@ -100,7 +109,7 @@ pub value_some : (t : List ℕ) → 0 < length t → (get_or t 0 0 ≡ 48 → �
 unfolding digits value
 value_some [] h n e = absurd (omega arith)
 value_some (a ∷ t) h n e =
-    let one = digit_some a n (leb-true (digit a) 9 (both (leb (digit a) 9) (digits t) e).0) in
+    let one = digit_some a n (leb-true (digit a) 9 (and_parts (leb (digit a) 9) (digits t) e).0) in
     omega (arith, value_grows (0 * 10 + digit a) t)
 
 pub size_ok : (t : List ℕ) → 0 < length t → (get_or t 0 0 ≡ 48 → ⊥) → digits t ≡ true → value 0 t ≤ 16384 → size t ≡ value 0 t

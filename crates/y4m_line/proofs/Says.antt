@@ -7,7 +7,7 @@ use native.Mathlib.Omega.{arith}
 use lib.Dec.{leb, eqb}
 use lib.ListN.{get_or}
 use borrow.Author.Tests.{le-leb, leb-true, ne_eqb, eqb-false, not-true}
-use Rattle.shift_file.proofs.Record.{both}
+use Rattle.std.proofs.lemmas.Bool.{and_parts}
 use Rattle.y4m_line.specs.Line.{tagged, digits, value, IsDecimal, SaysSide}
 use Rattle.y4m_line.specs.Header.{is_size, size, one_size}
 
@@ -27,8 +27,8 @@ module _ (t : List ℕ) (h : 1 ≤ size t) where
   unfolding is_size
   text_says =
       let i = is_size_lem (is_size t) refl in
-      let p = both (not (eqb (get_or t 0 48) 48)) (digits t && leb (value 0 t) 16384) i.0 in
-      let q = both (digits t) (leb (value 0 t) 16384) p.1 in (
+      let p = and_parts (not (eqb (get_or t 0 48) 48)) (digits t && leb (value 0 t) 16384) i.0 in
+      let q = and_parts (digits t) (leb (value 0 t) 16384) p.1 in (
         record {
           all = q.0;
           worth = sym i.1;

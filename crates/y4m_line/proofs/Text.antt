@@ -10,7 +10,7 @@ use lib.Dec.{ltb, eqb}
 use lib.ListN.{length, get_or, take, drop, length-append, length-take}
 use lib.Seq.{take-append-add, take_at, drop-append-add}
 use borrow.Author.Tests.{lt-ltb, ltb-true, ne_eqb, eq-eqb, eqb-true, eqb-false, not-true}
-use Rattle.shift_file.proofs.Record.{both, also}
+use Rattle.std.proofs.lemmas.Bool.{and_from, and_parts}
 use Rattle.y4m_line.specs.Line.{Without, IsTag, EachTag, tag_bytes, text_of, line_of, IsLineOf, magic, frame}
 use Rattle.y4m_line.specs.Words.{upto, onto, words, filled, same}
 use Rattle.y4m_line.specs.Header.{tags_in, is_line, line_bytes, line_end}
@@ -33,7 +33,7 @@ clear x (a ∷ l) = not (eqb a x) && clear x l
 
 pub clear-Without : (x : ℕ) (l : List ℕ) → clear x l ≡ true → Without x l
 clear-Without x [] e = tt
-clear-Without x (a ∷ l) e = let q = both (not (eqb a x)) (clear x l) e in (eqb-false a x (not-true (eqb a x) q.0), clear-Without x l q.1)
+clear-Without x (a ∷ l) e = let q = and_parts (not (eqb a x)) (clear x l) e in (eqb-false a x (not-true (eqb a x) q.0), clear-Without x l q.1)
 
 pub magic_tag : IsTag magic
 magic_tag = record { some = omega arith; no_space = clear-Without 32 magic refl; no_newline = clear-Without 10 magic refl }
@@ -70,19 +70,19 @@ Without-text word tags h k = Without-append 10 word (tag_bytes tags) h (Without-
 filled_tags : (tags : List (List ℕ)) → EachTag tags → filled tags ≡ true
 unfolding filled
 filled_tags [] k = refl
-filled_tags (t ∷ ts) k = also (ltb 0 (length t)) (filled ts) (lt-ltb 0 (length t) k.0.some) (filled_tags ts k.1)
+filled_tags (t ∷ ts) k = and_from (ltb 0 (length t)) (filled ts) (lt-ltb 0 (length t) k.0.some) (filled_tags ts k.1)
 
 pub same_self : (a : List ℕ) → same a a ≡ true
 unfolding same
 same_self [] = refl
-same_self (x ∷ a) = also (eqb x x) (same a a) (eq-eqb x x refl) (same_self a)
+same_self (x ∷ a) = and_from (eqb x x) (same a a) (eq-eqb x x refl) (same_self a)
 
 pub same_true : (a b : List ℕ) → same a b ≡ true → a ≡ b
 unfolding same
 same_true [] [] h = refl
 same_true [] (y ∷ b) h = absurd (true≢false (sym h))
 same_true (x ∷ a) [] h = absurd (true≢false (sym h))
-same_true (x ∷ a) (y ∷ b) h = let p = both (eqb x y) (same a b) h in ap₂ (λ z r. z ∷ r) (eqb-true x y p.0) (same_true a b p.1)
+same_true (x ∷ a) (y ∷ b) h = let p = and_parts (eqb x y) (same a b) h in ap₂ (λ z r. z ∷ r) (eqb-true x y p.0) (same_true a b p.1)
 
 -- the first word is the text up to the first space
 first_word : (l : List ℕ) → take (upto 32 l) l ≡ get_or (words l) 0 []
@@ -193,7 +193,7 @@ Each-tag : (ws : List (List ℕ)) → filled ws ≡ true → Each 32 ws → Each
 unfolding filled
 Each-tag [] f s n = tt
 Each-tag (w ∷ ws) f s n =
-    let p = both (ltb 0 (length w)) (filled ws) f in
+    let p = and_parts (ltb 0 (length w)) (filled ws) f in
     (record { some = ltb-true 0 (length w) p.0; no_space = s.0; no_newline = n.0 }, Each-tag ws p.1 s.1 n.1)
 
 tags_from : (ws : List (List ℕ)) (w : List ℕ) (vs : List (List ℕ)) → ws ≡ w ∷ vs → EachTag ws → EachTag vs
@@ -209,7 +209,7 @@ module _ (word l : List ℕ) (is : is_line word l ≡ true) where
   pub words_are : words l ≡ word ∷ tags_in l
   unfolding is_line
   words_are =
-      let p = both (same (take (upto 32 l) l) word) (filled (words l)) is in
+      let p = and_parts (same (take (upto 32 l) l) word) (filled (words l)) is in
       first_others (words l) (words_some l) ∙ ap (λ w. w ∷ tags_in l) (sym (first_word l) ∙ same_true (take (upto 32 l) l) word p.0)
 
   pub text_same : text_of word (tags_in l) ≡ l
@@ -218,7 +218,7 @@ module _ (word l : List ℕ) (is : is_line word l ≡ true) where
   tags_each : Without 10 l → EachTag (tags_in l)
   unfolding is_line
   tags_each n =
-      let p = both (same (take (upto 32 l) l) word) (filled (words l)) is in
+      let p = and_parts (same (take (upto 32 l) l) word) (filled (words l)) is in
       tags_from (words l) word (tags_in l) words_are (Each-tag (words l) p.1 (words_spaces l) (words_lines l n))
 
   pub is_line_of : Without 10 l → length l ≤ 255 → IsLineOf word (tags_in l)

@@ -17,7 +17,8 @@ pub const LINE: usize = 256;
 // The most that a side may be.
 const MOST_SIDE: usize = 16384;
 
-// The tags that begin with a letter: none, one, by its text after the letter, or more.
+// The tags that begin with a letter: none, one, by its text after the letter, or more. Three states of their own, since no `None` or `Err` fits two of them:
+// no tag of C means 4:2:0 and two are refused, while for W and H both are refused.
 #[derive(Clone, Copy, Debug, PartialEq, Eq)]
 enum Tag<'a> {
     Missing,
@@ -25,7 +26,9 @@ enum Tag<'a> {
     Repeated,
 }
 
-// What a header's line says. `FrameSize` of `record_difference` has the same fields in 16 bits: a record's sides, which are never of a line.
+// What a header's line says. `FrameSize` of `record_difference` has the same three fields, but its sides have 16 bits: a record's sides have as many in its
+// file, and a difference between sizes is told of two of them. A line's sides are read from decimals and are lengths of buffers, so they are `usize`.
+// No value is both.
 #[derive(Clone, Copy, Debug, PartialEq, Eq)]
 pub struct HeaderLine {
     pub width: usize,
@@ -77,17 +80,15 @@ fn find_tag(line: &[u8], letter: u8) -> Tag<'_>
 // ---- sides
 
 // What a byte says as a digit.
-fn digit(byte: u8) -> Option<usize>
+fn digit(byte: u8) -> Option<u32>
     ensures value { unwrap_or result 10 ≡ digit byte }
     ensures upper_bound { IfSome result (λ value. value ≤ 9) }
 {
-    match byte {
-        b'0'..=b'9' => Some(usize::from(byte - b'0')),
-        _ => None,
-    }
+    (byte as char).to_digit(10)
 }
 
-// The side that a text says, 1 to 16,384.
+// The side that a text says, 1 to 16,384. `str::parse` also takes a sign and leading zeros, and wants text of UTF-8: the tests before and after it would be
+// no shorter than this loop.
 #[tactic(auto, using(crate::proofs::Decimal::size_empty, crate::proofs::Decimal::size_zero))]
 fn size_text(text: &[u8]) -> Option<usize>
     ensures { result ≡ side_told (size text.now) }
@@ -97,7 +98,7 @@ fn size_text(text: &[u8]) -> Option<usize>
     }
     let mut side = 0;
     for &byte in text {
-        side = side * 10 + digit(byte)?;
+        side = side * 10 + digit(byte)? as usize;
         if MOST_SIDE < side {
             return None;
         }

@@ -1,3 +1,4 @@
 -- The laws.
 pub mod Made
 pub mod Append
+pub mod Checked

@@ -8,11 +8,11 @@ use lib.Dec.{leb}
 use lib.ListN.{length, length-append}
 use lib.Seq.{sets}
 use borrow.Author.Tests.{leb-true, eqb-true}
+use Rattle.std.proofs.lemmas.Bool.{and_parts}
 use Rattle.yuv_support.specs.Sampling.{chroma_width}
 use Rattle.shift_writer.proofs.Pairs.{sets_four}
 use Rattle.shift_record.specs.Record.{unpadded}
 use Rattle.shift_record.proofs.Rows.{length-unpadded}
-use Rattle.shift_file.proofs.Record.{both}
 use Rattle.y4m_line.specs.Line.{line_of, text_of, tag_bytes, frame}
 use Rattle.y4m_file.specs.File.{picture_bytes}
 use Rattle.y4m_file.specs.Check.{plane_bytes}
@@ -32,14 +32,14 @@ is_frame f e =
     record { width_least = s.wide.0; width_most = s.wide.1; height_least = s.high.0; height_most = s.high.1 }
 
 plane : (row rows stride len : ℕ) → is_plane row rows stride len ≡ true → (row ≤ stride) × (len ≡ stride * rows)
-plane row rows stride len e = let p = both (leb row stride) _ e in (leb-true row stride p.0, eqb-true len (stride * rows) p.1)
+plane row rows stride len e = let p = and_parts (leb row stride) _ e in (leb-true row stride p.0, eqb-true len (stride * rows) p.1)
 
 pub planes_Fit : (f : PictureFrame) (y u v : ℕ) → picture_allowed f y u v ≡ true → PlanesFit f y u v
 unfolding picture_allowed planes_allowed
 planes_Fit f y u v e =
-    let s = both (is_shape f.sampling f.width f.height) _ e in
-    let p = both (is_plane f.width f.height f.y_stride y) _ s.1 in
-    let q = both (is_plane (chroma_width f.width) (chroma_rows f) f.u_stride u) _ p.1 in
+    let s = and_parts (is_shape f.sampling f.width f.height) _ e in
+    let p = and_parts (is_plane f.width f.height f.y_stride y) _ s.1 in
+    let q = and_parts (is_plane (chroma_width f.width) (chroma_rows f) f.u_stride u) _ p.1 in
     let a = plane f.width f.height f.y_stride y p.0 in
     let b = plane (chroma_width f.width) (chroma_rows f) f.u_stride u q.0 in
     let c = plane (chroma_width f.width) (chroma_rows f) f.v_stride v q.1 in

@@ -4,13 +4,14 @@
 
 mod planes; // planes that were checked
 
-ghost use Rattle.std.specs.Prelude.{◌≡◌, ◌≤◌};
+ghost use Rattle.std.specs.Prelude.{◌≡◌};
 ghost use Rattle.y4m_writer.specs.Pictures.{sampling_of};
-ghost use Rattle.y4m_picture.specs.Picture.{is_plane, planes_allowed, picture_allowed, PicturePost};
+ghost use Rattle.y4m_picture.specs.Picture.{planes_allowed, picture_allowed, PicturePost};
 ghost use Rattle.y4m_picture.specs.Known.{IsFrame};
 
 use planes::PicturePlanes;
 use shift_writer::NotWritten;
+use yuv_error::LentBuffer;
 use yuv_support::YuvChromaSubsampling;
 
 // The bytes of the line FRAME, its newline counted.
@@ -28,14 +29,6 @@ pub struct PictureFrame {
     pub v_stride: u32,
 }
 
-// Whether so many bytes are so many rows, whole, the last one's padding too.
-fn is_plane(row: usize, rows: usize, stride: u32, len: usize) -> bool
-    requires { rows ≤ 16384 }
-    ensures { result ≡ is_plane row rows stride len }
-{
-    row <= stride as usize && len == stride as usize * rows
-}
-
 impl PictureFrame {
     fn sampling(self) -> YuvChromaSubsampling
         ensures { result ≡ sampling_of self.sampling }
@@ -43,18 +36,32 @@ impl PictureFrame {
         setting_codes::sampling_of(self.sampling)
     }
 
-    #[tactic(auto, unfolding(crate::specs::Picture::planes_allowed))]
+    // Whether planes of these lengths are so many rows, whole, the last one's padding too: none of refusals 8 to 12 is due.
     fn are_planes(self, y: usize, u: usize, v: usize) -> bool
         requires { IsFrame self }
         ensures { result ≡ planes_allowed self y u v }
     {
-        let width = self.width as usize;
-        let height = self.height as usize;
-        let chroma_width = yuv_support::chroma_width(width);
-        let chroma_height = self.sampling().chroma_height(height);
-        is_plane(width, height, self.y_stride, y)
-            && is_plane(chroma_width, chroma_height, self.u_stride, u)
-            && is_plane(chroma_width, chroma_height, self.v_stride, v)
+        let chroma_width = yuv_support::chroma_width(self.width as usize) as u32;
+        let chroma_height = self.sampling().chroma_height(self.height as usize) as u32;
+        let y = LentBuffer {
+            row: self.width,
+            rows: self.height,
+            stride: self.y_stride,
+            len: y,
+        };
+        let u = LentBuffer {
+            row: chroma_width,
+            rows: chroma_height,
+            stride: self.u_stride,
+            len: u,
+        };
+        let v = LentBuffer {
+            row: chroma_width,
+            rows: chroma_height,
+            stride: self.v_stride,
+            len: v,
+        };
+        yuv_error::check_planes(y, u, v).is_ok()
     }
 
     // Whether planes of these lengths are a picture.

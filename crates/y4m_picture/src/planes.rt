@@ -1,6 +1,7 @@
-// The planes of a picture that were checked, and the picture that is made of them (RULES 14.7). `FramePlanes` of `shift_record` is made of another frame
-// by other checks; what is alike, the rows of a plane, is `PaddedRows`. One function that makes the three rows of both would take sides, sampling, strides
-// and planes one by one, and ask in its clauses what each of the two types carries, which is no plainer.
+// The planes of a picture that were checked, and the picture that is made of them (RULES 14.7). `FramePlanes` of `shift_record` is made of another frame,
+// and says which of refusals 8 to 12 is due where this one answers 19. What is alike is the check of planes, and of the rows of a plane `PaddedRows`. One
+// function that makes the three rows of both would take sides, sampling, strides and planes one by one, and ask in its clauses what each of the two types
+// carries, which is no plainer.
 ghost use Rattle.std.specs.Prelude.{◌≡◌, true, length};
 ghost use Rattle.y4m_picture.specs.Picture.{picture_allowed};
 
@@ -24,7 +25,8 @@ impl<'a> PicturePlanes<'a> {
     ghost use Rattle.y4m_file.specs.File.{picture_bytes};
     ghost use Rattle.y4m_picture.specs.Picture.{picture_made, picture_allowed};
 
-    // This frame with these planes; or 19 where a side, the code or a plane is not allowed.
+    // This frame with these planes, which C lends as three slices: here they become one thing.
+    // Or 19 where a side, the code or a plane is not allowed.
     pub fn open(
         frame: PictureFrame,
         y: &'a [u8],

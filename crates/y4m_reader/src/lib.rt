@@ -11,17 +11,16 @@ ghost use Rattle.y4m_reader.specs.Known.{SizesAre, Stood};
 ghost use Rattle.y4m_reader.specs.Reading.{ReadPost};
 
 use y4m_file::Y4mRead;
+use y4m_line::HeaderLine;
 use yuv_error::YuvError;
 
 // The numbers of an entry.
 const ENTRY: usize = 6;
 
-// What was read: the file's sides, its sampling by its code, its pictures, and how many of them were told.
+// What was read: what the file's header says, how many pictures it has, and how many of them were told.
 #[derive(Clone, Copy, Debug, PartialEq, Eq)]
 pub struct Y4mReading {
-    pub width: usize,
-    pub height: usize,
-    pub sampling: u32,
+    pub header: HeaderLine,
     pub count: usize,
     pub told: usize,
 }
@@ -34,7 +33,7 @@ pub struct PictureParts<'a> {
     pub v: &'a [u8],
 }
 
-// The bytes of Y, and of U or V. `frame_request` has the same of the planes that it makes: another thing, of which no entry is told.
+// The bytes of Y, and of U or V.
 #[derive(Clone, Copy, Debug, PartialEq, Eq)]
 struct PlaneSizes {
     luma: usize,
@@ -47,10 +46,9 @@ struct PlaneSizes {
 fn plane_sizes(file: &Y4mRead) -> PlaneSizes
     ensures { SizesAre file.now.bytes.now result }
 {
-    let header = file.header;
     PlaneSizes {
-        luma: shift_file::luma_size(header.width, header.height),
-        chroma: shift_file::chroma_size(header.sampling, header.width, header.height),
+        luma: file.luma_size(),
+        chroma: file.chroma_size(),
     }
 }
 
@@ -71,6 +69,7 @@ fn place_of(file: &Y4mRead, k: usize) -> usize
 {
     let sizes = plane_sizes(file);
     let mut at = past_line(file.bytes, 0);
+    // A sum, and no multiple of k: each line FRAME has tags and a length of its own.
     for _ in 0..k {
         at = past_line(file.bytes, at) + sizes.luma + 2 * sizes.chroma;
     }
@@ -120,6 +119,7 @@ fn tell_entries(file: &Y4mRead, first: usize, count: usize, entries: &mut [u64])
 {
     let sizes = plane_sizes(file);
     let mut at = place_of(file, first);
+    // The place is carried on from picture to picture, as in `place_of`.
     for i in 0..count {
         let y = past_line(file.bytes, at);
         little_endian::put(entries, ENTRY * i, &sizes.numbers(y));
@@ -137,9 +137,7 @@ pub fn read_pictures(file: &[u8], first: usize, entries: &mut [u64]) -> Result<Y
     let told = (read.count - from).min(entries.len() / ENTRY);
     tell_entries(&read, from, told, entries);
     Ok(Y4mReading {
-        width: read.header.width,
-        height: read.header.height,
-        sampling: read.header.sampling.into(),
+        header: read.header,
         count: read.count,
         told,
     })

@@ -7,10 +7,11 @@ use native.Mathlib.Omega.{arith}
 use lib.Dec.{ltb}
 use lib.ListN.{length, length-append}
 use borrow.Author.Tests.{ltb-true, eqb-true}
+use Rattle.std.proofs.lemmas.Bool.{and_parts}
 use Rattle.yuv_support.specs.declared.YuvChromaSubsampling.{YuvChromaSubsampling}
 use Rattle.yuv_support.specs.declared.YuvChromaSubsampling.TheVariants.{Yuv420, Yuv422}
 use Rattle.shift_file.specs.File.{is_side}
-use Rattle.shift_file.proofs.Record.{both, side_bounds}
+use Rattle.shift_file.proofs.Record.{side_bounds}
 use Rattle.y4m_line.specs.Line.{IsTag, IsLineOf, line_of, magic, tagged, SaysSide}
 use Rattle.y4m_line.proofs.Text.{clear, clear-Without}
 use Rattle.y4m_file.specs.File.{SaysSampling, file_bytes, luma_bytes, chroma_bytes}
@@ -89,8 +90,8 @@ pub record Shape (code w h : ℕ) : Type 0 where
 pub shape : (code w h : ℕ) → is_shape code w h ≡ true → Shape code w h
 unfolding is_shape
 shape code w h e =
-    let p = both (ltb code 2) _ e in
-    let q = both (is_side w) _ p.1 in
+    let p = and_parts (ltb code 2) _ e in
+    let q = and_parts (is_side w) _ p.1 in
     record { code_is = ltb-true code 2 p.0; wide = side_bounds w q.0; high = side_bounds h q.1 }
 
 pub record Written (code w h : ℕ) (b : List ℕ) : Type 0 where
@@ -102,7 +103,7 @@ pub record Written (code w h : ℕ) (b : List ℕ) : Type 0 where
 pub written : (code w h : ℕ) (b : List ℕ) → can_write code w h (length b) ≡ true → Written code w h b
 unfolding can_write
 written code w h b e =
-    let p = both (is_shape code w h) _ e in
+    let p = and_parts (is_shape code w h) _ e in
     let s = shape code w h p.0 in
     let n = plane_bytes (sampling_of code) w h in
     record { code_is = s.code_is; wide = s.wide; high = s.high; exact = Exact-whole n b (eqb-true (length b % n) 0 p.1) }

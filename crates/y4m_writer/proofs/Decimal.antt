@@ -5,10 +5,12 @@ use mathlib.Core.Path.{◌≡◌, refl, sym, ◌∙◌}
 use mathlib.Core.Bool.{Bool, true, false, cond}
 use mathlib.Core.List.{List, [], ◌∷◌, ◌++◌}
 use native.Mathlib.Omega.{arith}
-use lib.Dec.{leb, ltb}
+use lib.Dec.{leb, ltb, lit≤}
 use lib.ListN.{length, get_or, length-append}
-use borrow.Author.Tests.{lt-ltb, le-leb, ltb-true, ltb-false}
-use Rattle.shift_file.proofs.Record.{both}
+use borrow.Author.Tests.{lt-ltb, le-ltb, le-leb}
+use Rattle.std.specs.Prelude.{decimal as printed}
+use Rattle.std.proofs.lemmas.Bool.{and_parts}
+use Rattle.std.proofs.lemmas.Fmt.{decimal_from_appends, decimal_by_steps, length-decimal-le}
 use Rattle.y4m_line.specs.Line.{Without, digit, digits, value}
 use Rattle.y4m_line.proofs.Decimal.{digit_is}
 use Rattle.y4m_line.proofs.Text.{Without-append}
@@ -25,7 +27,7 @@ value-append v d (x ∷ a) = value-append (v * 10 + digit x) d a
 digits_append : (d : ℕ) (a : List ℕ) → digits a ≡ true → digit d ≤ 9 → digits (a ++ (d ∷ [])) ≡ true
 unfolding digits
 digits_append d [] h k = rw (le-leb (digit d) 9 k)
-digits_append d (x ∷ a) h k = let q = both (leb (digit x) 9) (digits a) h in rw q.0 (digits_append d a q.1 k)
+digits_append d (x ∷ a) h k = let q = and_parts (leb (digit x) 9) (digits a) h in rw q.0 (digits_append d a q.1 k)
 
 get_d_front : (d : ℕ) (a : List ℕ) → 0 < length a → get_or (a ++ (d ∷ [])) 0 48 ≡ get_or a 0 48
 get_d_front d [] h = absurd (omega arith)
@@ -60,25 +62,23 @@ more_digit v t h d =
       bytes = λ x k. Without-append x t _ (d.bytes x k) ((λ z. omega arith), tt);
     }
 
-module _ (f b : ℕ) (ih : (u : ℕ) → u < b → Decimal u (decimal f u)) where
-  step_case : (v : ℕ) → v < b * 10 → (t : Bool) → ltb v 10 ≡ t → Decimal v (decimal (suc f) v)
-  unfolding decimal
-  step_case v h true e = rw e (one_digit v (ltb-true v 10 e))
-  step_case v h false e = rw e (more_digit v (decimal f (v / 10)) (ltb-false v 10 e) (ih (v / 10) (omega arith)))
+-- ---- a side's five digits are those that std prints
 
-  step : (v : ℕ) → v < b * 10 → Decimal v (decimal (suc f) v)
-  step v h = step_case v h (ltb v 10) refl
-
-decimal_1 : (v : ℕ) → v < 10 → Decimal v (decimal 1 v)
+decimal_last : (f v : ℕ) → v < 10 → decimal (suc f) v ≡ (48 + v) ∷ []
 unfolding decimal
-decimal_1 v h = rw (lt-ltb v 10 h) (one_digit v h)
+decimal_last f v h = rw (lt-ltb v 10 h)
+
+decimal_more : (f v : ℕ) → 10 ≤ v → decimal (suc f) v ≡ decimal f (v / 10) ++ ((48 + v % 10) ∷ [])
+unfolding decimal
+decimal_more f v h = rw (le-ltb v 10 h)
+
+pub decimal_printed : (v : ℕ) → v < 100000 → printed v ≡ decimal 5 v
+decimal_printed v h =
+    sym (decimal_from_appends decimal (record { one = decimal_last; more = decimal_more }) 5 v (omega arith)
+    (length-decimal-le 5 v (lit≤ tt) h (omega arith)))
 
 pub decimal_5 : (v : ℕ) → v < 100000 → Decimal v (decimal 5 v)
-decimal_5 v h =
-    let two : (u : ℕ) → u < 100 → Decimal u (decimal 2 u) = λ u k. step 1 10 decimal_1 u (omega arith) in
-    let three : (u : ℕ) → u < 1000 → Decimal u (decimal 3 u) = λ u k. step 2 100 two u (omega arith) in
-    let four : (u : ℕ) → u < 10000 → Decimal u (decimal 4 u) = λ u k. step 3 1000 three u (omega arith) in
-    step 4 10000 four v (omega arith)
+decimal_5 v h = rw (← decimal_printed v h) (decimal_by_steps Decimal one_digit (λ n ds k d. more_digit n ds k d) v (omega arith))
 
 length_case : (f v : ℕ) (t : Bool) → length (decimal f (v / 10)) ≤ f
     → length (cond t ((48 + v) ∷ []) (decimal f (v / 10) ++ ((48 + v % 10) ∷ []))) ≤ suc f

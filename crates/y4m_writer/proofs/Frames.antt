@@ -1,11 +1,11 @@
 -- Planes that are whole pictures, and the pictures put. Assumes nothing.
-use Prim.Native.Nat.{ℕ, zero, suc, ◌+◌, ◌*◌, ◌-◌, ◌/◌, ◌%◌, ◌≤◌, ◌<◌}
-use mathlib.Core.Path.{◌≡◌, refl, sym, ◌∙◌}
+use Prim.Native.Nat.{ℕ, zero, suc, ◌+◌, ◌*◌, ◌/◌, ◌%◌, ◌≤◌, ◌<◌}
+use mathlib.Core.Path.{◌≡◌, refl, sym, ap, ◌∙◌}
 use mathlib.Core.List.{List, [], ◌∷◌, ◌++◌, append_assoc}
-use native.Mathlib.Nat.{mul-zero, mul-suc, add-zero, div-add-mod}
+use native.Mathlib.Nat.{mul-zero, mul-suc, add-zero, div-add-mod, add-div_left, div-eq_of_lt}
 use native.Mathlib.Omega.{arith}
 use lib.ListN.{length, take, drop, length-append, length-drop, take-append-drop}
-use lib.Seq.{sets, length-take-le, drop-drop}
+use lib.Seq.{sets, length-take-le, take_at, drop_at}
 use Rattle.little_endian.proofs.Stores.{sets-append}
 use Rattle.y4m_line.specs.Line.{line_of, text_of, tag_bytes, frame, IsLineOf}
 use Rattle.y4m_file.specs.File.{EachAllowed, picture_bytes, pictures_bytes}
@@ -27,11 +27,6 @@ Exact-of n (suc k) b e =
 pub Exact-whole : (n : ℕ) (b : List ℕ) → length b % n ≡ 0 → Exact n (length b / n) b
 Exact-whole n b z = Exact-of n (length b / n) b (sym (div-add-mod (length b) n) ∙ rw (z, add-zero))
 
--- where there is one more
-pub Exact-some : (n k : ℕ) (b : List ℕ) → 0 < k → Exact n k b → (n ≤ length b) × Exact n (k - 1) (drop n b)
-Exact-some n zero b h e = absurd (omega arith)
-Exact-some n (suc k) b h e = let one : suc k - 1 ≡ k = omega arith in rw one e
-
 pub length_frames : (n k : ℕ) (b : List ℕ) → Exact n k b → length (frames_of n k b) ≡ 6 * k + length b
 unfolding frames_of line_of text_of tag_bytes
 length_frames n zero b e = omega (arith, e)
@@ -47,56 +42,38 @@ length_frames n (suc k) b e =
 
 -- ---- put one after the other
 
-module _ (n from : ℕ) (b d : List ℕ) (at : ℕ) where
-  more_case : (k : ℕ) → n ≤ length (drop from b)
-      → sets (sets (sets d at (line_of frame [])) (at + 6) (take n (drop from b))) (at + (6 + n)) (frames_of n k (drop (from + n) b))
-      ≡ sets d at (frames_of n (suc k) (drop from b))
-  unfolding frames_of line_of text_of tag_bytes
-  more_case k h =
-      let this = take n (drop from b) in
-      let rest = frames_of n k (drop (from + n) b) in
+-- what is left of the pictures, by the bytes that are left
+abbrev pub frames_left : (n : ℕ) → (rest : List ℕ) → List ℕ
+frames_left n rest = frames_of n (length rest / n) rest
+
+-- a picture's planes, and the bytes after them
+module _ (n : ℕ) (some : 0 < n) (x after rest : List ℕ) (is : rest ≡ x ++ after) (long : length x ≡ n) where
+  frames_next : frames_left n rest ≡ line_of frame [] ++ (x ++ frames_left n after)
+  unfolding frames_of
+  frames_next =
+      let size : length (x ++ after) ≡ n + length after = omega (arith, length-append x after, long) in
+      let more : length (x ++ after) / n ≡ suc (length after / n) = ap (λ (m : ℕ). m / n) size ∙ add-div_left (length after) some ∙ omega arith in
+      let one : line_of frame [] ++ (take n (x ++ after) ++ frames_of n (length after / n) (drop n (x ++ after))) ≡ line_of frame [] ++ (x ++ frames_left n after)
+      = rw (take_at x after n long, drop_at x after n long) in
+      ap (frames_left n) is ∙ ap (λ (k : ℕ). frames_of n k (x ++ after)) more ∙ one
+
+  pub length_next : length (frames_left n rest) ≡ 6 + n + length (frames_left n after)
+  unfolding line_of text_of tag_bytes
+  length_next = ap length frames_next ∙ omega (arith, length-append x (frames_left n after), long)
+
+  pub put_next : (d : List ℕ) (at : ℕ)
+      → sets (sets (sets d at (line_of frame [])) (at + 6) x) (at + (6 + n)) (frames_left n after) ≡ sets d at (frames_left n rest)
+  unfolding line_of text_of tag_bytes
+  put_next d at =
       let line = line_of frame [] in
-      let long : length this ≡ n = length-take-le n (drop from b) h in
-      let past : at + 6 + length this ≡ at + (6 + n) = omega arith in
-      rw (drop-drop n from b)
-      (sym (sets-append line (this ++ rest) d at ∙ sets-append this rest (sets d at line) (at + 6) ∙ rw past))
+      let left = frames_left n after in
+      let past : at + 6 + length x ≡ at + (6 + n) = omega (arith, long) in
+      sym (ap (sets d at) frames_next ∙ sets-append line (x ++ left) d at ∙ sets-append x left (sets d at line) (at + 6) ∙ rw past)
 
-  pub frames_more : (k : ℕ) → 0 < k → n ≤ length (drop from b)
-      → sets (sets (sets d at (line_of frame [])) (at + 6) (take n (drop from b))) (at + (6 + n)) (frames_of n (k - 1) (drop (from + n) b))
-      ≡ sets d at (frames_of n k (drop from b))
-  frames_more zero h i = absurd (omega arith)
-  frames_more (suc k) h i = let one : suc k - 1 ≡ k = omega arith in rw one (more_case k i)
-
--- what is left after one picture
-pub record Left (n k from : ℕ) (b : List ℕ) : Type 0 where
-  pub inside : from + n ≤ length b
-  pub exact : Exact n (k - 1) (drop (from + n) b)
-  pub room : length (frames_of n k (drop from b)) ≡ 6 + n + length (frames_of n (k - 1) (drop (from + n) b))
-  pub whole : n ≤ length (drop from b)
-
-pub left_after : (n k from : ℕ) (b : List ℕ) → 0 < k → from ≤ length b → Exact n k (drop from b) → Left n k from b
-left_after n k from b h i e =
-    let p = Exact-some n k (drop from b) h e in
-    let next : Exact n (k - 1) (drop (from + n) b) = rw (← drop-drop n from b) p.1 in
-    record {
-      inside = omega (arith, p.0, length-drop from b);
-      exact = next;
-      room =
-          omega (
-            arith,
-            length_frames n k (drop from b) e,
-            length_frames n (k - 1) (drop (from + n) b) next,
-            length-drop from b,
-            length-drop (from + n) b,
-            p.0,
-          );
-      whole = p.0;
-    }
-
-pub frames_done : (n k at : ℕ) (b d : List ℕ) → k ≤ 0 → sets d at (frames_of n k b) ≡ d
+-- bytes that are no whole picture leave none
+pub frames_done : (n at : ℕ) (rest d : List ℕ) → length rest < n → sets d at (frames_left n rest) ≡ d
 unfolding frames_of
-frames_done n zero at b d h = refl
-frames_done n (suc k) at b d h = absurd (omega arith)
+frames_done n at rest d few = let none : length rest / n ≡ 0 = div-eq_of_lt few in rw none
 
 -- ---- the same pictures
 

@@ -1,13 +1,12 @@
--- Runs of stores: a decimal digit by digit, a line piece by piece. Assumes nothing.
-use Prim.Native.Nat.{ℕ, zero, suc, ◌+◌, ◌-◌, ◌/◌, ◌%◌, ◌≤◌, ◌<◌}
+-- Runs of stores: a line piece by piece. Assumes nothing.
+use Prim.Native.Nat.{ℕ, ◌+◌, ◌≤◌}
 use mathlib.Core.Path.{◌≡◌, refl, sym, ap, ◌∙◌}
 use mathlib.Core.List.{List, [], ◌∷◌, ◌++◌, append_assoc}
 use native.Mathlib.Nat.{zero-add}
 use native.Mathlib.Omega.{arith}
-use lib.ListN.{length, take, drop, set, length-append}
+use lib.ListN.{length, take, drop, length-append}
 use lib.Seq.{sets, sets-eq, length-sets, take_at}
 use borrow.Rule.Slice.PartMut.{put_mid}
-use borrow.Author.Tests.{lt-ltb, le-ltb}
 use Rattle.little_endian.proofs.Stores.{sets-append, sets_part}
 use Rattle.yuv_support.specs.declared.YuvChromaSubsampling.{YuvChromaSubsampling}
 use Rattle.yuv_support.specs.declared.YuvChromaSubsampling.TheVariants.{Yuv420, Yuv422}
@@ -15,38 +14,6 @@ use Rattle.y4m_line.specs.Line.{line_of, text_of, tag_bytes, magic}
 use Rattle.y4m_writer.specs.Text.{decimal, written_tags}
 use Rattle.y4m_writer.specs.Known.{code_line}
 use Rattle.y4m_writer.proofs.Decimal.{decimal-length}
-
--- ---- a decimal, digit by digit
-
-put_one_case : (f v : ℕ) → 0 < f → v < 10 → decimal f v ≡ (48 + v) ∷ []
-unfolding decimal
-put_one_case zero v h k = absurd (omega arith)
-put_one_case (suc f) v h k = rw (lt-ltb v 10 k)
-
-put_more_case : (f v : ℕ) → 0 < f → 10 ≤ v → decimal f v ≡ decimal (f - 1) (v / 10) ++ ((48 + v % 10) ∷ [])
-unfolding decimal
-put_more_case zero v h k = absurd (omega arith)
-put_more_case (suc f) v h k = let e : suc f - 1 ≡ f = omega arith in rw (le-ltb v 10 k, e)
-
-module _ (d : List ℕ) (f v : ℕ) where
-  pub put_none : f ≡ 0 → (d ≡ sets d 0 (decimal f v)) × (0 ≡ length (decimal f v))
-  unfolding decimal
-  put_none e = (rw e, rw e)
-
-  pub put_one : 0 < f → v < 10 → (set d 0 (48 + v) ≡ sets d 0 (decimal f v)) × (1 ≡ length (decimal f v))
-  put_one h k = let e = put_one_case f v h k in (rw e, rw e)
-
-  pub put_more : (g : List ℕ) (r : ℕ) → 0 < f → 10 ≤ v → g ≡ sets d 0 (decimal (f - 1) (v / 10)) → r ≡ length (decimal (f - 1) (v / 10))
-      → (set g r (48 + v % 10) ≡ sets d 0 (decimal f v)) × (r + 1 ≡ length (decimal f v))
-  put_more g r h k eg er =
-      let e = put_more_case f v h k in
-      let tens = decimal (f - 1) (v / 10) in (
-        rw (e, sets-append tens ((48 + v % 10) ∷ []) d 0, ← eg, zero-add (length tens), ← er),
-        rw (e, length-append) (omega arith),
-      )
-
-pub short_part : (f v n : ℕ) → 0 < f → f ≤ n → length (decimal (f - 1) (v / 10)) < n
-short_part f v n h k = omega (arith, decimal-length (f - 1) (v / 10))
 
 -- ---- runs, one after the other
 

@@ -10,7 +10,7 @@ use Rattle.yuv_support.specs.Codes.{sampling_code}
 use Rattle.y4m_file.specs.Check.{plane_bytes}
 use Rattle.y4m_writer.specs.declared.planes.WholePictures.{WholePictures}
 use Rattle.y4m_writer.specs.Pictures.{sampling_of}
-use Rattle.y4m_writer.specs.Known.{Exact, header_line, frames_in, file_in}
+use Rattle.y4m_writer.specs.Known.{header_line, frames_in, file_in}
 use Rattle.y4m_writer.proofs.Back.{Written, written, made, length_made}
 use Rattle.y4m_writer.proofs.Sizes.{plane_least}
 
@@ -29,9 +29,6 @@ module _ (p : WholePictures) where
 
   pub planes_least : 3 ≤ plane_bytes p.header.sampling p.header.width p.header.height
   planes_least = plane_least p.header.sampling p.header.width p.header.height planes_known.wide.0 planes_known.high.0
-
-  pub planes_exact : let n = plane_bytes p.header.sampling p.header.width p.header.height in Exact n (length p.bytes.now / n) p.bytes.now
-  planes_exact = rw (said_again p.header.sampling) at planes_known.exact
 
   pub planes_file : header_line p.header ++ frames_in p.header p.bytes.now ≡ file_in p.header p.bytes.now
   planes_file = sym (rw (said_again p.header.sampling) at (made (sampling_code p.header.sampling) p.header.width p.header.height p.bytes.now))

@@ -18,34 +18,16 @@ use yuv_support::YuvChromaSubsampling;
 
 // ---- the header's line, piece by piece: each is put at the front, and its length told
 
-// The decimal of a value, at most so many digits. By hand: there is no heap, and std's writer into a slice does not say which bytes it leaves. `counts_request` and
-// `frame_request` write other forms: one or two digits at a fixed place, and any size behind other text.
-fn put_decimal(digits: usize, value: usize, output: &mut [u8]) -> usize
-    requires { digits ≤ length output.old }
-    ensures output_after { output.new ≡ sets output.old 0 (decimal digits value) }
-    ensures value { result ≡ length (decimal digits value) }
-{
-    if digits == 0 {
-        return 0;
-    }
-    if value < 10 {
-        output[0] = (48 + value) as u8;
-        return 1;
-    }
-    let last = put_decimal(digits - 1, value / 10, output);
-    output[last] = (48 + value % 10) as u8;
-    last + 1
-}
-
 // A text and the decimal of a side.
 fn put_side(text: &[u8], side: usize, output: &mut [u8]) -> usize
-    requires { length text.now + 5 ≤ length output.old }
+    requires picture { side ≤ 16384 }
+    requires room { length text.now + 5 ≤ length output.old }
     ensures output_after { output.new ≡ sets output.old 0 (text.now ++ decimal 5 side) }
     ensures value { result ≡ length (text.now ++ decimal 5 side) }
     ensures upper_bound { result ≤ length text.now + 5 }
 {
     little_endian::put(output, 0, text);
-    text.len() + put_decimal(5, side, &mut output[text.len()..])
+    decimal::put_decimal(output, text.len(), side as u64)
 }
 
 // What follows the sides, with the newline.
@@ -60,6 +42,7 @@ fn code_line(sampling: YuvChromaSubsampling) -> &'static [u8]
 
 // The line.
 fn put_header(header: HeaderLine, output: &mut [u8; 64]) -> usize
+    requires { (header.width ≤ 16384) × (header.height ≤ 16384) }
     ensures output_after { output.new ≡ sets output.old 0 (header_line header) }
     ensures value { (result ≡ length (header_line header)) × (result ≤ 64) }
 {

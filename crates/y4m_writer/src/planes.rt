@@ -76,17 +76,11 @@ impl<'a> WholePictures<'a> {
         ensures { output.new ≡ sets output.old 0 (frames_in self.now.header self.now.bytes.now) }
     {
         let planes = self.plane_bytes();
-        let count = self.count();
-        let mut from = 0;
+        // The place in the output is a sum: a line FRAME of 6 bytes stands before each picture.
         let mut to = 0;
-        for _ in 0..count {
+        for picture in self.bytes.chunks_exact(planes) {
             little_endian::put(output, to, b"FRAME\n");
-            little_endian::put(
-                output,
-                to + 6,
-                shift_file::part_of(self.bytes, from, planes),
-            );
-            from += planes;
+            little_endian::put(output, to + 6, picture);
             to += 6 + planes;
         }
     }

@@ -1,7 +1,7 @@
 -- What a caller knows once no refusal was answered: no condition holds, so each bound does. Assumes nothing.
 use Prim.Native.Nat.{ℕ, ◌+◌, ◌*◌, ◌≤◌}
-use mathlib.Core.Bool.{Bool, true, false, cond, not, ◌||◌}
-use mathlib.Core.List.{List, [], ◌∷◌}
+use mathlib.Core.Bool.{Bool, true, false, not, ◌||◌}
+use mathlib.Core.List.{List}
 use mathlib.Core.Path.{◌≡◌, refl, sym, subst}
 use native.Mathlib.Omega.{arith}
 use lib.Dec.{T, ltb, eqb}
@@ -22,20 +22,6 @@ use Rattle.yuv_error.proofs.Lowest.{first_is_lowest}
 -- number 0 is answered where no condition holds
 pub none_holds : (rs : List Rule) → in_order 0 rs ≡ true → (first_numbers rs).number ≡ 0 → NoneHolds rs
 none_holds rs up e = ((first_is_lowest rs (first_numbers rs) up).0 refl).finished.0 e
-
--- a rule has this number
-abbrev pub is_said : ℕ → List Rule → Bool
-is_said n [] = false
-is_said n (r ∷ rs) = eqb r.says.number n || is_said n rs
-
--- a number that no rule has is not answered, unless it is finished work's
-pub never_said : (n : ℕ) (xs : List Rule) → is_said n xs ≡ false → eqb 0 n ≡ false → eqb (first_numbers xs).number n ≡ false
-never_said n [] h z = z
-never_said n (r ∷ xs) h z = let p = or_parts (eqb r.says.number n) (is_said n xs) h in step r.holds p.0 (never_said n xs p.1 z)
-  where
-    step : (b : Bool) → eqb r.says.number n ≡ false → eqb (first_numbers xs).number n ≡ false → eqb (cond b r.says (first_numbers xs)).number n ≡ false
-    step true p q = p
-    step false p q = q
 
 -- where 4 does not hold
 pub is_accepted : (matrix : YuvStandardMatrix) (others : Bool) → not (accepted matrix) || others ≡ false → T (accepted matrix)

@@ -1,12 +1,12 @@
 -- The other way round: where each bound holds, no refusal is answered. Assumes nothing.
 use Prim.Native.Nat.{ℕ, ◌+◌, ◌≤◌}
 use Rattle.std.specs.Prelude.{Ok}
-use mathlib.Core.Bool.{Bool, true, false}
+use mathlib.Core.Bool.{true, false}
 use mathlib.Core.List.{List, ◌++◌}
 use mathlib.Core.Path.{◌≡◌, refl, sym, ◌∙◌}
 use native.Mathlib.Nat.{mul-sub, mul-le-mul_left}
 use native.Mathlib.Omega.{arith}
-use lib.Dec.{T}
+use lib.Ieee.Bits.{is_true}
 use borrow.Author.Tests.{le-ltb, eq-eqb, ne_eqb}
 use Rattle.yuv_support.specs.Matrix.{accepted}
 use Rattle.definitions.specs.declared.FrameDescription.{FrameDescription}
@@ -23,10 +23,6 @@ use Rattle.yuv_error.proofs.Accepted.{AcceptedBuffers, Buffers}
 -- no rule of two lists holds, one after the other
 pub both_pass : (xs ys : List Rule) → numbered xs ≡ true → first_numbers xs ≡ numbers 0 0 0 → first_numbers ys ≡ numbers 0 0 0 → first_numbers (xs ++ ys) ≡ numbers 0 0 0
 both_pass xs ys n p q = after_finished {a = Ok tt} xs ys n refl (sym p) ∙ q
-
-is_true : (b : Bool) → T b → b ≡ true
-is_true true h = refl
-is_true false h = absurd h
 
 pub opening_passes : {d : FrameDescription} → Sized d → first_numbers (opening_rules d) ≡ numbers 0 0 0
 opening_passes {d} s =

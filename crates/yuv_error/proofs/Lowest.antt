@@ -5,6 +5,7 @@ use mathlib.Core.Bool.{Bool, true, false, cond, ◌&&◌, and-eq-true_iff, and-f
 use mathlib.Core.List.{List, [], ◌∷◌}
 use mathlib.Core.Logic.{◌⊎◌, inl, inr}
 use mathlib.Core.Path.{◌≡◌, refl, sym, ap, ◌∙◌}
+use native.Mathlib.Nat.{lt_of_lt_of_le}
 use native.Mathlib.Omega.{arith}
 use lib.Dec.{leb, ltb, eqb}
 use lib.ListN.{length}
@@ -47,11 +48,8 @@ below : (k : ℕ) (rs : List Rule) → in_order k rs ≡ true → (m : ℕ) → 
 below k [] up m l = refl
 below k (r ∷ rs) up m l =
     let t = in_order-cons k r rs up in
-    let later : rank m < rank r.says.number = lt_le (rank m) k _ l t.0 in
+    let later : rank m < rank r.says.number = lt_of_lt_of_le l t.0 in
     rw (elsewhere m r.says.number later) (below (rank r.says.number) rs t.2 m later)
-  where
-    lt_le : (a b c : ℕ) → a < b → b ≤ c → a < c
-    lt_le a b c p q = omega arith
 
 -- a rule that does not hold changes no condition
 passed : (r : Rule) (rs : List Rule) → r.holds ≡ false → (n : ℕ) → condition_holds (r ∷ rs) n ≡ condition_holds rs n

@@ -2,12 +2,10 @@
 use Prim.Native.Nat.{ℕ, ◌+◌, ◌-◌, ◌*◌, ◌^◌, ◌<◌, ◌≤◌}
 use native.Mathlib.Nat.{mul-le-mul}
 use native.Mathlib.Omega.{arith}
-
-most : {n : ℕ} → n < 2 ^ 32 → n ≤ 2 ^ 32 - 1
-most h = omega (arith, h)
+use lib.Pow.{le_ones}
 
 below : {size rows : ℕ} → size < 2 ^ 32 → rows < 2 ^ 32 → size * rows ≤ (2 ^ 32 - 1) * (2 ^ 32 - 1)
-below s r = mul-le-mul (most s) (most r)
+below s r = mul-le-mul (le_ones 32 s) (le_ones 32 r)
 
 pub product_fits : {size rows : ℕ} → size < 2 ^ 32 → rows < 2 ^ 32 → size * rows < 2 ^ 64
 product_fits s r = omega (arith, below s r)

@@ -208,7 +208,8 @@ impl LentBuffer {
         Ok(())
     }
 
-    // The planes' checks, under the Rust's names and one for each plane: what is alike in them is `check_wide` and `check_long`.
+    // The planes' checks, one for each plane, as the rules list them: what is alike in them is `check_wide` and `check_long`. One check that is given its
+    // refusals would say its answer by cases of a closure's result, where each of these says it by the rules of its plane.
     fn check_y8_channel(self) -> Result<(), YuvError>
         ensures numbers { numbers_of result ≡ first_numbers (plane_rules 8 9 self) }
         ensures wide { OnOk result (self.row ≤ self.stride) }

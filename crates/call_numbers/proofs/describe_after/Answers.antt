@@ -3,8 +3,8 @@
 use Prim.Native.Nat.{◌+◌, ◌≤◌}
 use native.Mathlib.Omega.{arith}
 use lib.ListN.{length}
+use Rattle.std.proofs.lemmas.List.{take_rest}
 use Rattle.call_numbers.proofs.Numbers.{counted}
-use Rattle.definitions.proofs.Windows.{rest}
 use Rattle.call_numbers.proofs.describe_after.Goals as goal
 
 pub slice_bounds-describe-count : goal.slice_bounds-describe-count
@@ -18,4 +18,4 @@ slice_bounds-describe-start c =
     omega (arith, long)
 
 pub returns : goal.returns
-returns c = rw (rest c.args.before c.args.numbers.now) at c.describe.ensures
+returns c = rw (take_rest c.args.numbers.now c.args.before) at c.describe.ensures

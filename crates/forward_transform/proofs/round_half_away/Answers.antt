@@ -1,7 +1,8 @@
 -- `round_half_away` meets its contract: below 0 it negates what the opposite number rounds to.
 -- Assumes nothing.
-use Rattle.std.proofs.Common.{◌≡◌, ℕ, ◌*◌, ◌^◌, ◌<◌, Bool, true, false, not, T, ltb, ℤ, pos, ◌-ℤ◌, neg_ℤ, sym, refl, ap, ◌∙◌, subst, lt_of_lt_of_le, arith, lit≤, ltb→lt, w32, SFits, to_z}
+use Rattle.std.proofs.Common.{◌≡◌, ℕ, ◌*◌, ◌^◌, ◌<◌, true, false, not, T, ltb, ℤ, pos, ◌-ℤ◌, neg_ℤ, sym, refl, ap, ◌∙◌, subst, lt_of_lt_of_le, arith, lit≤, ltb→lt, w32, SFits, to_z}
 use lib.IntN.{+ℤ_idl}
+use lib.Dec.{not_T}
 use lib.Ieee.{Float, nan, inf, fin, up, down, lt, neg, of_bits}
 use mir.ValLaws.{to_z_pos, to_z-of_z}
 use Rattle.forward_transform.specs.Rounding.{round_half_away}
@@ -13,17 +14,13 @@ use Rattle.forward_transform.proofs.round_half_away.Goals as goal
 not_below : (m c : ℕ) → T (ltb (m * 1) (0 * c)) → ⊥
 not_below m c t = omega (arith, ltb→lt (m * 1) (0 * c) t)
 
-refute : (b : Bool) → (T b → ⊥) → T (not b)
-refute true h = h tt
-refute false h = tt
-
 -- below 0, the opposite number is not, is as small, and rounds to the opposite
 opposite : (x : Float) → T (small x) → T (lt x zero)
     → T (small (neg x)) × T (not (lt (neg x) zero)) × (neg_ℤ (round_half_away (neg x)) ≡ round_half_away x)
 unfolding lt neg round_half_away
 opposite nan h l = absurd h
 opposite (inf s) h l = absurd h
-opposite (fin true m e) h l = (h, refute (ltb (m * up e * 1) (0 * down e)) (not_below (m * up e) (down e)), refl)
+opposite (fin true m e) h l = (h, not_T (ltb (m * up e * 1) (0 * down e)) (not_below (m * up e) (down e)), refl)
 opposite (fin false m e) h l = absurd (not_below (m * up e) (down e) l)
 
 -- a u16 negated in i32

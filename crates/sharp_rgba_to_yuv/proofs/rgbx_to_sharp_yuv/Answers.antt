@@ -10,7 +10,7 @@ use Prim.Native.Nat.{◌*◌}
 use mathlib.Core.Path.{refl, sym, ap, ◌∙◌}
 use native.Mathlib.Omega.{arith}
 use lib.ListN.{length-drop}
-use Rattle.definitions.proofs.Windows.{rest}
+use Rattle.std.proofs.lemmas.List.{take_rest}
 use Rattle.sharp_rgba_to_yuv.proofs.rgbx_to_sharp_yuv.Goals as goal
 
 pub returns-in_err-check_frame : goal.returns-in_err-check_frame
@@ -41,7 +41,7 @@ sharpen_band-requires c =
     let f = answered c.args.frame c.args.stride n c.in_ok-check_frame.was c.check_frame.ensures.numbers in
     let at = c.args.frame.window.top * c.args.stride in
     record {
-      lent = rw (rest at c.args.source.now, length-drop at c.args.source.now) f.lent;
+      lent = rw (take_rest c.args.source.now at, length-drop at c.args.source.now) f.lent;
       width_in_bounds = f.carried;
     }
 
@@ -49,4 +49,4 @@ pub returns : goal.returns
 returns c =
     finished c.args.frame c.args.stride c.args.source.now c.args.y.now c.args.u.now c.args.v.now (Ok tt)
     (sym (ap numbers_of c.in_ok-check_frame.was) ∙ c.check_frame.ensures.numbers) refl _ _ _
-    (rw (rest (c.args.frame.window.top * c.args.stride) c.args.source.now) at c.sharpen_band.ensures)
+    (rw (take_rest c.args.source.now (c.args.frame.window.top * c.args.stride)) at c.sharpen_band.ensures)

@@ -1,7 +1,7 @@
 -- `sharpen_row422` meets its contract: pixels in fours, and the rest; they paint over the lumas that were written ahead.
 -- Assumes nothing.
+use Rattle.definitions.proofs.Painted.{Painted-over}
 use Rattle.pixel_pairs.proofs.Pairs.{written422}
-use Rattle.sharpen_row.proofs.Ahead.{Painted-over}
 use Rattle.sharpen_row.proofs.sharpen_row422.Goals as goal
 
 pub returns-clause-luma_written : goal.returns-clause-luma_written

@@ -2,7 +2,8 @@
 use Rattle.std.proofs.Common.{rules, arith, sym, ◌+◌, ◌≤◌, length}
 use lib.ListN.{length-map}
 use Rattle.crossing_keys.specs.Keys.{number_of}
-use Rattle.crossing_keys.proofs.Places.{its_file, keys_counted}
+use Rattle.shift_reader.proofs.Files.{file_known}
+use Rattle.crossing_keys.proofs.Places.{keys_counted}
 use Rattle.shift_pairs.proofs.Walking.{Walking-none, so_far, next_ours, next_theirs, next_both}
 use Rattle.shift_pairs.proofs.Walking.{all_ours, all_theirs, reported}
 use Rattle.shift_pairs.proofs.pair_keys.Goals.{At-loop-i}
@@ -62,7 +63,7 @@ returns c =
     let t = c.args.theirs.now in
     let long_a = length-map o.keys.now number_of in
     let long_b = length-map t.keys.now number_of in
-    reported _ _ _ o.in_order t.in_order (its_file o.file).its.has (its_file t.file).its.has
+    reported _ _ _ o.in_order t.in_order (file_known o.file).its.has (file_known t.file).its.has
     _ _ (sym long_a) (sym long_b) c.loop-i.tally c.loop-i.invariant.2.done
     c.loop-i.invariant.2.tallied (elim c.loop-i-test.branch [
       | else-loop-i-test w ↦ all_ours _ _ _ c.loop-i.i c.loop-i.j c.loop-i.tally c.loop-i.invariant.2 (omega arith)

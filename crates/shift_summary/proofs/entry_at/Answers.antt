@@ -1,6 +1,7 @@
 -- The reader tells crossing, offset and luma plane of record k, and the mean is of that plane. Assumes nothing.
 use Rattle.shift_file.specs.Read.{records_in}
-use Rattle.crossing_keys.proofs.Places.{record_below, record_allowed}
+use Rattle.shift_reader.proofs.Files.{record_allowed}
+use Rattle.crossing_keys.proofs.Places.{record_below}
 use Rattle.shift_summary.proofs.Entries.{luma_bounds, entry_told}
 use Rattle.shift_summary.proofs.entry_at.Goals as goal
 

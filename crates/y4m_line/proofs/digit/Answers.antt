@@ -1,13 +1,6 @@
--- `digit` meets its contract: between 0 and 9, below and above. Assumes nothing.
-use Rattle.std.proofs.Common.{arith, sym, ◌∙◌}
-use Rattle.y4m_line.proofs.Decimal.{digit_low, digit_high, digit_is}
+-- `digit` meets its contract: `to_digit` finds a digit where it stands. Assumes nothing.
+use Rattle.y4m_line.proofs.Decimal.{digit_told}
 use Rattle.y4m_line.proofs.digit.Goals as goal
 
-pub returns-in-48-to-57-clause-value : goal.returns-in-48-to-57-clause-value
-returns-in-48-to-57-clause-value c = c.from.ensures ∙ sym (digit_is _ (omega arith) (omega arith))
-
-pub returns-in_default-clause-value : goal.returns-in_default-clause-value
-returns-in_default-clause-value c = sym (digit_low _ (omega arith))
-
-pub returns-in_default-2-clause-value : goal.returns-in_default-2-clause-value
-returns-in_default-2-clause-value c = sym (digit_high _ (omega arith))
+pub returns-clause-value : goal.returns-clause-value
+returns-clause-value c = digit_told c.args.byte c.to_digit.result c.to_digit.ensures.value

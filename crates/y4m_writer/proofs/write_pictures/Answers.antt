@@ -9,13 +9,16 @@ use Rattle.y4m_writer.specs.Pictures.{file_made}
 use Rattle.y4m_writer.specs.Known.{header_line, frames_in, file_in}
 use Rattle.y4m_writer.proofs.Sizes.{fits}
 use Rattle.y4m_writer.proofs.Puts.{behind, front_is}
-use Rattle.y4m_writer.proofs.Whole.{planes_parts, planes_file}
+use Rattle.y4m_writer.proofs.Whole.{planes_known, planes_parts, planes_file}
 use Rattle.y4m_writer.proofs.write_pictures.Goals.{After-put_header-header}
 use Rattle.y4m_writer.proofs.write_pictures.Goals as goal
 
 -- the line that was made
 line : (c : After-put_header-header) → take c.put_header-header.result c.put_header-header.new.output ≡ header_line c.in_ok-pictures.pictures.header
 line c = front_is _ _ _ _ c.put_header-header.ensures.output_after c.put_header-header.ensures.value.0 (omega (arith, c.put_header-header.ensures.value))
+
+pub put_header-header-requires : goal.put_header-header-requires
+put_header-header-requires c = let k = planes_known c.in_ok-pictures.pictures in (k.wide.1, k.high.1)
 
 pub put-requires : goal.put-requires
 put-requires c =

@@ -4,6 +4,7 @@ use mathlib.Core.Path.{◌≡◌, ◌∙◌, ap}
 use Prim.Native.Nat.{ℕ, ◌*◌}
 use native.Mathlib.Omega.{arith}
 use lib.IntN.{ℤ, nat_abs}
+use Rattle.std.proofs.Common.{rules, length}
 use Rattle.yuv_support.specs.declared.YuvChromaRange.{YuvChromaRange}
 use Rattle.forward_transform.specs.declared.CbCrForwardTransform.{CbCrForwardTransform}
 use Rattle.forward_transform.specs.Shape.{Shape}
@@ -22,8 +23,8 @@ small_placed : (s : YuvSettings) {t : CbCrForwardTransform ℤ} {w : Weights} �
     → Small w.first w.second w.third
 small_placed s shape e = rw (e ∙ placed_kept s.channels (luma_Small shape)) (placed_Small s.channels (luma_Small shape))
 
-pub fill-requires-3-clause-at_bound : goal.fill-requires-3-clause-at_bound
-fill-requires-3-clause-at_bound c =
+pub fill-requires-3 : goal.fill-requires-3
+fill-requires-3 c =
     let weights : Weights = c.by_place-weights.result in
     let small = small_placed c.args.frame.settings c.requires.weighed.shape c.by_place-weights.ensures in
     let third_is : c.unsigned_abs-3.result ≡ nat_abs weights.third = size_kept weights.third small.b c.unsigned_abs-3.ensures.value in
@@ -46,7 +47,8 @@ returns c =
     let first = first_is ∙ ap (λ (w : Weights). nat_abs w.first) weights_are in
     let second = second_is ∙ ap (λ (w : Weights). nat_abs w.second) weights_are in
     let third = third_is ∙ ap (λ (w : Weights). nat_abs w.third) weights_are in
-    let none = Places-none c.args.frame.settings c.requires.sums_len in
+    let long : length c.args.sums.now ≡ 1536 = search rules in
+    let none = Places-none c.args.frame.settings long in
     let one = Places-more c.args.linear.now _ _ (omega arith) (λ x. omega (arith, ap (λ (w : ℕ). x * w) first, bias_is)) c.requires.table_of.at none c.fill.ensures in
     let two = Places-more c.args.linear.now _ _ (omega arith) (λ x. omega (arith, ap (λ (w : ℕ). x * w) second)) c.requires.table_of.at one c.fill-2.ensures in
     Places-more c.args.linear.now _ _ (omega arith) (λ x. omega (arith, ap (λ (w : ℕ). x * w) third)) c.requires.table_of.at two c.fill-3.ensures

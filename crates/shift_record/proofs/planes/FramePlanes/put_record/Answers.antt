@@ -2,20 +2,20 @@
 -- Assumes nothing.
 use native.Mathlib.Omega.{arith}
 use Prim.Native.Nat.{ℕ, ◌+◌, ◌*◌, ◌≤◌}
-use mathlib.Core.Path.{◌≡◌}
+use mathlib.Core.Path.{◌≡◌, ap, ◌∙◌}
 use Rattle.yuv_support.specs.Sampling.{chroma_width}
 use Rattle.shift_file.specs.File.{header_size}
-use Rattle.shift_record.specs.Record.{chroma_rows}
+use Rattle.shift_record.specs.Record.{record_form, chroma_rows}
 use Rattle.shift_record.proofs.Made.{length_made, record_steps}
 use Rattle.shift_record.proofs.planes.FramePlanes.put_record.Goals.{After-chroma_size}
 use Rattle.shift_record.proofs.planes.FramePlanes.put_record.Goals as goal
 
 -- the chroma rows, and the sizes of the planes
-sizes : (c : After-chroma_size) → (c.chroma_height-chroma_height.result ≡ chroma_rows c.args.self.now.frame) × (c.header_size-y_at.result ≡ header_size c.args.self.now.frame.form)
+sizes : (c : After-chroma_size) → (c.chroma_height-chroma_height.result ≡ chroma_rows c.args.self.now.frame) × (c.header_size-y_at.result ≡ header_size (record_form c.args.self.now.frame))
     × (c.luma_size.result ≡ c.args.self.now.frame.width * c.args.self.now.frame.height) × (c.chroma_size.result ≡ chroma_width c.args.self.now.frame.width * chroma_rows c.args.self.now.frame)
 sizes c = (
   rw c.sampling-sampling.ensures at c.chroma_height-chroma_height.ensures,
-  c.header_size-y_at.ensures.0,
+  c.header_size-y_at.ensures.0 ∙ ap header_size c.form.ensures,
   c.luma_size.ensures.0,
   rw c.sampling-sampling.ensures at c.chroma_size.ensures.0,
 )

@@ -1,4 +1,4 @@
--- `put_file` meets its contract: mark, count, pairs and records, one after the other.
+-- `put_file` meets its contract: mark and count, pairs and records, one after the other.
 -- Assumes nothing.
 use mathlib.Core.Path.{◌∙◌}
 use Rattle.shift_writer.proofs.Lists.{list_count, list_Counted}
@@ -9,5 +9,5 @@ pub returns : goal.returns
 returns c =
     let l = c.args.self.now in
     c.put.ensures
-    ∙ rw (c.write_pairs.ensures, c.write_number.ensures, c.write_mark.ensures, c.mark_size-counted.ensures.0, list_count l)
+    ∙ rw (c.write_pairs.ensures, c.write_front-pairs.ensures.written, c.write_front-pairs.ensures.value, list_count l)
     (file_put l.form l.bytes.now c.args.output.now l.count (list_Counted l))

@@ -1,6 +1,6 @@
 -- A tenth is less, so it ends.
 -- Assumes nothing.
-use Rattle.counts_request.proofs.Text.+put_decimal.Given as goal
+use Rattle.decimal.proofs.+put_decimal.Given as goal
 
 abbrev pub decreases-put_decimal : goal.decreases-put_decimal
 decreases-put_decimal l = l.number

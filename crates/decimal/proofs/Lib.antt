@@ -1,0 +1,2 @@
+-- Laws of digits put into a list.
+pub mod Digits

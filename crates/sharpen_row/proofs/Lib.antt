@@ -1,2 +1,0 @@
--- Laws that the proofs of functions cite.
-pub mod Ahead
