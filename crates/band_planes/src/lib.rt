@@ -94,7 +94,8 @@ fn pair_rows<const N: usize>(
 // All rows of a band of 4:2:2.
 fn rows422<const N: usize>(work: &Work, y: &mut [u8], u: &mut [u8], v: &mut [u8])
     requires { ForRows YuvChromaSubsampling.Yuv422 N (band_of work.now) (length work.now.source.now) (length y.old) (length u.old) (length v.old) }
-    ensures { (image : Image) → Sees (band_of work.now) work.now.source.now image → Sharpened (frame_of work.now) work.now.rows.done (work.now.rows.done + work.now.rows.count) image
+    ensures { (image : Image) → Sees (band_of work.now) work.now.source.now image
+        → Sharpened (frame_of work.now) work.now.rows.done (work.now.rows.done + work.now.rows.count) image
         y.old u.old v.old y.new u.new v.new }
 {
     let end = work.rows.done + work.rows.count;

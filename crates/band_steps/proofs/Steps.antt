@@ -6,7 +6,7 @@ use mathlib.Core.Path.{◌≡◌, refl, ap, sym, subst, ◌∙◌}
 use mathlib.Core.List.{List}
 use native.Mathlib.Omega.{arith}
 use borrow.Rule.Slice.PartMut.{put_mid}
-use lib.ListN.{length, take, drop, length-take, length-drop}
+use lib.ListN.{length, take, drop}
 use Rattle.yuv_support.specs.declared.YuvChromaSubsampling.{YuvChromaSubsampling}
 use Rattle.yuv_support.specs.declared.YuvChromaSubsampling.TheVariants.{Yuv420, Yuv422}
 use Rattle.definitions.specs.declared.FrameDescription.{FrameDescription}
@@ -19,7 +19,7 @@ use Rattle.definitions.proofs.Finished.{finished_all, finished_some, finished?}
 use Rattle.definitions.proofs.Bands.{band_own_rows}
 use Rattle.definitions.proofs.Windows.{own_row}
 use Rattle.definitions.proofs.Numbers.{next_row}
-use Rattle.pixel_pairs.specs.Rows.{ChromaRoom, TwoPainted, ChromaWritten}
+use Rattle.pixel_pairs.specs.Rows.{TwoPainted, ChromaWritten}
 use Rattle.definitions.specs.declared.Band.{Band}
 use Rattle.band_steps.specs.declared.Step.{Step}
 use Rattle.band_steps.specs.Steps.{chroma_of, SourceAt, PlaneAt, YAt, ChromaAt, PairAt, Sees, LumaIs, ChromaIs}
@@ -31,17 +31,6 @@ part at n buffer = take (at + n - at) (drop at buffer)
 
 abbrev pub back : (at n : ℕ) → List ℕ → List ℕ → List ℕ
 back at n buffer p = put_mid at (at + n - at) buffer p
-
-pub part_long : (at n m : ℕ) (l : List ℕ) → at + n ≤ length l → m ≤ n → m ≤ length (part at n l)
-part_long at n m l room fits = simp (length-take, length-drop) (omega (arith, room, fits))
-
--- the parts that a step lends
-pub chroma_room : (b : Band) {s : Step} (u v : List ℕ) → ChromaAt b s (length u) (length v)
-    → ChromaRoom b.frame (part s.u s.chroma u) (part s.v s.chroma v)
-chroma_room b {s} u v at = record {
-  in_u = part_long s.u s.chroma (chroma_size b.frame) u at.in_u.room (omega (arith, at.in_u.size));
-  in_v = part_long s.v s.chroma (chroma_size b.frame) v at.in_v.room (omega (arith, at.in_v.size));
-}
 
 -- ---- rows of the source
 

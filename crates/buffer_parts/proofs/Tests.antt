@@ -2,8 +2,8 @@
 -- Assumes nothing.
 use Prim.Native.Nat.{ℕ, ◌+◌, ◌-◌, ◌≤◌, ◌<◌, min, max}
 use lib.Dec.{ltb}
-use mathlib.Core.Path.{◌≡◌, sym, ◌∙◌}
-use mathlib.Core.Bool.{true, false, ◌&&◌, true≢false}
+use mathlib.Core.Path.{◌≡◌}
+use mathlib.Core.Bool.{true, ◌&&◌}
 use native.Mathlib.Omega.{arith}
 use borrow.Author.Tests.{ltb-true, leb-true, lt-ltb, le-leb}
 use Rattle.std.proofs.lemmas.Bool.{and_parts}
@@ -42,12 +42,3 @@ later_starts a b l =
     lt-ltb (max a.offset b.offset) (min (a.offset + a.length) (b.offset + b.length))
     (omega (arith, ltb-true (b.offset - a.offset) a.length z.0, ltb-true 0 b.length z.1)))
     (λ e. let s = overlap_starts a b e in rw (lt-ltb (b.offset - a.offset) a.length (omega arith), lt-ltb 0 b.length (omega arith)))
-
-pub overlap_either_way : (a b : BufferPart) → are_overlapping a b ≡ are_overlapping b a
-overlap_either_way a b = one_truth (are_overlapping a b) (are_overlapping b a)
-    (λ e. let o = Overlap-yes a b e in Overlap-found b a (o.0, (o.1.1, o.1.0)))
-    (λ e. let o = Overlap-yes b a e in Overlap-found a b (o.0, (o.1.1, o.1.0)))
-
--- where the test says no, no byte is of both
-pub Overlap-no : (a b : BufferPart) → are_overlapping a b ≡ false → Overlap a b → ⊥
-Overlap-no a b e o = true≢false (sym (Overlap-found a b o) ∙ e)

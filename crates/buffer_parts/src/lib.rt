@@ -5,7 +5,7 @@
 ghost use Rattle.std.specs.Prelude.{◌≡◌};
 ghost use Rattle.buffer_parts.specs.Parts.{is_inside, are_overlapping};
 
-// `length` bytes of a buffer, from byte `offset` on: any two numbers of a caller, where `Place` of `shift_reader` is what a checked file says.
+// `length` bytes of a buffer, from byte `offset` on: any two numbers of a caller, where `ShiftEntry` of `shift_reader` is what a checked file says.
 #[derive(Clone, Copy, Debug, PartialEq, Eq)]
 pub struct BufferPart {
     pub offset: usize,

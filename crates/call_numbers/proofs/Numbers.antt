@@ -6,14 +6,18 @@ use mathlib.Core.Bool.{Bool, true, false, cond, ◌||◌, true≢false}
 use mathlib.Core.List.{List}
 use lib.Dec.{eqb}
 use native.Mathlib.Omega.{arith}
-use lib.ListN.{length, drop}
+use lib.ListN.{length, drop, get_or}
 use borrow.Author.Tests.{eqb-true}
 use lib.Ieee.{Float}
-use Rattle.std.specs.Prelude.{Result, Ok, Err}
+use Rattle.std.specs.Prelude.{Option, Some, None, Result, Ok, Err}
+use Rattle.yuv_support.specs.declared.YuvRange.{YuvRange}
+use Rattle.yuv_support.specs.declared.YuvRange.TheVariants.{Limited}
+use Rattle.yuv_support.specs.declared.YuvStandardMatrix.{YuvStandardMatrix}
 use Rattle.yuv_error.specs.declared.YuvError.{YuvError}
 use Rattle.yuv_error.specs.declared.YuvError.TheVariants.{MalformedRequest}
 use Rattle.definitions.specs.declared.FrameDescription.{FrameDescription}
-use Rattle.call_numbers.specs.Codes.{description_of, described, is_unknown, is_counted, is_malformed, is_malformed_range_and_matrix}
+use Rattle.setting_codes.specs.Codes.{range_codes}
+use Rattle.call_numbers.specs.Codes.{at, matrix_of, description_of, described, is_unknown, is_counted, is_malformed, is_malformed_range_and_matrix, range_and_matrix}
 
 -- a description has ten numbers at least
 pub room : (before count : ℕ) → is_counted before count ≡ true → before + 10 ≤ count
@@ -32,14 +36,28 @@ counted before numbers e = go (is_counted before (length numbers)) refl e
     go true t f = room before (length numbers) t
     go false t f = absurd (true≢false f)
 
--- two numbers with a meaning are two
-pub two_counted : (numbers : List ℕ) → is_malformed_range_and_matrix numbers ≡ false → length numbers ≡ 2
-unfolding is_malformed_range_and_matrix
-two_counted numbers h = go (eqb (length numbers) 2) refl _ h
+-- a range and a matrix are those that two numbers mean
+pub range_and_matrix_some : (numbers : List ℕ) (custom : List Float) {r : YuvRange} {m : YuvStandardMatrix} → range_and_matrix numbers custom ≡ Some (r, m)
+    → (is_malformed_range_and_matrix numbers ≡ false) × (get_or range_codes (at numbers 0) Limited ≡ r) × (matrix_of (at numbers 1) custom ≡ m)
+range_and_matrix_some numbers custom {r} {m} is = go (is_malformed_range_and_matrix numbers) refl is
   where
-    go : (b : Bool) → eqb (length numbers) 2 ≡ b → (x : Bool) → cond b x true ≡ false → length numbers ≡ 2
-    go true e x f = eqb-true (length numbers) 2 e
-    go false e x f = absurd (true≢false f)
+    given : YuvRange × YuvStandardMatrix
+    given = (get_or range_codes (at numbers 0) Limited, matrix_of (at numbers 1) custom)
+
+    go : (b : Bool) → is_malformed_range_and_matrix numbers ≡ b → cond b None (Some given) ≡ Some (r, m)
+        → (is_malformed_range_and_matrix numbers ≡ false) × (given.0 ≡ r) × (given.1 ≡ m)
+    go true t f = absurd (let w : ◌≡◌ {A = ℕ} 0 1 = cc f in omega arith)
+    go false t f = (t, cc f, cc f)
+
+-- and there are none where the numbers are malformed
+pub range_and_matrix_none : (numbers : List ℕ) (custom : List Float) → range_and_matrix numbers custom ≡ None → is_malformed_range_and_matrix numbers ≡ true
+range_and_matrix_none numbers custom is = go (is_malformed_range_and_matrix numbers) refl is
+  where
+    go : (b : Bool) → is_malformed_range_and_matrix numbers ≡ b
+        → cond {A = Option (YuvRange × YuvStandardMatrix)} b None (Some (get_or range_codes (at numbers 0) Limited, matrix_of (at numbers 1) custom)) ≡ None
+        → is_malformed_range_and_matrix numbers ≡ true
+    go true t f = t
+    go false t f = absurd (let w : ◌≡◌ {A = ℕ} 0 1 = cc f in omega arith)
 
 -- a frame is described where the numbers are not malformed
 pub described_ok : (before : ℕ) (numbers : List ℕ) (custom : List Float) {d : FrameDescription} → described before numbers custom ≡ Ok d
@@ -49,7 +67,7 @@ described_ok before numbers custom {d} e = go (is_malformed before numbers) refl
     go : (b : Bool) → is_malformed before numbers ≡ b
         → ◌≡◌ {A = Result FrameDescription YuvError} (cond b (Err MalformedRequest) (Ok (description_of (drop before numbers) custom))) (Ok d)
         → (is_malformed before numbers ≡ false) × (description_of (drop before numbers) custom ≡ d)
-    go true t f = absurd (let w : ◌≡◌ {A = ℕ} 0 1 = cc f in omega arith)
+    go true t f = absurd (cc f)
     go false t f = (t, cc f)
 
 -- and otherwise refusal 1 is answered
@@ -61,4 +79,4 @@ described_err before numbers custom {e} is = go (is_malformed before numbers) re
         → ◌≡◌ {A = Result FrameDescription YuvError} (cond b (Err MalformedRequest) (Ok (description_of (drop before numbers) custom))) (Err e)
         → (is_malformed before numbers ≡ true) × (e ≡ MalformedRequest)
     go true t f = (t, sym (cc f))
-    go false t f = absurd (let w : ◌≡◌ {A = ℕ} 0 1 = cc f in omega arith)
+    go false t f = absurd (cc f)

@@ -2,10 +2,11 @@
 -- The rounding and the window may be left out: then it is Truncated, and the window is the whole source. Where another number is missing or a code has no
 -- meaning, 0 or the first one stands here: refusal 1 is first, so no answer turns on it.
 -- Assumes nothing.
-use Rattle.std.specs.Prelude.{ℕ, ◌+◌, Bool, true, cond, ◌||◌, List, [], ◌∷◌, ltb, leb, eqb, Float, length, get_or, drop, Result, Ok, Err}
+use Rattle.std.specs.Prelude.{ℕ, ◌+◌, Bool, true, cond, ◌||◌, List, [], ◌∷◌, ltb, leb, eqb, Float, length, get_or, drop, Option, Some, None, Result, Ok, Err}
 use Rattle.std.specs.Float.{nan}
 use Rattle.yuv_support.specs.declared.YuvSourceChannels.TheVariants.{Rgb}
 use Rattle.yuv_support.specs.declared.YuvChromaSubsampling.TheVariants.{Yuv420}
+use Rattle.yuv_support.specs.declared.YuvRange.{YuvRange}
 use Rattle.yuv_support.specs.declared.YuvRange.TheVariants.{Limited}
 use Rattle.yuv_support.specs.declared.YuvStandardMatrix.{YuvStandardMatrix}
 use Rattle.yuv_support.specs.declared.YuvStandardMatrix.TheVariants.{Bt601, Custom}
@@ -86,3 +87,8 @@ number_rules before numbers = rule 1 (is_malformed before numbers) 0 0 ∷ []
 -- RULES 10.4: the two numbers of a count of colours are a range and a matrix
 unfoldable pub is_malformed_range_and_matrix : List ℕ → Bool
 is_malformed_range_and_matrix numbers = cond (eqb (length numbers) 2) (leb (length range_codes) (at numbers 0) || ltb custom_code (at numbers 1)) true
+
+-- RULES 10.2, 10.4: nothing where the numbers are malformed
+abbrev pub range_and_matrix : (numbers : List ℕ) → (custom : List Float) → Option (YuvRange × YuvStandardMatrix)
+range_and_matrix numbers custom =
+    cond (is_malformed_range_and_matrix numbers) None (Some (get_or range_codes (at numbers 0) Limited, matrix_of (at numbers 1) custom))

@@ -3,13 +3,15 @@
 // and a caller here makes one call: a struct of both would be made for that call alone.
 #![tactic(auto)]
 
-ghost use Rattle.std.specs.Prelude.{◌≡◌, false, ◌+◌, ◌≤◌, length, get_or, drop, set, OnOk};
+ghost use Rattle.std.specs.Prelude.{◌≡◌, false, cond, ltb, ◌+◌, ◌≤◌, length, get_or, drop, set, OnOk, Some, None};
 ghost use Rattle.yuv_error.specs.Numbers.{numbers_of};
-ghost use Rattle.call_numbers.specs.Codes.{matrix_of, settings_of, window_of, description_of, is_unknown, is_malformed, is_malformed_range_and_matrix, described};
+ghost use Rattle.setting_codes.specs.Codes.{custom_code};
+ghost use Rattle.call_numbers.specs.Codes.{matrix_of, settings_of, window_of, description_of, is_unknown, is_malformed, described, range_and_matrix};
 
 use definitions::{FrameDescription, Window, YuvSettings};
+use sharp_gamma::{SharpYuvGammaTransfer, TableRounding};
 use yuv_error::YuvError;
-use yuv_support::YuvStandardMatrix;
+use yuv_support::{YuvChromaSubsampling, YuvRange, YuvSourceChannels, YuvStandardMatrix};
 
 // The numbers of a description: width, height, channels, sampling, range, matrix, transfer, y_stride, u_stride, v_stride.
 const DESCRIPTION: usize = 10;
@@ -19,10 +21,7 @@ const WITH_ROUNDING: usize = 11;
 
 const WITH_WINDOW: usize = 15;
 
-// The numbers of a count of colours.
-const RANGE_AND_MATRIX: usize = 2;
-
-// The code of a matrix of the caller's own kr and kb; those below it are the named ones.
+// The code of a matrix of the caller's own kr and kb; those below it are the named ones, and those past it have no meaning.
 const CUSTOM: u32 = 6;
 
 // Item i, or another where it is not given.
@@ -39,52 +38,58 @@ pub fn number_at(numbers: &[u32], i: usize) -> u32
     item_or(numbers, i, 0)
 }
 
-// Whether one of a description's codes has no meaning. A test of numbers: `settings_of` takes the first meaning of such a code, since a desk's numbers come
-// to it untested.
+// Whether one of a description's codes has no meaning. It asks and reads nothing: `settings_of` reads the same codes, also for a desk, whose numbers come to
+// it untested and have the first meaning for such a code.
 fn has_unknown(numbers: &[u32]) -> bool
     ensures { result ≡ is_unknown numbers.now }
 {
-    number_at(numbers, 2) >= 4
-        || number_at(numbers, 3) >= 2
-        || number_at(numbers, 4) >= 2
-        || number_at(numbers, 5) > CUSTOM
-        || number_at(numbers, 6) >= 4
-        || number_at(numbers, DESCRIPTION) >= 2
+    YuvSourceChannels::try_from(number_at(numbers, 2)).is_err()
+        || YuvChromaSubsampling::try_from(number_at(numbers, 3)).is_err()
+        || YuvRange::try_from(number_at(numbers, 4)).is_err()
+        || number_at(numbers, 5) > CUSTOM // a number: no `TryFrom` reads 6, which is a matrix by kr and kb
+        || SharpYuvGammaTransfer::try_from(number_at(numbers, 6)).is_err()
+        || TableRounding::try_from(number_at(numbers, DESCRIPTION)).is_err()
 }
 
 // Whether there are not so many numbers and a description, or one of its codes has no meaning.
 #[tactic(auto, unfolding(crate::specs::Codes::is_malformed))]
 pub fn is_malformed(before: usize, numbers: &[u32]) -> bool
-    requires { before ≤ 3 }
     ensures { result ≡ is_malformed before numbers.now }
 {
-    let count = numbers.len();
-    if count == before + DESCRIPTION
-        || count == before + WITH_ROUNDING
-        || count == before + WITH_WINDOW
-    {
-        return has_unknown(&numbers[before..]);
+    match numbers.len().checked_sub(before) {
+        Some(DESCRIPTION | WITH_ROUNDING | WITH_WINDOW) => has_unknown(&numbers[before..]),
+        _ => true,
     }
-    true
 }
 
-// Whether there are not two numbers, or a range or matrix has no meaning. A test of numbers: code 6 is a matrix only by the kr and kb that stand beside the
-// numbers, so no `TryFrom` of a code reads it.
-#[tactic(auto, unfolding(crate::specs::Codes::is_malformed_range_and_matrix))]
-pub fn is_malformed_range_and_matrix(numbers: &[u32]) -> bool
-    ensures { result ≡ is_malformed_range_and_matrix numbers.now }
+// The matrix that a code means; none past Custom's.
+fn matrix_given(code: u32, custom: &[f32; 2]) -> Option<YuvStandardMatrix>
+    ensures { result ≡ cond (ltb custom_code code) None (Some (matrix_of code custom.now)) }
 {
-    numbers.len() != RANGE_AND_MATRIX || numbers[0] >= 2 || numbers[1] > CUSTOM
+    if code == CUSTOM {
+        return Some(YuvStandardMatrix::Custom(custom[0], custom[1]));
+    }
+    YuvStandardMatrix::try_from(code).ok()
 }
 
+// The range and the matrix of a count of colours; none where there are not two numbers, or one has no meaning.
+#[tactic(auto, unfolding(crate::specs::Codes::is_malformed_range_and_matrix))]
+pub fn range_and_matrix(numbers: &[u32], custom: &[f32; 2]) -> Option<(YuvRange, YuvStandardMatrix)>
+    ensures { result ≡ range_and_matrix numbers.now custom.now }
+{
+    let &[range, matrix] = numbers else {
+        return None;
+    };
+    let range = YuvRange::try_from(range).ok()?;
+    let matrix = matrix_given(matrix, custom)?;
+    Some((range, matrix))
+}
+
+// The matrix that a code means, and the first one past Custom's.
 pub fn matrix_of(code: u32, custom: &[f32; 2]) -> YuvStandardMatrix
     ensures { result ≡ matrix_of code custom.now }
 {
-    if code == CUSTOM {
-        YuvStandardMatrix::Custom(custom[0], custom[1])
-    } else {
-        setting_codes::matrix_of(code)
-    }
+    matrix_given(code, custom).unwrap_or(YuvStandardMatrix::Bt601)
 }
 
 #[tactic(auto, unfolding(crate::specs::Codes::settings_of))]
@@ -137,8 +142,9 @@ pub fn describe(numbers: &[u32], custom: &[f32; 2]) -> FrameDescription
 }
 
 // The same where other numbers stand before them.
+#[tactic(auto, using(crate::proofs::Numbers::counted))]
 pub fn describe_after(before: usize, numbers: &[u32], custom: &[f32; 2]) -> FrameDescription
-    requires { (before ≤ 3) × (is_malformed before numbers.now ≡ false) }
+    requires { is_malformed before numbers.now ≡ false }
     ensures { result ≡ description_of (drop before numbers.now) custom.now }
 {
     describe(&numbers[before..], custom)
@@ -151,7 +157,6 @@ pub fn described(
     numbers: &[u32],
     custom: &[f32; 2],
 ) -> Result<FrameDescription, YuvError>
-    requires { before ≤ 3 }
     ensures value { result ≡ described before numbers.now custom.now }
     ensures long { OnOk result (before + 10 ≤ length numbers.now) }
 {
@@ -173,20 +178,21 @@ pub fn tell_answer(answer: Result<(), YuvError>, told: &mut [usize]) -> u32
     numbered.number
 }
 
-// What an opening or a band call has to tell: its answer, and the rows done. By RULES 10.3 C is told these beside a refusal too, so this is no `Result`.
+// What an opening, a band call or a convoy has to tell: its answer, and the rows or frames done. By RULES 10.3 and 10.9 C is told these beside a refusal too,
+// so this is no `Result`.
 #[derive(Clone, Copy, Debug, PartialEq, Eq)]
 pub struct Told {
     pub answer: Result<(), YuvError>,
-    pub done: u32,
+    pub done: usize,
 }
 
-// Tells it: the answer, and then the rows done.
+// Tells it: the answer, and then what is done.
 pub fn tell(t: Told, told: &mut [usize]) -> u32
     requires { 3 ≤ length told.old }
     ensures { (result ≡ (numbers_of t.answer).number)
         × (told.new ≡ set (set (set told.old 0 (numbers_of t.answer).expected) 1 (numbers_of t.answer).received) 2 t.done) }
 {
     let number = tell_answer(t.answer, told);
-    told[2] = t.done as usize;
+    told[2] = t.done;
     number
 }

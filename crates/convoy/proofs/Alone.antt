@@ -64,7 +64,7 @@ module _ (source : List ℕ) where
 
   refused_alone : (fs : List ConvoyFrame) (p : Planes) (a : Result Unit YuvError) (n : ℕ) (q : Planes) → AllIn (sizes_of source p) fs → AllApart fs
       → Run source fs p a n q → (e : YuvError) → a ≡ Err e → (n < length fs) × CallPost (frame_at fs n) source p (Err e) (parts_of (frame_at fs n) p)
-  refused_alone fs p a n q all apart ended e is = absurd (let z : ◌≡◌ {A = ℕ} 0 1 = cc in omega arith)
+  refused_alone fs p a n q all apart ended e is = absurd (cc is)
   refused_alone fs p a n q all apart (stopped {f = f} {e = e'} left post) e is = (
     omega arith,
     subst (CallPost f source p (Err e)) (call_refused f source p e left (subst (λ (x : Result Unit YuvError). CallPost f source p x left) is post))
@@ -81,7 +81,7 @@ module _ (source : List ℕ) where
 
   all_finished : (fs : List ConvoyFrame) (p : Planes) (a : Result Unit YuvError) (n : ℕ) (q : Planes) → Run source fs p a n q → a ≡ Ok tt → n ≡ length fs
   all_finished fs p a n q ended is = refl
-  all_finished fs p a n q (stopped left post) is = absurd (let z : ◌≡◌ {A = ℕ} 0 1 = cc in omega arith)
+  all_finished fs p a n q (stopped left post) is = absurd (cc is)
   all_finished fs p a n q (went_on {f = f} {fs = gs} {n = m} left post run) is = ap suc (all_finished gs (with_parts f p left) a m q run is)
 
   unbegun_kept : (fs : List ConvoyFrame) (p : Planes) (a : Result Unit YuvError) (n : ℕ) (q : Planes) → AllIn (sizes_of source p) fs → AllApart fs

@@ -9,6 +9,7 @@ use native.Mathlib.Omega.{arith}
 use borrow.Author.Tests.{lt-ltb, le-ltb, eqb-false}
 use lib.Dec.{ltb}
 use lib.ListN.{length, get_or}
+use Rattle.std.proofs.lemmas.Bool.{false_from_ne_true}
 use Rattle.std.proofs.lemmas.List.{nil_from_length}
 use Rattle.yuv_error.specs.declared.YuvError.{YuvError}
 use Rattle.yuv_error.specs.declared.Lengths.{Lengths}
@@ -51,11 +52,7 @@ module _ (k : ConvoyCall) (post : ConvoyPost k) where
   is_broken_lem e = (broken_is_exact k.convoy (lengths_of k.source k.before.y k.before.u k.before.v)).0 e
 
   pub not_broken : Whole → is_broken k ≡ false
-  not_broken whole = go (is_broken k) refl
-    where
-      go : (b : Bool) → is_broken k ≡ b → b ≡ false
-      go true e = absurd (whole (is_broken_lem e))
-      go false e = refl
+  not_broken whole = false_from_ne_true (is_broken k) (λ e. whole (is_broken_lem e))
 
   pub alone : Whole → AsAlone k
   alone whole = each_alone k post (not_broken whole)
@@ -205,7 +202,7 @@ module _ (k : ConvoyCall) (post : ConvoyPost k) where
 run_none : (source : List ℕ) (fs : List ConvoyFrame) (p : Planes) (a : Result Unit YuvError) (n : ℕ) (q : Planes) → Run source fs p a n q → fs ≡ [] → q ≡ p
 run_none source fs p a n q ended e = refl
 run_none source fs p a n q (stopped left post) e = refl
-run_none source fs p a n q (went_on left post run) e = absurd (let z : ◌≡◌ {A = ℕ} 0 1 = cc in omega arith)
+run_none source fs p a n q (went_on left post run) e = absurd (cc e)
 
 pub no_frames : (k : ConvoyCall) → ConvoyPost k → length k.convoy ≡ 0
     → (k.result.answer ≡ Ok tt) × (k.result.done ≡ 0) × (k.after ≡ k.before)

@@ -4,7 +4,6 @@ use Prim.Native.Nat.{ℕ, suc}
 use mathlib.Core.Path.{◌≡◌, refl, sym, ap, subst, ◌∙◌}
 use mathlib.Core.Bool.{Bool, true, false}
 use mathlib.Core.List.{List}
-use native.Mathlib.Omega.{arith}
 use Rattle.yuv_error.specs.declared.YuvError.{YuvError}
 use Rattle.sharp_rgba_to_yuv.specs.FrameCall.{frame_call}
 use Rattle.sharp_rgba_to_yuv.proofs.SameFrames.{alpha_and_padding}
@@ -36,9 +35,9 @@ pub one_Run : (source : List ℕ) (fs : List ConvoyFrame) (p : Planes) (a : Resu
 one_Run source fs p a n q b m r ended ended = (refl, refl, refl)
 one_Run source fs p a n q b m r (stopped {f = f} left post) (stopped left' post') = ((call_one f source p a left b left' post post').0, refl, refl)
 one_Run source fs p a n q b m r (stopped {f = f} left post) (went_on left' post' run') =
-    absurd (let is = (call_one f source p a left (Ok tt) left' post post').0 in let z : ◌≡◌ {A = ℕ} 0 1 = cc in omega arith)
+    absurd (cc (call_one f source p a left (Ok tt) left' post post').0)
 one_Run source fs p a n q b m r (went_on {f = f} left post run) (stopped left' post') =
-    absurd (let is = (call_one f source p (Ok tt) left b left' post post').0 in let z : ◌≡◌ {A = ℕ} 0 1 = cc in omega arith)
+    absurd (cc (call_one f source p (Ok tt) left b left' post post').0)
 one_Run source fs p a n q b m r (went_on {f = f} {fs = gs} {n = i} left post run) (went_on {n = j} left' post' run') =
     let is = (call_one f source p (Ok tt) left (Ok tt) left' post post').1 in
     let same = one_Run source gs (with_parts f p left) a i q b j r run

@@ -58,13 +58,13 @@ module _ (source : List ℕ) (c : List ConvoyFrame) (k : ℕ) (p₀ p : Planes) 
   }
 
   pub walked_stop : k < length c → (a : Result Unit YuvError) (q : Planes) (e : YuvError) → Called (frame_at c k) source p a q → a ≡ Err e
-      → Run source c p₀ (Err e) k q
-  walked_stop l a q e called is =
+      → {j : ℕ} → j ≡ k → Run source c p₀ (Err e) j q
+  walked_stop l a q e called is {j} place =
       let f = frame_at c k in
       let refused = subst (λ (x : Result Unit YuvError). Called f source p x q) is called in
       let r = here l (Err e) 0 p (stopped refused.left refused.call) in
-      subst (λ (s : Planes). Run source c p₀ (Err e) k s) (sym (refused_same f source p e q refused))
-      (subst (λ (m : ℕ). Run source c p₀ (Err e) m p) (let z : k + 0 ≡ k = omega arith in z) r)
+      subst (λ (s : Planes). Run source c p₀ (Err e) j s) (sym (refused_same f source p e q refused))
+      (subst (λ (m : ℕ). Run source c p₀ (Err e) m p) (let z : k + 0 ≡ j = omega (arith, place) in z) r)
 
   pub walked_end : length c ≤ k → Run source c p₀ (Ok tt) (length c) p
   walked_end l =

@@ -11,7 +11,8 @@ use convoy_parts::ConvoyFrame;
 use yuv_error::{Lengths, YuvError};
 
 // What a convoy is answered: how many frames are finished, which is the place from 0 of the one that was refused, and its refusal. By RULES 15.3 and 10.9
-// how many are finished is told beside a refusal too, so this is no `Result`. `Told` of `call_numbers` has the rows of one frame in its place.
+// how many are finished is told beside a refusal too, so this is no `Result`. `Told` of `call_numbers` has the same fields, and is what C is told, of rows or of
+// frames: this crate knows nothing of C's numbers, and `tell_convoy` of `convoy_calls` makes the one of the other.
 #[derive(Clone, Copy, Debug, PartialEq, Eq)]
 pub struct ConvoyAnswer {
     pub answer: Result<(), YuvError>,
@@ -20,6 +21,7 @@ pub struct ConvoyAnswer {
 
 // The single call of a frame, on its parts of the buffers. They are sliced here: a method of `BufferPart` that answered a part lent by `&mut` would need a
 // contract on what comes back, which the slice expression has.
+#[tactic(auto, using(crate::proofs::Calls::unmade))]
 fn convert_frame(
     frame: ConvoyFrame,
     source: &[u8],
@@ -60,14 +62,11 @@ fn convert_frames(
 {
     for (done, frame) in frames.iter().enumerate() {
         // no `?`: what is returned is no `Result`
-        match convert_frame(*frame, source, y, u, v) {
-            Ok(()) => {}
-            Err(refusal) => {
-                return ConvoyAnswer {
-                    answer: Err(refusal),
-                    done,
-                };
-            }
+        if let Err(refusal) = convert_frame(*frame, source, y, u, v) {
+            return ConvoyAnswer {
+                answer: Err(refusal),
+                done,
+            };
         }
     }
     ConvoyAnswer {

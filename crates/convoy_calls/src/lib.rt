@@ -10,6 +10,7 @@ ghost use Rattle.convoy_calls.specs.Numbers.{custom_at, part_at, described_of, f
 ghost use Rattle.convoy_calls.specs.Calls.{exported_convoy, ConvoyKept};
 
 use buffer_parts::BufferPart;
+use call_numbers::Told;
 use convoy::ConvoyAnswer;
 use convoy_parts::{ConvoyFrame, MAX_FRAMES};
 use definitions::FrameDescription;
@@ -138,9 +139,11 @@ fn tell_convoy(answered: ConvoyAnswer, told: &mut [usize; 3]) -> u32
     ensures number { result ≡ (numbers_of answered.answer).number }
     ensures told { told.new ≡ (numbers_of answered.answer).expected ∷ (numbers_of answered.answer).received ∷ answered.done ∷ [] }
 {
-    let number = call_numbers::tell_answer(answered.answer, told);
-    told[2] = answered.done;
-    number
+    let of_convoy = Told {
+        answer: answered.answer,
+        done: answered.done,
+    };
+    call_numbers::tell(of_convoy, told)
 }
 
 // Converts a convoy of frames (0), or answers the number of one refusal: 18 before any frame is begun, else that of the first frame that is refused,

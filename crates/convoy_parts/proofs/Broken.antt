@@ -1,7 +1,7 @@
 -- The test of refusal 18 says yes exactly where the convoy is broken, and what is known where it says no.
 -- Assumes nothing.
 use Prim.Native.Nat.{ℕ, zero, suc, ◌≤◌, ◌<◌}
-use mathlib.Core.Path.{◌≡◌, refl, sym, ap, ◌∙◌}
+use mathlib.Core.Path.{◌≡◌, refl, sym, ap}
 use mathlib.Core.Bool.{Bool, true, false, not, ◌||◌, true≢false}
 use mathlib.Core.List.{List, [], ◌∷◌}
 use mathlib.Core.Logic.{◌⊎◌, inl, inr}
@@ -10,7 +10,7 @@ use borrow.Author.Tests.{ltb-true, ltb-false, lt-ltb, not-true}
 use lib.Dec.{ltb}
 use lib.ListN.{length}
 use Rattle.std.specs.List.{list_any}
-use Rattle.std.proofs.lemmas.Bool.{or_left, or_right, or_parts, false_from_ne_true}
+use Rattle.std.proofs.lemmas.Bool.{or_left, or_right, or_parts, or_cases, both_ways, false_from_ne_true}
 use Rattle.yuv_error.specs.declared.Lengths.{Lengths}
 use Rattle.buffer_parts.specs.declared.BufferPart.{BufferPart}
 use Rattle.buffer_parts.specs.Parts.{Inside, is_inside, are_overlapping}
@@ -19,38 +19,28 @@ use Rattle.convoy_parts.specs.declared.ConvoyFrame.{ConvoyFrame}
 use Rattle.convoy_parts.specs.Parts.{frame_at, FrameOutside, FramesOverlap, Broken, too_many, outside, overlapping}
 use Rattle.convoy_parts.specs.Parts.{is_frame_outside, do_frames_overlap, any_outside, any_overlap, broken_parts, BrokenIsExact}
 
--- ---- tests joined by or
-
-or-true : (a b : Bool) → a || b ≡ true → (a ≡ true) ⊎ (b ≡ true)
-or-true true b e = inl refl
-or-true false b e = inr e
-
--- what is not so where a test that it would pass says no
-no : {a : Bool} → a ≡ false → (a ≡ true → ⊥)
-no e t = true≢false (sym t ∙ e)
-
 -- ---- of one frame, and of two
 
 not-Inside : (p : BufferPart) (n : ℕ) → not (is_inside p n) ≡ true → Inside p n → ⊥
-not-Inside p n e i = no (not-true (is_inside p n) e) ((tests_are_exact.inside p n).1 i)
+not-Inside p n e i = both_ways _ (not-true (is_inside p n) e) ((tests_are_exact.inside p n).1 i)
 
 is_not-Inside : (p : BufferPart) (n : ℕ) → (Inside p n → ⊥) → not (is_inside p n) ≡ true
 is_not-Inside p n f = ap not (false_from_ne_true (is_inside p n) (λ e. f ((tests_are_exact.inside p n).0 e)))
 
 outside_yes : (f : ConvoyFrame) (n : Lengths) → is_frame_outside f n ≡ true → FrameOutside f n
-outside_yes f n e = go (or-true _ (not (is_inside f.v n.v)) e)
+outside_yes f n e = go (or_cases _ (not (is_inside f.v n.v)) e)
   where
     last : (not (is_inside f.source n.source) ≡ true) ⊎ (not (is_inside f.y n.y) ≡ true) → FrameOutside f n
     last (inl e) = inl (not-Inside f.source n.source e)
     last (inr e) = inr (inl (not-Inside f.y n.y e))
 
     more : (not (is_inside f.source n.source) || not (is_inside f.y n.y) ≡ true) ⊎ (not (is_inside f.u n.u) ≡ true) → FrameOutside f n
-    more (inl e) = last (or-true (not (is_inside f.source n.source)) (not (is_inside f.y n.y)) e)
+    more (inl e) = last (or_cases (not (is_inside f.source n.source)) (not (is_inside f.y n.y)) e)
     more (inr e) = inr (inr (inl (not-Inside f.u n.u e)))
 
     go : (not (is_inside f.source n.source) || not (is_inside f.y n.y) || not (is_inside f.u n.u) ≡ true)
         ⊎ (not (is_inside f.v n.v) ≡ true) → FrameOutside f n
-    go (inl e) = more (or-true (not (is_inside f.source n.source) || not (is_inside f.y n.y)) (not (is_inside f.u n.u)) e)
+    go (inl e) = more (or_cases (not (is_inside f.source n.source) || not (is_inside f.y n.y)) (not (is_inside f.u n.u)) e)
     go (inr e) = inr (inr (inr (not-Inside f.v n.v e)))
 
 outside_found : (f : ConvoyFrame) (n : Lengths) → FrameOutside f n → is_frame_outside f n ≡ true
@@ -64,14 +54,14 @@ outside_found f n (inr (inr (inr x))) =
     (is_not-Inside f.v n.v x)
 
 Overlap-yes : (f g : ConvoyFrame) → do_frames_overlap f g ≡ true → FramesOverlap f g
-Overlap-yes f g e = go (or-true _ (are_overlapping f.v g.v) e)
+Overlap-yes f g e = go (or_cases _ (are_overlapping f.v g.v) e)
   where
     more : (are_overlapping f.y g.y ≡ true) ⊎ (are_overlapping f.u g.u ≡ true) → FramesOverlap f g
     more (inl e) = inl ((tests_are_exact.overlap f.y g.y).0 e)
     more (inr e) = inr (inl ((tests_are_exact.overlap f.u g.u).0 e))
 
     go : (are_overlapping f.y g.y || are_overlapping f.u g.u ≡ true) ⊎ (are_overlapping f.v g.v ≡ true) → FramesOverlap f g
-    go (inl e) = more (or-true (are_overlapping f.y g.y) (are_overlapping f.u g.u) e)
+    go (inl e) = more (or_cases (are_overlapping f.y g.y) (are_overlapping f.u g.u) e)
     go (inr e) = inr (inr ((tests_are_exact.overlap f.v g.v).0 e))
 
 Overlap-found : (f g : ConvoyFrame) → FramesOverlap f g → do_frames_overlap f g ≡ true
@@ -90,7 +80,7 @@ record Passes (test : ConvoyFrame → Bool) (c : List ConvoyFrame) : Type 0 wher
 
 any_found : (test : ConvoyFrame → Bool) (c : List ConvoyFrame) → list_any test c ≡ true → Passes test c
 any_found test [] e = absurd (true≢false (sym e))
-any_found test (f ∷ fs) e = go (or-true (test f) (list_any test fs) e) (any_found test fs)
+any_found test (f ∷ fs) e = go (or_cases (test f) (list_any test fs) e) (any_found test fs)
   where
     go : (test f ≡ true) ⊎ (list_any test fs ≡ true) → (list_any test fs ≡ true → Passes test fs) → Passes test (f ∷ fs)
     go (inl e) later = record { place = 0; below = omega arith; passes = e }
@@ -111,7 +101,7 @@ record Two (c : List ConvoyFrame) : Type 0 where
 
 Two-found : (c : List ConvoyFrame) → any_overlap c ≡ true → Two c
 Two-found [] e = absurd (true≢false (sym e))
-Two-found (f ∷ fs) e = go (or-true (list_any (do_frames_overlap f) fs) (any_overlap fs) e) (Two-found fs)
+Two-found (f ∷ fs) e = go (or_cases (list_any (do_frames_overlap f) fs) (any_overlap fs) e) (Two-found fs)
   where
     go : (list_any (do_frames_overlap f) fs ≡ true) ⊎ (any_overlap fs ≡ true) → (any_overlap fs ≡ true → Two fs) → Two (f ∷ fs)
     go (inl e) later =
@@ -139,7 +129,7 @@ two_one (f ∷ fs) (suc i) (suc j) order l e =
 module _ (c : List ConvoyFrame) (n : Lengths) where
   Broken-yes : broken_parts c n ≡ true → Broken c n
   unfolding broken_parts
-  Broken-yes e = go (or-true (ltb 64 (length c)) (any_outside n c || any_overlap c) e)
+  Broken-yes e = go (or_cases (ltb 64 (length c)) (any_outside n c || any_overlap c) e)
     where
       more : (any_outside n c ≡ true) ⊎ (any_overlap c ≡ true) → Broken c n
       more (inl e) =
@@ -151,7 +141,7 @@ module _ (c : List ConvoyFrame) (n : Lengths) where
 
       go : (ltb 64 (length c) ≡ true) ⊎ (any_outside n c || any_overlap c ≡ true) → Broken c n
       go (inl e) = too_many (ltb-true 64 (length c) e)
-      go (inr e) = more (or-true (any_outside n c) (any_overlap c) e)
+      go (inr e) = more (or_cases (any_outside n c) (any_overlap c) e)
 
   Broken-found : Broken c n → broken_parts c n ≡ true
   unfolding broken_parts
@@ -176,8 +166,8 @@ pub unbroken : (c : List ConvoyFrame) (n : Lengths) → broken_parts c n ≡ fal
 unfolding broken_parts
 unbroken c n e = record {
   few = ltb-false 64 (length c) (or_parts (ltb 64 (length c)) (any_outside n c || any_overlap c) e).0;
-  inside = λ k l x. no e (Broken-found c n (outside k l x));
-  apart = λ j k l m x. no e (Broken-found c n (overlapping j k l m x));
+  inside = λ k l x. both_ways _ e (Broken-found c n (outside k l x));
+  apart = λ j k l m x. both_ways _ e (Broken-found c n (overlapping j k l m x));
 }
 
 -- a part that is not outside is inside
@@ -186,4 +176,4 @@ is_Inside p n f = go (is_inside p n) refl
   where
     go : (b : Bool) → is_inside p n ≡ b → Inside p n
     go true e = (tests_are_exact.inside p n).0 e
-    go false e = absurd (f (λ i. no e ((tests_are_exact.inside p n).1 i)))
+    go false e = absurd (f (λ i. both_ways _ e ((tests_are_exact.inside p n).1 i)))

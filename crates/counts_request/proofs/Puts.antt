@@ -35,10 +35,6 @@ sets-Puts {t} {o} {q} {a} {b} room is end = record {
 pub PutsInto-more : {s e : List ℕ} {old mid new : Text} → old.at ≤ length old.output.now → PutsInto s old mid → PutsInto e mid new → PutsInto (s ++ e) old new
 PutsInto-more l f g = record { size = g.size ∙ f.size; loan = g.loan ∙ f.loan; puts = Puts-more l f.puts g.puts }
 
--- and of a text by another name
-pub PutsInto-as : {s t : List ℕ} {old new : Text} → s ≡ t → PutsInto s old new → PutsInto t old new
-PutsInto-as same p = rw (← same) p
-
 -- a text at the start of a list
 pub Begins-first : {text o q : List ℕ} {n : ℕ} → n ≡ length text → q ≡ text ++ drop n o → Begins text o n q
 Begins-first {text} {o} {q} {n} size is = rw zero-add at (Begins-more [] text o o q 0 n refl (sym size) refl is)

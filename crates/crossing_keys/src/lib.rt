@@ -20,7 +20,7 @@ pub fn write_keys(file: &ShiftFile, keys: &mut [Key])
     ensures { map number_of keys.new ≡ sorted (keys_from 0 (crossings_of (records_in file.now.form file.now.bytes.now))) }
 {
     for place in 0..keys.len() {
-        let entry = file.entry(place);
+        let entry = file.record(place).entry();
         keys[place] = Key::new(entry.crossing, place);
     }
     keys.sort_unstable();

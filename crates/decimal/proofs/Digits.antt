@@ -18,11 +18,8 @@ module _ (n : ℕ) where
   pub one_digit : n < 10 → length (decimal n) ≡ 1
   one_digit l = ap length (decimal_digit n l)
 
-  more_digits : 10 ≤ n → n < 2 ^ 64 → decimal n ≡ decimal (n / 10) ++ ((48 + n % 10) ∷ [])
-  more_digits l h = decimal_step n l h
-
   pub longer : 10 ≤ n → n < 2 ^ 64 → length (decimal n) ≡ length (decimal (n / 10)) + 1
-  longer l h = ap length (more_digits l h) ∙ length-append (decimal (n / 10)) ((48 + n % 10) ∷ [])
+  longer l h = ap length (decimal_step n l h) ∙ length-append (decimal (n / 10)) ((48 + n % 10) ∷ [])
 
   -- one digit is put
   pub put_one : (d : List ℕ) (at : ℕ) → n < 10 → set d at (48 + n) ≡ sets d at (decimal n)
@@ -31,4 +28,4 @@ module _ (n : ℕ) where
   -- the last is put behind those of a tenth
   pub put_more : (d e : List ℕ) (at last : ℕ) → 10 ≤ n → n < 2 ^ 64 → e ≡ sets d at (decimal (n / 10)) → last ≡ at + length (decimal (n / 10))
       → set e last (48 + n % 10) ≡ sets d at (decimal n)
-  put_more d e at last l h is place = rw (is, place, more_digits l h) (sym (sets_last (decimal (n / 10)) d at (48 + n % 10)))
+  put_more d e at last l h is place = rw (is, place, decimal_step n l h) (sym (sets_last (decimal (n / 10)) d at (48 + n % 10)))

@@ -11,7 +11,7 @@ use lib.Dec.{ltb, eqb}
 use lib.ListN.{length, get_or, take, drop}
 use lib.Seq.{take_at, drop_at}
 use borrow.Author.Tests.{ltb-true, lt-ltb, le-ltb, eqb-true, eq-eqb}
-use Rattle.std.proofs.lemmas.Bool.{and_from, and_parts}
+use Rattle.std.proofs.lemmas.Bool.{and_from, and_parts, false_from_ne_true}
 use Rattle.std.specs.Prelude.{Result, Ok}
 use Rattle.yuv_error.specs.Numbers.{Numbers, numbers, numbers_of}
 use Rattle.yuv_error.proofs.Numbers.{is_finished}
@@ -106,11 +106,7 @@ all_plain (r ∷ rs) e zero h = (plain_means r).0 (and_parts (is_plain r.setting
 all_plain (r ∷ rs) e (suc i) h = all_plain rs (and_parts (is_plain r.settings) (are_plain rs) e).1 i (omega arith)
 
 not_plain : (rs : List ShiftRecord) → SomeRecorded rs → are_plain rs ≡ false
-not_plain rs q = go (are_plain rs) refl
-  where
-    go : (t : Bool) → are_plain rs ≡ t → t ≡ false
-    go true e = absurd (q.2 (all_plain rs e q.0 q.1))
-    go false e = refl
+not_plain rs q = false_from_ne_true (are_plain rs) (λ e. q.2 (all_plain rs e q.0 q.1))
 
 -- ---- what is written
 
@@ -159,15 +155,11 @@ module _ (from : ShiftForm) (file before : List ℕ) (r : Result ℕ NotWritten)
 -- ---- a file of one form is none of the other
 
 none_of_other : (form : ShiftForm) (file : List ℕ) → is_file form file ≡ true → is_file (other_form form) file ≡ false
-none_of_other form file e = go (is_file (other_form form) file) refl
+none_of_other form file e = false_from_ne_true (is_file (other_form form) file) (never form e)
   where
     never : (form : ShiftForm) → is_file form file ≡ true → is_file (other_form form) file ≡ true → ⊥
     never WithoutSettings e f = one_form file f e
     never WithSettings e f = one_form file e f
-
-    go : (t : Bool) → is_file (other_form form) file ≡ t → t ≡ false
-    go true f = absurd (never form e f)
-    go false f = refl
 
 pub shift_moves : ShiftMoves
 shift_moves = record {

@@ -48,7 +48,8 @@ use Rattle.demands.specs.Demands.{WholeRows, NoY4m, Y4mTold, ShapeAllowed, Pictu
 use Rattle.demands.specs.Demands.{PictureCall, PictureWritten, AllWritten, bytes_written, planes_given, PictureOfFrame, PlaneBytes, Y4mFiles}
 use Rattle.demands.proofs.Demands as frames
 use Rattle.demands.proofs.ShiftFiles.{side, plane_record, sampling_code_lem}
-use Rattle.demands.proofs.Y4mParts.{names, entry_at, length_entries}
+use Rattle.y4m_reader.proofs.Entries.{length_entries}
+use Rattle.demands.proofs.Y4mParts.{names, entry_at}
 
 -- ---- 19 by a test that says whether there is something
 

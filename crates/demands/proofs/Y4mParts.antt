@@ -4,11 +4,12 @@ use mathlib.Core.Path.{◌≡◌, refl, sym, ap, ◌∙◌}
 use mathlib.Core.List.{List, [], ◌∷◌, ◌++◌, append_assoc}
 use native.Mathlib.Nat.{add-zero}
 use native.Mathlib.Omega.{arith}
-use lib.ListN.{length, get_or, take, drop}
+use lib.ListN.{length, take, drop}
 use lib.Seq.{take_at, drop_at, drop-drop, drop-append-add}
 use Rattle.y4m_line.specs.Line.{line_of, magic, frame}
 use Rattle.y4m_file.specs.File.{Y4mPicture, Y4mFile, picture_bytes, pictures_bytes, file_bytes}
-use Rattle.y4m_reader.specs.Entry.{no_picture, picture_of, offset_of, entry_of, entries_of}
+use Rattle.y4m_reader.specs.Entry.{picture_of, offset_of, entry_of, entries_of}
+use Rattle.y4m_reader.proofs.Places.{bytes_at}
 use Rattle.demands.specs.Demands.{NamesPlanes}
 
 -- the pictures before one, and those from it on
@@ -17,14 +18,6 @@ unfolding pictures_bytes
 parted zero ps = refl
 parted (suc k) [] = refl
 parted (suc k) (p ∷ ps) = rw (parted k ps) (sym (append_assoc (picture_bytes p) (pictures_bytes (take k ps)) (pictures_bytes (drop k ps))))
-
--- it stands first among these
-stands_first : (k : ℕ) (ps : List Y4mPicture) → k < length ps
-    → pictures_bytes (drop k ps) ≡ picture_bytes (get_or ps k no_picture) ++ pictures_bytes (drop (suc k) ps)
-unfolding pictures_bytes
-stands_first k [] h = absurd (omega arith)
-stands_first zero (p ∷ ps) h = refl
-stands_first (suc k) (p ∷ ps) h = stands_first k ps (omega arith)
 
 module _ (f : Y4mFile) (k : ℕ) (h : k < length f.pictures) where
   abbrev p : Y4mPicture
@@ -43,7 +36,7 @@ module _ (f : Y4mFile) (k : ℕ) (h : k < length f.pictures) where
       drop-append-add (line_of magic f.tags) (pictures_bytes f.pictures) (length before)
       ∙ ap (drop (length before)) (parted k f.pictures)
       ∙ drop_at before (pictures_bytes (drop k f.pictures)) _ refl
-      ∙ stands_first k f.pictures h
+      ∙ bytes_at k f.pictures h
 
   from_y : drop (offset_of f k + length line) (file_bytes f) ≡ p.y ++ (p.u ++ (p.v ++ more))
   unfolding picture_bytes
@@ -88,8 +81,3 @@ entry_at f (suc n) k (suc i) rest h =
       later.0,
       rw past (drop-append-add (entry_of (offset_of f k) (picture_of f k)) (entries_of f (k + 1) n ++ rest) (6 * i) ∙ rw place at later.1),
     )
-
-pub length_entries : (f : Y4mFile) (k n : ℕ) → length (entries_of f k n) ≡ 6 * n
-unfolding entries_of
-length_entries f k zero = refl
-length_entries f k (suc n) = omega (arith, length_entries f (k + 1) n)

@@ -30,6 +30,9 @@ pub struct Served {
     pub answer: Result<(), YuvError>,
 }
 
+// That a camera is below 32 stands in seven contracts, here and in crates `desk_numbers`, `desk_calls` and `desk_steps`, and on no type: C gives any number for
+// one, refusal 21 is an answer of its calls, and a desk that C kept has any number for who is asked first. So each says it of a number that its caller keeps.
+
 // Refusals 21 and 23 of an opening. This and the next are public for callers that have a refusal of their own before 2. A check and no conversion:
 // the match asks what stands at a number.
 pub fn check_number(places: [Slot; 32], camera: u32) -> Result<(), YuvError>

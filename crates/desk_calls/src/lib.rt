@@ -6,7 +6,7 @@ ghost use Rattle.std.specs.Prelude.{◌≡◌, ◌<◌, OnOk};
 ghost use Rattle.desk.specs.DeskCall.{desk_answer};
 ghost use Rattle.desk_numbers.specs.Numbers.{desk_numbers};
 ghost use Rattle.desk_numbers.specs.Lent.{numbers_in, Leaves};
-ghost use Rattle.desk_calls.specs.Calls.{place_left, parts_of, lengths_of, DescribedOpen, exported_desk_open, DeskOpenKept};
+ghost use Rattle.desk_calls.specs.Calls.{place_left, lengths_of, DescribedOpen, exported_desk_open, DeskOpenKept};
 ghost use Rattle.desk_calls.specs.Calls.{exported_desk_offer, DeskOfferKept};
 
 use desk::Desk;
@@ -27,17 +27,7 @@ fn put_answer(camera: u32, desk: Desk, answer: Result<(), YuvError>, lent: &mut 
 
 // ---- the calls
 
-fn parts_of(parts: &[u64; 8]) -> FrameParts
-    ensures { result ≡ parts_of parts.now }
-{
-    FrameParts {
-        y: convoy_calls::part_at(parts, 0),
-        u: convoy_calls::part_at(parts, 2),
-        v: convoy_calls::part_at(parts, 4),
-        carried: convoy_calls::part_at(parts, 6),
-    }
-}
-
+// No `From`: an array and the struct are of other crates.
 fn lengths_of(lengths: &[u64; 4]) -> BufferLengths
     ensures { result ≡ lengths_of lengths.now }
 {
@@ -49,7 +39,8 @@ fn lengths_of(lengths: &[u64; 4]) -> BufferLengths
     }
 }
 
-// Opens the frame that the numbers describe; 1, where they have no meaning, stands before 2.
+// Opens the frame that the numbers describe; 1, where they have no meaning, stands before 2. The parameters are those of `Desk::open`, with a description's
+// numbers and kr and kb for its frame: a struct of them would be made for this call alone.
 fn open_described(
     desk: &mut Desk,
     camera: u32,
@@ -98,7 +89,7 @@ pub fn call_desk_open(
         camera,
         described,
         custom,
-        parts_of(frame_parts),
+        desk_numbers::parts_at(frame_parts, 0),
         lengths_of(lengths),
     );
     put_answer(camera, desk, answer, &mut lent);

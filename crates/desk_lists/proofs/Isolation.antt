@@ -19,7 +19,7 @@ use Rattle.desk_places.specs.Places.{is_open, next_waiting, after_band, its_turn
 use Rattle.desk_bands.specs.Buffers.{are_lent, planes_in, Converted, Outside, IfLent}
 use Rattle.desk.specs.declared.Desk.{Desk}
 use Rattle.desk.specs.declared.Served.{Served}
-use Rattle.desk.specs.DeskCall.{fresh, slot_at, OpenCall, opened_frame, OpenPost, OfferCall, OfferPost, StepCall, BandServed, Stepped}
+use Rattle.desk.specs.DeskCall.{fresh, slot_at, OpenCall, OpenPost, OfferCall, OfferPost, StepCall, BandServed, Stepped}
 use Rattle.desk_lists.specs.DeskLists.{DeskCall, opening, offering, step, AllMet, HandedOn, desk_after, tells}
 use Rattle.desk_lists.specs.Isolation.{LastStep, no_step, last_step, last_of, PlanesBack, SameBand, BandsBack, source_after, AsLeft}
 use Rattle.desk_lists.specs.Isolation.{OwnBand, own_band}
@@ -97,7 +97,6 @@ open_Good : (c : ℕ) (h : History) (source : List ℕ) (l : LastStep) (k : Open
     → Good c (noted c (opening k) h) k.result.desk source l
 open_Good c h source l k good post =
     let e = open_Changed k good.whole post in
-    let new : Slot = Idle (opened_frame k.frame k.parts) in
     record {
       whole = e.whole;
       apart = open_Apart k good.whole good.apart post;

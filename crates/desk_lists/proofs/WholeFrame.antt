@@ -3,7 +3,7 @@
 -- Assumes nothing.
 use Prim.Native.Nat.{ℕ, zero, suc, ◌+◌, min, max}
 use mathlib.Core.Path.{◌≡◌, refl, sym, ap, subst, ◌∙◌}
-use mathlib.Core.Bool.{Bool, true, false, cond, ◌||◌}
+use mathlib.Core.Bool.{Bool, true, false, cond, or-true}
 use mathlib.Core.List.{List, [], ◌∷◌, ◌++◌}
 use native.Mathlib.Omega.{arith}
 use native.Mathlib.Numerals.{add-one}
@@ -78,10 +78,6 @@ pub record FrameDone (d : FrameDescription) (w : FrameParts) : Type 0 where
   pub history : history_of 7 no_frame calls ≡ since d w turned bands
   pub rows : (tally_of d no_rows (calls_of turned)).n ≡ d.height
   pub view : in_view 7 (slot_at (desk_after fresh calls) 7) (last_of no_step calls) ≡ true
-
-in_view_lem : (t : Bool) → t || true ≡ true
-in_view_lem true = refl
-in_view_lem false = refl
 
 -- ---- camera 4 has a frame that takes no bytes; camera 7 opens, offers all its rows, and is served
 
@@ -186,5 +182,5 @@ module _ (d : FrameDescription) (stride : ℕ) (p : Buffers)
     bands = own_band b p.source ∷ [];
     history = history;
     rows = rw accepted (omega arith);
-    view = in_view_lem (is_open (slot_at (served_desk d₃ 7 f c.call.state) 7));
+    view = or-true (is_open (slot_at (served_desk d₃ 7 f c.call.state) 7));
   }

@@ -37,6 +37,10 @@ of_camera many xs k = take many (drop (many * k) xs)
 abbrev pub with_camera : {A : Type 0} → (many : ℕ) → List A → (k : ℕ) → List A → List A
 with_camera many xs k ys = take (many * k) xs ++ (ys ++ drop (many * k + many) xs)
 
+-- RULES 10.10: offset and length of Y, of U, of V and of the carried row, from number `from` on
+abbrev pub parts_at : (parts : List ℕ) (from : ℕ) → FrameParts
+parts_at parts from = record { y = part_at parts from; u = part_at parts (from + 2); v = part_at parts (from + 4); carried = part_at parts (from + 6) }
+
 -- ---- what a place's numbers mean
 
 -- RULES 10.10: the rows done, and a description with rounding and window; the parts of Y, U, V and the carried row

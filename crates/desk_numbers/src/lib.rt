@@ -3,7 +3,7 @@
 
 ghost use Rattle.std.specs.Prelude.{◌≡◌, ◌+◌, ◌*◌, ◌≤◌, ◌<◌, length};
 ghost use Rattle.desk_numbers.specs.Numbers.{desk_numbers, of_camera, with_camera, frame_of, band_of, place_of, desk_of, state_numbers};
-ghost use Rattle.desk_numbers.specs.Numbers.{matrix_customs, part_numbers, put_place, ask_first};
+ghost use Rattle.desk_numbers.specs.Numbers.{matrix_customs, parts_at, part_numbers, put_place, ask_first};
 ghost use Rattle.desk_numbers.specs.Lent.{numbers_in, Leaves};
 
 use band_calls::FrameState;
@@ -24,7 +24,8 @@ const OF_PLACE: usize = 4;
 // Where the camera stands that is asked first.
 const ASKED_FIRST: usize = 608;
 
-// Camera k's part of an array in which each has N.
+// Camera k's part of an array in which each has N. `array_at` of `little_endian` is this for bytes, of which a desk has none, and its place would be N * k at
+// each call.
 fn of_camera<T: Copy, const N: usize>(numbers: &[T], k: usize) -> [T; N]
     requires { N * k + N ≤ length numbers.now }
     ensures { result ≡ of_camera N numbers.now k }
@@ -40,6 +41,19 @@ fn put_camera<T: Copy, const N: usize>(numbers: &mut [T], k: usize, values: [T; 
 {
     let at = N * k;
     numbers[at..at + N].copy_from_slice(&values);
+}
+
+// The parts of Y, U, V and the carried row, from number `at` on. No `From`: a slice with a place, and a struct of another crate.
+pub fn parts_at(parts: &[u64], at: usize) -> FrameParts
+    requires { at ≤ 506 }
+    ensures { result ≡ parts_at parts.now at }
+{
+    FrameParts {
+        y: convoy_calls::part_at(parts, at),
+        u: convoy_calls::part_at(parts, at + 2),
+        v: convoy_calls::part_at(parts, at + 4),
+        carried: convoy_calls::part_at(parts, at + 6),
+    }
 }
 
 // ---- a camera's place, as numbers and as a slot
@@ -61,12 +75,7 @@ impl PlaceNumbers {
                 frame: call_numbers::describe(&self.numbers[OF_PLACE..], &self.customs),
                 done: self.numbers[1],
             },
-            parts: FrameParts {
-                y: convoy_calls::part_at(&self.parts, 2),
-                u: convoy_calls::part_at(&self.parts, 4),
-                v: convoy_calls::part_at(&self.parts, 6),
-                carried: convoy_calls::part_at(&self.parts, 8),
-            },
+            parts: parts_at(&self.parts, 2),
         }
     }
 
@@ -139,15 +148,15 @@ fn state_numbers(kind: u32, rows: u32, stride: u32, state: FrameState) -> [u32; 
         stride,
         frame.width,
         frame.height,
-        setting_codes::channels_code(settings.channels),
-        setting_codes::sampling_code(settings.sampling),
-        setting_codes::range_code(settings.range),
-        setting_codes::matrix_code(settings.matrix),
-        setting_codes::transfer_code(settings.transfer),
+        u32::from(settings.channels),
+        u32::from(settings.sampling),
+        u32::from(settings.range),
+        u32::from(settings.matrix),
+        u32::from(settings.transfer),
         frame.y_stride,
         frame.u_stride,
         frame.v_stride,
-        setting_codes::rounding_code(settings.rounding),
+        u32::from(settings.rounding),
         window.left,
         window.top,
         window.source_width,
@@ -183,6 +192,8 @@ fn part_numbers(source: BufferPart, parts: FrameParts) -> [u64; 10]
 
 // ---- the desk in the three arrays
 
+// Here and in `desk_of` the arrays are three parameters, as C lends them: a `LentDesk` holds them to be written, and a caller of `desk_of` may have them to
+// be read alone.
 #[tactic(auto, unfolding(crate::specs::Numbers::place_of))]
 fn place_of(numbers: &[u32; 609], customs: &[f32; 64], parts: &[u64; 320], k: usize) -> Slot
     requires { k < 32 }

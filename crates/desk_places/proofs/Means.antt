@@ -1,11 +1,13 @@
 -- The tests of parts are exact: of one pair of frames by the four buffers, of the desk by its cameras.
 -- Assumes nothing.
 use Prim.Native.Nat.{ℕ, zero, suc, ◌<◌}
-use mathlib.Core.Path.{◌≡◌, refl, sym, ◌∙◌}
+use mathlib.Core.Path.{◌≡◌, refl, sym}
 use mathlib.Core.Bool.{Bool, true, false, ◌||◌, true≢false, and-eq-true_iff}
 use mathlib.Core.List.{List}
-use mathlib.Core.Logic.{◌↔◌, ◌⊎◌, inl, inr, ⊎_elim}
+use mathlib.Core.Logic.{◌↔◌}
 use native.Mathlib.Omega.{arith}
+use Rattle.std.proofs.lemmas.Bool.{true_from_ne_false, both_ways}
+use Rattle.std.proofs.lemmas.Bool.Decides.{Decides-or}
 use Rattle.buffer_parts.specs.Parts.{is_inside}
 use Rattle.buffer_parts.proofs.Tests.{tests_are_exact as parts_are_exact}
 use Rattle.desk_places.specs.declared.FrameParts.{FrameParts}
@@ -39,16 +41,11 @@ all_found w n a =
 
 -- ---- two frames
 
--- one of two tests, each exact
-either_exact : {A B : Type 0} (a b : Bool) → (a ≡ true) ↔ A → (b ≡ true) ↔ B → ((a || b) ≡ true) ↔ (A ⊎ B)
-either_exact true b p q = (λ e. inl (p.0 refl), λ s. refl)
-either_exact false b p q = (λ e. inr (q.0 e), ⊎_elim (λ x. absurd (true≢false (sym (p.1 x)))) q.1)
-
 pub share_exact : (v w : FrameParts) → (overlap_parts v w ≡ true) ↔ ShareByte v w
 share_exact v w =
     let exact = parts_are_exact.overlap in
-    either_exact _ _ (exact v.y w.y)
-    (either_exact _ _ (exact v.u w.u) (either_exact _ _ (exact v.v w.v) (exact v.carried w.carried)))
+    Decides-or _ _ (exact v.y w.y)
+    (Decides-or _ _ (exact v.u w.u) (Decides-or _ _ (exact v.v w.v) (exact v.carried w.carried)))
 
 -- ---- the desk
 
@@ -81,12 +78,8 @@ taken_yes ps w e =
     record { camera = c.0; below = c.1.0; frame = f.0; stands = f.1.0; shared = f.1.1 }
 
 Taken-found : (ps : List Slot) (w : FrameParts) → Taken ps w → overlaps_open ps w 32 ≡ true
-Taken-found ps w t = (elim (overlaps_open ps w 32) as (λ a. overlaps_open ps w 32 ≡ a → a ≡ true) [
-  | true ↦ λ _. refl
-  | false ↦ λ e.
-      let yes = slot_found w (slot_in ps t.camera) t.frame t.stands t.shared in
-      absurd (true≢false (sym yes ∙ overlaps_none ps w 32 e t.camera t.below))
-]) refl
+Taken-found ps w t = true_from_ne_false (overlaps_open ps w 32) (λ e.
+    both_ways _ (overlaps_none ps w 32 e t.camera t.below) (slot_found w (slot_in ps t.camera) t.frame t.stands t.shared))
 
 pub tests_are_exact : TestsAreExact
 tests_are_exact = record { inside = λ w n. (all_inside w n, all_found w n); taken = λ ps w. (taken_yes ps w, Taken-found ps w) }

@@ -138,18 +138,15 @@ pub fn next_waiting(places: [Slot; 32], from: usize) -> Option<Turn>
     ensures { result ≡ next_waiting places from }
 {
     let start = from % 32;
-    // a `find_map` would have the same match in a closure, and say of the two other states that they give nothing
+    // a `find_map` would have the same test in a closure, and say of the other states that they give nothing
     for asked in 0..32 {
         let camera = (start + asked) % 32;
-        match places[camera] {
-            Slot::Free | Slot::Idle(_) => {}
-            Slot::Waiting(frame, band) => {
-                return Some(Turn {
-                    camera,
-                    frame,
-                    band,
-                });
-            }
+        if let Slot::Waiting(frame, band) = places[camera] {
+            return Some(Turn {
+                camera,
+                frame,
+                band,
+            });
         }
     }
     None

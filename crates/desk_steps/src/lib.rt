@@ -27,20 +27,10 @@ fn tell_served(served: Option<Served>, told: &mut [usize; 4]) -> u32
     ensures number { result ≡ (served_numbers served).number }
     ensures told { told.new ≡ (served_numbers served).expected ∷ (served_numbers served).received ∷ served_told served }
 {
-    match served {
-        None => {
-            let number = call_numbers::tell_answer(Ok(()), told);
-            told[2] = 0;
-            told[3] = 0;
-            number
-        }
-        Some(turn) => {
-            let number = call_numbers::tell_answer(turn.answer, told);
-            told[2] = 1;
-            told[3] = turn.camera;
-            number
-        }
-    }
+    let answer = served.map_or(Ok(()), |turn| turn.answer);
+    told[2] = usize::from(served.is_some());
+    told[3] = served.map_or(0, |turn| turn.camera);
+    call_numbers::tell_answer(answer, told)
 }
 
 // Serves the next camera with a band waiting, and answers 0 where its band was converted or none waited, else the number of one refusal: 18, else the

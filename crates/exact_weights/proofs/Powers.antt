@@ -4,7 +4,7 @@
 use mathlib.Core.Path.{◌≡◌, sym, ap, ◌∙◌, subst}
 use mathlib.Core.Bool.{Bool, true, false, not, ◌&&◌}
 use Prim.Native.Nat.{ℕ, zero, suc, ◌+◌, ◌-◌, ◌*◌, ◌/◌, ◌%◌, ◌^◌, ◌≤◌, ◌<◌}
-use native.Mathlib.Nat.{le_trans, le_of_eq, le_of_lt, le_of_suc-le-suc, lt_of_le_of_lt, lt_of_not-le, not-le_of_lt, div-mul-le_self}
+use native.Mathlib.Nat.{le_trans, le_of_eq, le_of_lt, le_of_suc-le-suc, lt_of_le_of_lt, lt_of_not-le, not-le_of_lt, div-mul-le_self, sub-add_cancel}
 use native.Mathlib.Nat.{mul_assoc, pow-suc, mul-one, one-mul, mul-pos, mul-le-mul_right, le_of_mul-le-mul_right}
 use native.Mathlib.Omega.{arith}
 use lib.IntN.{ℤ, pos, negsuc}
@@ -27,10 +27,7 @@ place : (e : ℤ) → down e ≤ 2 ^ 149 → (k : ℕ) × (up e * 2 ^ 149 ≡ 2 
 place (pos i) h = (i + 149, sym (pow-add 2 i 149) ∙ sym (mul-one (2 ^ (i + 149))))
 place (negsuc i) h =
     let i≤ : suc i ≤ 149 = le_of_suc-le-suc (lt_of_not-le (λ (g : 150 ≤ suc i). not-le_of_lt (pow-lt g) h)) in
-    (149 - suc i, one-mul (2 ^ 149) ∙ sym (ap (λ (z : ℕ). 2 ^ z) (back (suc i) i≤)) ∙ pow-add 2 (149 - suc i) (suc i))
-  where
-    back : (a : ℕ) → a ≤ 149 → 149 - a + a ≡ 149
-    back a l = omega arith
+    (149 - suc i, one-mul (2 ^ 149) ∙ sym (ap (λ (z : ℕ). 2 ^ z) (sub-add_cancel i≤)) ∙ pow-add 2 (149 - suc i) (suc i))
 
 held : (s : Bool) (m : ℕ) (e : ℤ) → T (fits binary32 (fin s m e)) → Held m e
 unfolding fits

@@ -12,10 +12,6 @@ pub size_neg : (n : ℕ) → nat_abs (neg_ℤ (pos n)) ≡ n
 size_neg zero = refl
 size_neg (suc n) = refl
 
-pub size_mul : (v : ℕ) (w : ℤ) → nat_abs (pos v *ℤ w) ≡ v * nat_abs w
-size_mul v (pos n) = refl
-size_mul v (negsuc n) = size_neg (v * suc n)
-
 size_sub : (a b : ℕ) → nat_abs (sub_ℕ a b) ≤ a + b
 size_sub a b = go (ltb a b) refl
   where

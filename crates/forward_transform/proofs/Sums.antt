@@ -4,12 +4,13 @@
 -- Assumes nothing.
 use Rattle.std.proofs.Common.{◌≡◌, ℕ, ◌+◌, ◌-◌, ◌*◌, ◌/◌, ◌^◌, ◌<◌, ◌≤◌, ℤ, pos, ◌+ℤ◌, ◌*ℤ◌, neg_ℤ, nat_abs, sym, ap, ◌∙◌, mul-le-mul_right, mul-le-mul, arith, w32, SFits}
 use lib.IntN.{+ℤ_assoc, +ℤ_comm, neg_ℤ-+ℤ}
+use Rattle.std.proofs.lemmas.Int.{unsigned_abs-mul}
 use Rattle.yuv_support.specs.declared.YuvRange.{YuvRange}
 use Rattle.yuv_support.specs.declared.YuvRange.TheVariants.{Limited, Full}
 use Rattle.yuv_support.specs.Range.{yuv_range}
 use Rattle.forward_transform.specs.declared.CbCrForwardTransform.{CbCrForwardTransform}
 use Rattle.forward_transform.specs.Shape.{Shape, luma_most, chroma_top}
-use Rattle.forward_transform.proofs.Signed.{fits_i32, size_neg, size_mul, size_add, mul_neg, add_neg}
+use Rattle.forward_transform.proofs.Signed.{fits_i32, size_neg, size_add, mul_neg, add_neg}
 
 -- ---- the sums
 abbrev pub bias : YuvRange → ℕ
@@ -50,7 +51,7 @@ pub record SumFits (x y z : ℤ) (r g b bias : ℕ) : Type 0 where
 
 -- ---- what fits: a byte times a weight of at most 8,193
 product : (v : ℕ) (w : ℤ) → v < 256 → nat_abs w ≤ 8193 → nat_abs (pos v *ℤ w) ≤ 255 * 8193
-product v w h k = rw (size_mul v w) (mul-le-mul {n₁ = v} {m₁ = nat_abs w} {n₂ = 255} {m₂ = 8193} (omega arith) k)
+product v w h k = rw (unsigned_abs-mul (pos v) w) (mul-le-mul {n₁ = v} {m₁ = nat_abs w} {n₂ = 255} {m₂ = 8193} (omega arith) k)
 
 sum_fits : (x y z : ℤ) (r g b bias : ℕ) → nat_abs x ≤ 8193 → nat_abs y ≤ 8193 → nat_abs z ≤ 8193
     → r < 256 → g < 256 → b < 256 → bias < 2 ^ 21 → SumFits x y z r g b bias

@@ -19,9 +19,11 @@ fails first {second = second} e x = subst (λ (b : Bool). Either b first second)
 handed_is : (d : FrameDescription) (r : FrameAnswer) (n : ℕ) → r.state ≡ state_of d n → r ≡ handed d r.answer r.state.done
 handed_is d r n e = rw e
 
-pub opened : {d d' : FrameDescription} {r : FrameAnswer} → d ≡ d' → OpenPost d r → OpenPost d' (handed d' r.answer r.state.done)
+-- an opening's is its answer, and no row done
+pub opened : {d d' : FrameDescription} {r : FrameAnswer} → d ≡ d' → OpenPost d r → OpenPost d' (handed d' r.answer 0)
 opened {d} {d'} {r} is p =
-    subst (λ (x : FrameDescription). OpenPost x (handed x r.answer r.state.done)) is (subst (OpenPost d) (handed_is d r 0 p.state) p)
+    let same : r ≡ handed d r.answer 0 = λ i. record { answer = r.answer; state = p.state i } in
+    subst (λ (x : FrameDescription). OpenPost x (handed x r.answer 0)) is (subst (OpenPost d) same p)
 
 -- a band call of another frame, with what it hands back
 abbrev of_frame : BandCall → FrameDescription → FrameAnswer → BandCall

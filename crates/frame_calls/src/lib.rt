@@ -50,33 +50,27 @@ pub fn call_frame(
     call_numbers::tell_answer(frame_answer(numbers, custom, source, y, u, v), told)
 }
 
-// The opening, once the numbers have a meaning.
-fn open_told(numbers: &[u32], custom: &[f32; 2]) -> Told
-    ensures { OpenAnswered (exported_opening numbers.now custom.now 0 []) result.answer result.done }
+// The opening, once the numbers have a meaning. No row is done after it, refused or not.
+fn opening_answer(numbers: &[u32], custom: &[f32; 2]) -> Result<(), YuvError>
+    ensures { OpenAnswered (exported_opening numbers.now custom.now 0 []) result 0 }
 {
-    match call_numbers::described(0, numbers, custom) {
-        Err(e) => Told {
-            answer: Err(e),
-            done: 0,
-        },
-        Ok(frame) => {
-            let opened = FrameState::open(frame);
-            Told {
-                answer: opened.answer,
-                done: opened.state.done,
-            }
-        }
-    }
+    let frame = call_numbers::described(0, numbers, custom)?;
+    FrameState::open(frame).answer
 }
 
 // `segvartin_call_open` of crate `segvartin` is one call of this.
 pub fn call_open(numbers: &[u32], custom: &[f32; 2], told: &mut [usize; 3]) -> u32
     ensures { OpenKept (exported_opening numbers.now custom.now result told.new) }
 {
-    call_numbers::tell(open_told(numbers, custom), told)
+    let opened = Told {
+        answer: opening_answer(numbers, custom),
+        done: 0,
+    };
+    call_numbers::tell(opened, told)
 }
 
-// The band call, once the numbers have a meaning.
+// The band call, once the numbers have a meaning. No `From<FrameAnswer>` for `Told`: both are of other crates, and this is the one place where a band's answer
+// and rows become what is told.
 fn band_told(
     numbers: &[u32],
     custom: &[f32; 2],
@@ -93,7 +87,7 @@ fn band_told(
     match call_numbers::described(OF_BAND, numbers, custom) {
         Err(e) => Told {
             answer: Err(e),
-            done: call_numbers::number_at(numbers, 0),
+            done: call_numbers::number_at(numbers, 0) as usize,
         },
         Ok(frame) => {
             let before = FrameState {
@@ -103,7 +97,7 @@ fn band_told(
             let converted = before.band(numbers[1], source, numbers[2], y, u, v, carried);
             Told {
                 answer: converted.answer,
-                done: converted.state.done,
+                done: converted.state.done as usize,
             }
         }
     }
@@ -136,11 +130,9 @@ fn counts_answer(
     ensures { CountsAnswered (exported_counts numbers.now custom.now counts.old
         0 [] counts.new) result }
 {
-    if call_numbers::is_malformed_range_and_matrix(numbers) {
+    let Some((range, matrix)) = call_numbers::range_and_matrix(numbers, custom) else {
         return Err(YuvError::MalformedRequest);
-    }
-    let range = setting_codes::range_of(numbers[0]);
-    let matrix = call_numbers::matrix_of(numbers[1], custom);
+    };
     colour_counts::colour_counts(range, matrix, counts)
 }
 

@@ -15,18 +15,13 @@ use Rattle.yuv_support.specs.Matrix.{accepted}
 use Rattle.yuv_error.specs.declared.LentBuffer.{LentBuffer}
 use Rattle.yuv_error.specs.Numbers.{Numbers, numbers}
 use Rattle.yuv_error.specs.Rules.{first_numbers, matrix_rules, least_of, whole_of, too_short, too_narrow, not_whole, buffer_rules as Rules·bufferRules}
-use Rattle.yuv_error.specs.Lowest.{Lowest}
 use Rattle.std.proofs.lemmas.Bool.{or_parts}
-use Rattle.yuv_error.proofs.Lowest.{first_is_lowest}
+use Rattle.std.proofs.Padding.{cond_same}
 use Rattle.setting_codes.specs.Codes.{matrix_codes}
 use Rattle.definitions.specs.declared.FrameDescription.{FrameDescription}
 use Rattle.definitions.proofs.Numbers.{chroma_rows}
 use Rattle.yuv_error.specs.Lent.{source_of, y_of, u_of, v_of}
 use Rattle.frame_request.specs.Request.{settings_of, frame_of, source_stride, luma_size, chroma_size, malformed, buffer_rules, request_rules}
-
--- the rules stand in order, so the first that holds has the lowest number whose condition holds
-pub request_Lowest : (input : List ℕ) → Lowest (request_rules input) (first_numbers (request_rules input))
-request_Lowest input = (first_is_lowest (request_rules input) (first_numbers (request_rules input)) refl).0 refl
 
 -- ---- rules that never hold
 
@@ -111,11 +106,7 @@ area_answer : (w h : ℕ) (a b : Numbers) → 1 ≤ w → 1 ≤ h → cond (ltb 
 area_answer w h a b some tall = go (ltb 16384 (w * h)) refl
   where
     go : (x : Bool) → ltb 16384 (w * h) ≡ x → cond (ltb 16384 w || ltb 16384 h) a (cond x a b) ≡ cond x a b
-    go true p = both (ltb 16384 w || ltb 16384 h)
-      where
-        both : (x : Bool) → cond x a a ≡ a
-        both true = refl
-        both false = refl
+    go true p = cond_same (ltb 16384 w || ltb 16384 h) a a a refl refl
     go false p =
         let small = ltb-false 16384 (w * h) p in
         rw (

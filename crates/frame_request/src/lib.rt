@@ -74,55 +74,62 @@ fn described(input: &[u8]) -> Option<(FrameDescription, &[u8])>
 fn check_size(width: u32, height: u32) -> Result<(), YuvError>
     ensures { numbers_of result ≡ first_numbers (size_rules width height ++ area_rules width height) }
 {
-    if width == 0 || height == 0 {
-        return Err(YuvError::ZeroBaseSize);
-    }
-    let area = width as u64 * height as u64;
-    if width > MOST_PIXELS || height > MOST_PIXELS || area > MOST_PIXELS as u64 {
+    yuv_error::check_size(width, height)?;
+    if width * height > MOST_PIXELS {
         return Err(YuvError::SizeTooLarge);
     }
     Ok(())
 }
 
-// The bytes of a source row.
-fn source_stride(frame: FrameDescription) -> u32
-    requires { frame.width ≤ 16384 }
-    ensures { result ≡ source_stride frame }
-{
-    frame.width * frame.settings.channels.get_channels_count() as u32
+// A frame whose size was checked, its planes without padding.
+#[derive(Clone, Copy)]
+struct PackedFrame {
+    frame: FrameDescription,
+    ghost packed: { Packed frame },
 }
 
-// The bytes of Y, without padding. This and the next are a product each, as `shift_file` has of the sides of a record: taking those would be no shorter, and
-// would bring the shift file into the program.
-fn luma_size(frame: FrameDescription) -> usize
-    requires { (frame.width ≤ 16384) × (frame.height ≤ 16384) }
-    ensures { result ≡ luma_size frame }
-{
-    frame.width as usize * frame.height as usize
-}
+impl PackedFrame {
+    // The bytes of a source row.
+    fn source_stride(self) -> u32
+        ensures { result ≡ source_stride self.frame }
+    {
+        self.frame.width * self.frame.settings.channels.get_channels_count() as u32
+    }
 
-// The bytes of U, and of V.
-fn chroma_size(frame: FrameDescription) -> usize
-    requires { (frame.width ≤ 16384) × (1 ≤ frame.height) × (frame.height ≤ 16384) }
-    ensures { result ≡ chroma_size frame }
-{
-    let width = yuv_support::chroma_width(frame.width as usize);
-    width * frame.settings.sampling.chroma_height(frame.height as usize)
-}
+    // The bytes of Y. This and the next are a product each, as `shift_file` has of the sides of a record: taking those would be no shorter, and would
+    // bring the shift file into the program.
+    fn luma_size(self) -> usize
+        ensures { result ≡ luma_size self.frame }
+    {
+        self.frame.width as usize * self.frame.height as usize
+    }
 
-// The frame call, in the output itself: Y at its start, U behind it, and V behind that.
-fn convert(frame: FrameDescription, source: &[u8], output: &mut [u8; 49152]) -> Result<(), YuvError>
-    requires { Packed frame }
-    ensures result_value { numbers_of result ≡ first_numbers (frame_rules frame (source_stride frame) (packed_lengths frame (length source.now))) }
-    ensures painted { Painted (taken result (output_size frame)) (output_at frame (frame_image frame (source_stride frame) source.now))
-        output.old output.new }
-{
-    let luma = luma_size(frame);
-    let chroma = chroma_size(frame);
-    let (y, rest) = output.split_at_mut(luma);
-    let (u, rest) = rest.split_at_mut(chroma);
-    let v = &mut rest[..chroma];
-    sharp_rgba_to_yuv::rgbx_to_sharp_yuv(frame, source, source_stride(frame), y, u, v)
+    // The bytes of U, and of V.
+    fn chroma_size(self) -> usize
+        ensures { result ≡ chroma_size self.frame }
+    {
+        let width = yuv_support::chroma_width(self.frame.width as usize);
+        width
+            * self
+                .frame
+                .settings
+                .sampling
+                .chroma_height(self.frame.height as usize)
+    }
+
+    // The frame call, in the output itself: Y at its start, U behind it, and V behind that.
+    fn convert(self, source: &[u8], output: &mut [u8; 49152]) -> Result<(), YuvError>
+        ensures result_value { numbers_of result ≡ first_numbers (frame_rules self.frame (source_stride self.frame) (packed_lengths self.frame (length source.now))) }
+        ensures painted { Painted (taken result (output_size self.frame)) (output_at self.frame (frame_image self.frame (source_stride self.frame) source.now))
+            output.old output.new }
+    {
+        let luma = self.luma_size();
+        let chroma = self.chroma_size();
+        let (y, rest) = output.split_at_mut(luma);
+        let (u, rest) = rest.split_at_mut(chroma);
+        let v = &mut rest[..chroma];
+        sharp_rgba_to_yuv::rgbx_to_sharp_yuv(self.frame, source, self.source_stride(), y, u, v)
+    }
 }
 
 // Answers a request: its planes in the first bytes of the output, so many, or a refusal and no byte written.
@@ -131,8 +138,9 @@ pub fn answer_request(input: &[u8], output: &mut [u8; 49152]) -> Result<usize, Y
 {
     let (frame, source) = described(input).ok_or(YuvError::MalformedRequest)?;
     check_size(frame.width, frame.height)?;
-    convert(frame, source, output)?;
-    Ok(luma_size(frame) + 2 * chroma_size(frame))
+    let frame = PackedFrame { frame };
+    frame.convert(source, output)?;
+    Ok(frame.luma_size() + 2 * frame.chroma_size())
 }
 
 // Puts the line of a refusal at the start of the output, and answers how many bytes it has.

@@ -19,7 +19,7 @@ use Rattle.pixel_pairs.specs.Weights.{conversion_of}
 use Rattle.pixel_pairs.specs.Tables.{SumTables, Summed}
 use Rattle.pixel_pairs.specs.Pixels.{Paired, Light, total, left_luma, right_luma, first_three, byte_at, sixteenths_of, quarters_of, corrected_by, Over}
 use Rattle.pixel_pairs.specs.Pixels.{Linears, ColourAt}
-use Rattle.pixel_pairs.specs.Rows.{lumas, inputs420, inputs422, RowOf, InRow, ChromaRoom, Rows420, Row422, put_pair}
+use Rattle.pixel_pairs.specs.Rows.{lumas, inputs420, inputs422, RowOf, InRow, Rows420, Row422, put_pair}
 use Rattle.pixel_pairs.specs.Rows.{put_block422, block_at}
 use Rattle.pixel_pairs.specs.Rows.{LumaWritten, LumasPainted, LumasWritten, Lumas422, ChromaWritten}
 use Rattle.pixel_pairs.specs.Rows.{LumaMore, ChromaMore, Begun, Begun420, Begun422, Stepped}
@@ -106,9 +106,6 @@ chroma_both {j = j} p q =
       further = λ input is u₀ v₀ r. rw two at
           (q.further input is.1 u₀ v₀ (p.further input is.0 u₀ v₀ r));
     }
-
-pub chroma_room : {d : FrameDescription} {u v : List ℕ} (u₀ v₀ : List ℕ) → length u ≡ length u₀ → length v ≡ length v₀ → ChromaRoom d u₀ v₀ → ChromaRoom d u v
-chroma_room u₀ v₀ e f room = record { in_u = rw e room.in_u; in_v = rw f room.in_v }
 
 -- ---- luma rows
 

@@ -11,7 +11,8 @@ use lib.Signed.{shr_z, mag_shr}
 use mir.Syntax.{w8, w32}
 use mir.Val.{Fits, SFits, to_z, of_z}
 use mir.Facts.{to_z-of_z, to_z_pos}
-use Rattle.forward_transform.proofs.Signed.{fits_i32, size_mul, size_add}
+use Rattle.std.proofs.lemmas.Int.{unsigned_abs-mul}
+use Rattle.forward_transform.proofs.Signed.{fits_i32, size_add}
 use Rattle.definitions.specs.Pixel.{floor_div}
 
 -- ---- what the machine reads back
@@ -54,7 +55,7 @@ product x w hx hw =
       value = pos x *ℤ w;
       size = 255 * 8193;
       same = rw (read_byte (record { fits = hx }), read_small w hw);
-      bound = rw (size_mul x w) (mul-le-mul {n₁ = x} {m₁ = nat_abs w} {n₂ = 255} {m₂ = 8193} (omega arith) hw);
+      bound = rw (unsigned_abs-mul (pos x) w) (mul-le-mul {n₁ = x} {m₁ = nat_abs w} {n₂ = 255} {m₂ = 8193} (omega arith) hw);
       room = lit< tt;
     }
 

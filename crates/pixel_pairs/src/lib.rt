@@ -194,6 +194,7 @@ impl Conversion {
 
 impl LumaTables<'_> {
     // Pixels x and next of a row: their lumas, into the luma row that begins at `start`, and their sums.
+    // Two places of a row and one of the luma plane: a struct of x and next would be made for each call and taken apart in `pair` and `put_luma`.
     pub fn luma_pair<const N: usize>(
         &self,
         row: &[u8],

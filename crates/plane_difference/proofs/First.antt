@@ -1,25 +1,17 @@
 -- The place that is told is that of the first byte that differs: the front ends there, and every byte before it is in it. Assumes nothing.
 use Prim.Native.Nat.{ℕ, zero, suc, ◌+◌, ◌*◌, ◌-◌, ◌/◌, ◌%◌, ◌≤◌, ◌<◌}
 use mathlib.Core.Path.{◌≡◌, refl, sym, ap, subst}
-use mathlib.Core.Bool.{Bool, true, false, cond}
+use mathlib.Core.Bool.{Bool, true, false}
 use mathlib.Core.List.{List}
 use native.Mathlib.Nat.{mod-add-div, mod-lt, div-lt_iff_lt-mul, mul_comm, zero-mul}
 use native.Mathlib.Omega.{arith}
 use borrow.Author.Tests.{ltb-true, ltb-false}
 use lib.Dec.{ltb}
 use lib.ListN.{length, get_or}
-use Rattle.std.proofs.Common.{Option, Some, None}
+use Rattle.std.proofs.Common.{Some}
+use Rattle.std.proofs.lemmas.Option.{cond_some}
 use Rattle.plane_difference.specs.Difference.{equal_front, place_of, plane_difference, FirstByte, FirstByteTold}
 use Rattle.plane_difference.proofs.Front.{front_more, front_ends, front_byte, row_end, differs_at}
-
--- row and column of a place, if there is one
-abbrev row_of : Option (ℕ × ℕ) → ℕ
-row_of None = 0
-row_of (Some p) = p.0
-
-abbrev column_of : Option (ℕ × ℕ) → ℕ
-column_of None = 0
-column_of (Some p) = p.1
 
 -- the front reaches as far as all bytes are equal
 front_reaches : (a b : List ℕ) (i : ℕ) → i ≤ length a → i ≤ length b → ((k : ℕ) → k < i → get_or a k 0 ≡ get_or b k 0) → i ≤ equal_front a b
@@ -50,21 +42,17 @@ module _ (w h : ℕ) (a b : List ℕ) (ha : length a ≡ w * h) (hb : length b �
 
     told_first : plane_difference w a b ≡ Some (row, column) → FirstByte w h a b row column
     unfolding plane_difference
-    told_first e = at (ltb (equal_front a b) (length a)) refl e
-      where
-        at : (t : Bool) → ltb (equal_front a b) (length a) ≡ t → cond t (Some (place_of w (equal_front a b))) None ≡ Some (row, column)
-            → FirstByte w h a b row column
-        at true l q =
-            let below : equal_front a b < w * h = omega (arith, ltb-true (equal_front a b) (length a) l) in
-            let some = some_column w h (equal_front a b) below in
-            let is_row : equal_front a b / w ≡ row = ap row_of q in
-            let is_column : equal_front a b % w ≡ column = ap column_of q in
-            let row_in : equal_front a b / w < h = (div-lt_iff_lt-mul {k = w} {x = equal_front a b} {y = h} some).1 (omega (arith, mul_comm w h)) in
-            let column_in = mod-lt (equal_front a b) some in
-            let whole : equal_front a b % w + w * (equal_front a b / w) ≡ equal_front a b = mod-add-div (equal_front a b) w in
-            let same : w * (equal_front a b / w) ≡ w * row = ap (λ (x : ℕ). w * x) is_row in
-            ends_here (omega arith) (omega arith) (omega arith)
-        at false l q = let z : ◌≡◌ {A = ℕ} 0 1 = cc in absurd (omega arith)
+    told_first e =
+        let told = cond_some (ltb (equal_front a b) (length a)) (place_of w (equal_front a b)) (row, column) e in
+        let below : equal_front a b < w * h = omega (arith, ltb-true (equal_front a b) (length a) told.0) in
+        let some = some_column w h (equal_front a b) below in
+        let is_row : equal_front a b / w ≡ row = ap (λ (p : ℕ × ℕ). p.0) told.1 in
+        let is_column : equal_front a b % w ≡ column = ap (λ (p : ℕ × ℕ). p.1) told.1 in
+        let row_in : equal_front a b / w < h = (div-lt_iff_lt-mul {k = w} {x = equal_front a b} {y = h} some).1 (omega (arith, mul_comm w h)) in
+        let column_in = mod-lt (equal_front a b) some in
+        let whole : equal_front a b % w + w * (equal_front a b / w) ≡ equal_front a b = mod-add-div (equal_front a b) w in
+        let same : w * (equal_front a b / w) ≡ w * row = ap (λ (x : ℕ). w * x) is_row in
+        ends_here (omega arith) (omega arith) (omega arith)
 
     module _ (f : FirstByte w h a b row column) where
       -- each byte before it stands above it or left of it

@@ -13,6 +13,7 @@ use lib.Pointwise.{pointwise}
 use lib.Seq.{get_or-drop, drop-drop, drop-cons}
 use Rattle.little_endian.specs.Number.{Bytes, number_in}
 use Rattle.std.proofs.Common.{Some, None}
+use Rattle.std.proofs.lemmas.Bool.{false_from_ne_true, both_ways}
 use Rattle.plane_difference.specs.Difference.{equal_front, plane_difference}
 
 -- one byte more, or none
@@ -90,11 +91,7 @@ number_front (suc n) i a b h =
 -- ---- what the test of a row answers
 
 not_below : (e f : ℕ) → (e ≤ f → ⊥) → false ≡ leb e f
-not_below e f h = at (leb e f) refl
-  where
-    at : (t : Bool) → leb e f ≡ t → false ≡ t
-    at true q = absurd (h (leb-true e f q))
-    at false q = refl
+not_below e f h = sym (false_from_ne_true (leb e f) (λ q. h (leb-true e f q)))
 
 pub word_differs : (n i e : ℕ) (a b : List ℕ) → i + n ≤ e → (number_in n (drop i a) ≡ number_in n (drop i b) → ⊥) → false ≡ leb e (equal_front a b)
 word_differs n i e a b h d = not_below e (equal_front a b) (λ l. d (number_front n i a b (omega arith)))
@@ -118,7 +115,7 @@ tail_told (suc n) i a b ha hb h =
         let same : suc i + n ≡ i + suc n = omega arith in
         later (omega arith) ∙ ap (λ (m : ℕ). leb m (equal_front a b)) same
     at later false e =
-        let ends = front_ends a b i (λ s. let q = sym (eq-eqb (get_or a i 0) (get_or b i 0) s) ∙ e in absurd (let z : ◌≡◌ {A = ℕ} 0 1 = cc in omega arith)) h in
+        let ends = front_ends a b i (λ s. both_ways _ e (eq-eqb (get_or a i 0) (get_or b i 0) s)) h in
         sym (lt-leb (i + suc n) (equal_front a b) (omega arith))
 
 -- ---- rows

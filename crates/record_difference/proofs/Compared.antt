@@ -8,7 +8,7 @@ use mathlib.Core.List.{List, [], ◌++◌, append-nil}
 use borrow.Author.Tests.{eqb-true, eq-eqb}
 use lib.Dec.{eqb}
 use lib.ListN.{length}
-use Rattle.std.proofs.lemmas.Bool.{and_parts}
+use Rattle.std.proofs.lemmas.Bool.{and_parts, false_from_ne_true}
 use Rattle.yuv_support.specs.contracts.YuvChromaSubsampling.{the_type}
 use Rattle.yuv_support.specs.declared.YuvChromaSubsampling.{YuvChromaSubsampling}
 use Rattle.yuv_support.specs.declared.YuvChromaSubsampling.TheVariants.{Yuv420, Yuv422}
@@ -112,11 +112,8 @@ module _ (form_r : ShiftForm) (r : ShiftRecord) (form_s : ShiftForm) (s : ShiftR
   module _ (a b : FrameSize) (ours : a ≡ size_of form_r r) (theirs : b ≡ size_of form_s s) where
     pub told_sizes : (a ≡ b → ⊥) → Some (Sizes a b) ≡ record_difference form_r r form_s s
     told_sizes differ =
-        ap₂ (λ (x y : FrameSize). Some (Sizes x y)) ours theirs ∙ by_sizes (at (same_size (size_of form_r r) (size_of form_s s)) refl)
-      where
-        at : (t : Bool) → same_size (size_of form_r r) (size_of form_s s) ≡ t → t ≡ false
-        at true e = absurd (differ (ours ∙ size_same _ _ e ∙ sym theirs))
-        at false e = refl
+        ap₂ (λ (x y : FrameSize). Some (Sizes x y)) ours theirs
+        ∙ by_sizes (false_from_ne_true (same_size (size_of form_r r) (size_of form_s s)) (λ e. differ (ours ∙ size_same _ _ e ∙ sym theirs)))
 
     pub planes_tell : a ≡ b → from_plane 0 a r s ≡ record_difference form_r r form_s s
     planes_tell one =

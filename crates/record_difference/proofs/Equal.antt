@@ -7,6 +7,7 @@ use native.Mathlib.Omega.{arith}
 use borrow.Author.Tests.{ltb-false}
 use lib.Dec.{ltb}
 use lib.ListN.{length}
+use Rattle.std.proofs.lemmas.Bool.{true_from_ne_false}
 use Rattle.shift_file.specs.declared.ShiftForm.{ShiftForm}
 use Rattle.shift_file.specs.File.{ShiftRecord, Allowed}
 use Rattle.std.proofs.Common.{Option, Some, None}
@@ -15,7 +16,6 @@ use Rattle.plane_difference.proofs.Front.{front_whole, front_same, nowhere}
 use Rattle.record_difference.specs.declared.Plane.{Plane}
 use Rattle.record_difference.specs.declared.Plane.TheVariants.{Y, U, «V»}
 use Rattle.record_difference.specs.declared.Difference.{Difference}
-use Rattle.record_difference.specs.declared.Difference.TheVariants.{Sizes}
 use Rattle.record_difference.specs.Record.{size_of, same_size, plane_of, plane_width, in_plane, difference_in, record_difference}
 use Rattle.record_difference.specs.Record.{EqualRecords, SameIsEqual}
 use Rattle.record_difference.proofs.Compared.{size_same, size_itself, plane_size, by_sizes, by_planes}
@@ -27,7 +27,7 @@ unfolding plane_difference
 plane_equal w a b l e = at (ltb (equal_front a b) (length a)) refl e
   where
     at : (t : Bool) → ltb (equal_front a b) (length a) ≡ t → cond t (Some (place_of w (equal_front a b))) None ≡ None → a ≡ b
-    at true h q = let z : ◌≡◌ {A = ℕ} 0 1 = cc in absurd (omega arith)
+    at true h q = absurd (cc q)
     at false h q = front_whole a b l (ltb-false (equal_front a b) (length a) h)
 
 pub plane_itself : (w : ℕ) (a : List ℕ) → plane_difference w a a ≡ None
@@ -36,20 +36,13 @@ plane_itself w a = sym (nowhere w a a (omega (arith, front_same a)))
 -- nothing in this plane, and nothing later
 none_told : (plane : Plane) (d : Option (ℕ × ℕ)) (later : Option Difference) → in_plane plane d later ≡ None → (d ≡ None) × (later ≡ None)
 none_told plane None later e = (refl, e)
-none_told plane (Some place) later e = let z : ◌≡◌ {A = ℕ} 0 1 = cc in absurd (omega arith)
+none_told plane (Some place) later e = absurd (cc e)
 
 -- ---- records
 
 module _ (form_r : ShiftForm) (r : ShiftRecord) (form_s : ShiftForm) (s : ShiftRecord) where
   one_size : record_difference form_r r form_s s ≡ None → same_size (size_of form_r r) (size_of form_s s) ≡ true
-  one_size e = at (same_size (size_of form_r r) (size_of form_s s)) refl
-    where
-      at : (t : Bool) → same_size (size_of form_r r) (size_of form_s s) ≡ t → t ≡ true
-      at true h = refl
-      at false h =
-          let told : Some (Sizes (size_of form_r r) (size_of form_s s)) ≡ None = by_sizes form_r r form_s s h ∙ e in
-          let z : ◌≡◌ {A = ℕ} 0 1 = cc in
-          absurd (omega arith)
+  one_size e = true_from_ne_false (same_size (size_of form_r r) (size_of form_s s)) (λ h. cc (by_sizes form_r r form_s s h ∙ e))
 
   module _ (ours : Allowed form_r r) (theirs : Allowed form_s s) where
     same_equal : record_difference form_r r form_s s ≡ None → EqualRecords form_r r form_s s

@@ -4,7 +4,6 @@ use Prim.Native.Nat.{ℕ, ◌*◌}
 use mathlib.Core.Path.{◌≡◌, refl, sym, ◌∙◌, ap, ap₂, subst}
 use mathlib.Core.Bool.{Bool, true, false, true≢false}
 use mathlib.Core.Logic.{◌↔◌}
-use native.Mathlib.Omega.{arith}
 use lib.ListN.{length}
 use Rattle.shift_file.specs.declared.ShiftForm.{ShiftForm}
 use Rattle.shift_file.specs.File.{ShiftRecord, Allowed}
@@ -75,7 +74,7 @@ module _ (form_r : ShiftForm) (r : ShiftRecord) (form_s : ShiftForm) (s : ShiftR
           subst (FirstDifference form_r r form_s s) (ap (place_told p) e) (found U at.0 at.1 (one_plane Y ey) eu)
       by_plane None None (Some at) ey eu ev p e =
           subst (FirstDifference form_r r form_s s) (ap (place_told p) e) (found «V» at.0 at.1 (one_plane Y ey, one_plane U eu) ev)
-      by_plane None None None ey eu ev p e = let z : ◌≡◌ {A = ℕ} 0 1 = cc in absurd (omega arith)
+      by_plane None None None ey eu ev p e = absurd (cc e)
 
       none_in : (plane : Plane) → plane_of plane r ≡ plane_of plane s → difference_in plane size r s ≡ None
       none_in plane e =
@@ -92,10 +91,7 @@ module _ (form_r : ShiftForm) (r : ShiftRecord) (form_s : ShiftForm) (s : ShiftR
       where
         at : (t : Bool) → same_size (size_of form_r r) (size_of form_s s) ≡ t → FirstDifference form_r r form_s s p
         at true h = by_plane (size_same _ _ h) _ _ _ refl refl refl p (by_planes form_r r form_s s h ∙ e)
-        at false h =
-            let told : Some (Sizes (size_of form_r r) (size_of form_s s)) ≡ Some (At p) = by_sizes form_r r form_s s h ∙ e in
-            let z : ◌≡◌ {A = ℕ} 0 1 = cc in
-            absurd (omega arith)
+        at false h = absurd (cc (by_sizes form_r r form_s s h ∙ e))
 
   -- one size tests as one
   tests_same : size_of form_r r ≡ size_of form_s s → same_size (size_of form_r r) (size_of form_s s) ≡ true
@@ -113,10 +109,10 @@ module _ (form_r : ShiftForm) (r : ShiftRecord) (form_s : ShiftForm) (s : ShiftR
     sizes_differ e = at (same_size (size_of form_r r) (size_of form_s s)) refl
       where
         no_sizes : (y u v : Option (ℕ × ℕ)) → in_plane Y y (in_plane U u (in_plane «V» v None)) ≡ Some (Sizes a b) → ⊥
-        no_sizes (Some place) u v q = let z : ◌≡◌ {A = ℕ} 0 1 = cc in omega arith
-        no_sizes None (Some place) v q = let z : ◌≡◌ {A = ℕ} 0 1 = cc in omega arith
-        no_sizes None None (Some place) q = let z : ◌≡◌ {A = ℕ} 0 1 = cc in omega arith
-        no_sizes None None None q = let z : ◌≡◌ {A = ℕ} 0 1 = cc in omega arith
+        no_sizes (Some place) u v q = cc q
+        no_sizes None (Some place) v q = cc q
+        no_sizes None None (Some place) q = cc q
+        no_sizes None None None q = cc q
 
         at : (t : Bool) → same_size (size_of form_r r) (size_of form_s s) ≡ t
             → (a ≡ size_of form_r r) × (b ≡ size_of form_s s) × (size_of form_r r ≡ size_of form_s s → ⊥)

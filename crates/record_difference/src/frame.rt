@@ -5,7 +5,7 @@ ghost use Rattle.record_difference.specs.declared.Plane.{Plane};
 ghost use Rattle.record_difference.specs.Record.{pick, plane_width, plane_height};
 
 use crate::{FrameSize, Plane};
-use shift_reader::file::ShiftFile;
+use shift_reader::file::FileRecord;
 
 // Three planes of one frame, each as long as the frame's size says.
 #[derive(Clone, Copy)]
@@ -18,28 +18,28 @@ pub struct Frame<'a> {
 }
 
 impl<'a> Frame<'a> {
-    ghost use Rattle.std.specs.Prelude.{◌≡◌, ◌<◌};
-    ghost use Rattle.shift_reader.specs.Entry.{record_of};
+    ghost use Rattle.std.specs.Prelude.{◌≡◌};
+    ghost use Rattle.shift_reader.specs.Known.{record_in};
     ghost use Rattle.record_difference.specs.declared.Plane.{Plane};
     ghost use Rattle.record_difference.specs.Record.{size_of, plane_of, pick};
 
-    // The frame of record k.
-    pub fn of(file: &ShiftFile<'a>, k: usize) -> Frame<'a>
-        requires { k < file.now.count }
-        ensures size { result.size ≡ size_of file.now.form (record_of file.now.form file.now.bytes.now k) }
-        ensures planes { (plane : Plane) → pick plane result.y.now result.u.now result.v.now ≡ plane_of plane (record_of file.now.form file.now.bytes.now k) }
+    // The frame of a record.
+    pub fn of(file_record: &FileRecord<'a>) -> Frame<'a>
+        ensures size { result.size ≡ size_of file_record.now.file.form (record_in file_record.now) }
+        ensures planes { (plane : Plane) → pick plane result.y.now result.u.now result.v.now ≡ plane_of plane (record_in file_record.now) }
     {
-        let entry = file.entry(k);
+        let entry = file_record.entry();
         let size = FrameSize {
             width: entry.width,
             height: entry.height,
-            sampling: shift_file::sampling_at(file.form, file.record(k)),
+            sampling: shift_file::sampling_at(file_record.file.form, file_record.bytes()),
         };
+        let planes = file_record.planes();
         Frame {
             size,
-            y: file.y(k),
-            u: file.u(k),
-            v: file.v(k),
+            y: planes.y,
+            u: planes.u,
+            v: planes.v,
         }
     }
 

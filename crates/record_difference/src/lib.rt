@@ -2,14 +2,14 @@
 #![tactic(auto)]
 
 ghost use Rattle.std.specs.Prelude.{◌≡◌, ◌<◌};
-ghost use Rattle.shift_reader.specs.Entry.{record_of};
+ghost use Rattle.shift_reader.specs.Known.{record_in};
 ghost use Rattle.plane_difference.specs.Difference.{plane_difference};
 ghost use Rattle.record_difference.specs.Record.{pick, plane_width, plane_height, plane_number, record_difference};
 
 mod frame; // the frame of a record
 
 use frame::Frame;
-use shift_reader::file::ShiftFile;
+use shift_reader::file::FileRecord;
 use yuv_support::YuvChromaSubsampling;
 
 // A plane of a frame.
@@ -97,20 +97,12 @@ fn compare_plane(plane: Plane, ours: &Frame, theirs: &Frame) -> Option<(usize, u
     )
 }
 
-// The difference of record i of ours and record j of theirs, or none. No plane after the first unequal byte is looked at.
-pub fn compare_records(
-    ours: &ShiftFile,
-    i: usize,
-    theirs: &ShiftFile,
-    j: usize,
-) -> Option<Difference>
-    requires our_record { i < ours.now.count }
-    requires their_record { j < theirs.now.count }
-    ensures { result ≡ record_difference ours.now.form (record_of ours.now.form ours.now.bytes.now i)
-        theirs.now.form (record_of theirs.now.form theirs.now.bytes.now j) }
+// The difference of a record of ours and one of theirs, or none. No plane after the first unequal byte is looked at.
+pub fn compare_records(ours: &FileRecord, theirs: &FileRecord) -> Option<Difference>
+    ensures { result ≡ record_difference ours.now.file.form (record_in ours.now) theirs.now.file.form (record_in theirs.now) }
 {
-    let a = Frame::of(ours, i);
-    let b = Frame::of(theirs, j);
+    let a = Frame::of(ours);
+    let b = Frame::of(theirs);
     if a.size != b.size {
         return Some(Difference::Sizes(a.size, b.size));
     }

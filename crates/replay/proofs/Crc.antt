@@ -1,5 +1,6 @@
 -- Four bits of a CRC-32 at once, by the table of the sixteen halves of a byte.
-use Rattle.std.proofs.Common.{◌≡◌, ℕ, zero, suc, ◌+◌, ◌*◌, ◌/◌, ◌%◌, ◌^◌, ◌<◌, cond, eqb, List, [], ◌∷◌, map, get_or, slice_index, bit_xor, refl, ap, sym, ◌∙◌, arith}
+use Rattle.std.proofs.Common.{◌≡◌, ℕ, ◌+◌, ◌*◌, ◌/◌, ◌%◌, ◌^◌, ◌<◌, cond, eqb, List, [], ◌∷◌, map, slice_index, bit_xor, refl, ap, sym, ◌∙◌, arith}
+use Rattle.std.proofs.lemmas.List.FromFn.{get_or-map-range_with_len}
 use Rattle.std.proofs.lemmas.Nat.{xor_shr, xor_mod, xor_comm, xor_block}
 use Rattle.std.specs.Int.Bits.{xor_assoc, xor_zero_l, xor_zero_r}
 use Rattle.std.specs.Fn.{iterate}
@@ -49,15 +50,10 @@ are_halves : halves ≡ map (iterate crc_of_bit 4) (range_with_len 0 16)
 unfolding crc_of_bit
 are_halves = refl
 
-at : (f : ℕ → ℕ) (a n i : ℕ) → i < n → get_or (map f (range_with_len a n)) i 0 ≡ f (a + i)
-at f a zero i l = absurd (omega arith)
-at f a (suc n) zero l = let e : a ≡ a + 0 = omega arith in ap f e
-at f a (suc n) (suc i) l = let e : a + 1 + i ≡ a + suc i = omega arith in at f (a + 1) n i (omega arith) ∙ ap f e
-
 pub of_half : (crc : ℕ) → bit_xor (slice_index halves (crc % 16)) (crc / 16) ≡ iterate crc_of_bit 4 crc
 of_half crc =
     let f = iterate crc_of_bit 4 in
     let small : crc % 16 < 16 = omega arith in
     let first : 0 + crc % 16 ≡ crc % 16 = omega arith in
-    ap (λ k. bit_xor k (crc / 16)) (ap (λ t. slice_index t (crc % 16)) are_halves ∙ at f 0 16 (crc % 16) small ∙ ap f first)
+    ap (λ k. bit_xor k (crc / 16)) (ap (λ t. slice_index t (crc % 16)) are_halves ∙ get_or-map-range_with_len f 0 16 (crc % 16) (crc % 16) 0 small first)
     ∙ sym (four (crc % 16) (crc / 16)) ∙ ap f (sym (apart crc))

@@ -1,7 +1,7 @@
--- A new buffer around a writer: nothing waits to be written. And what was kept twice was kept.
-use Rattle.std.proofs.Common.{◌≡◌, ◌∙◌, ℕ, List, [], refl, None, Some}
+-- A new buffer around a writer: nothing waits to be written.
+use Rattle.std.proofs.Common.{◌≡◌, ℕ, List, [], refl, None, Some}
 use Rattle.std.proofs.lemmas.List.{append-nil}
-use Rattle.std.specs.Io.KnownBytes.{append_known, Keeps}
+use Rattle.std.specs.Io.KnownBytes.{append_known}
 use Rattle.std.specs.Io.Buffered.{writer_contents, writer_buffer, writer_inner}
 use Rattle.std.specs.declared.io.buffered.BufWriter.{BufWriter}
 use Rattle.std.specs.declared.option.Option.{Option}
@@ -13,9 +13,3 @@ none_waits (Some xs) = rw (append-nil xs) refl
 pub begun : {T A : Type 0} (contents : T → Option (List ℕ)) (w : BufWriter T A) (output : T)
     → writer_inner w ≡ output → writer_buffer w ≡ [] → writer_contents contents w ≡ contents output
 begun contents w output inner empty = rw (empty, inner) (none_waits (contents output))
-
-pub kept : (known then last : Option (List ℕ)) → Keeps known then → Keeps then last → Keeps known last
-kept None then last h k = tt
-kept (Some xs) (Some ys) (Some zs) h k = k ∙ h
-kept (Some xs) (Some ys) None h k = elim k [ ]
-kept (Some xs) None last h k = elim h [ ]

@@ -72,7 +72,7 @@ impl<'a> List<'a> {
         u32::from_le_bytes(self.array())
     }
 
-    // The next two numbers as one of 64 bits, the low half first.
+    // The next two numbers as one of 64 bits, the low half first. It reads, and converts no type.
     pub fn wide(&mut self) -> u64
         ensures { IsWide self.old.rest.now self.new.rest.now result }
     {
@@ -155,7 +155,8 @@ impl<'a> List<'a> {
         self.fill(&mut planes.v);
     }
 
-    // Reads a value for each place.
+    // Reads a value for each place. That a closure may always be called is asked where it is taken, here and in eight more functions: its type is a parameter
+    // of each, and a struct round it would ask the same.
     pub fn row<T: Copy, F: FnMut(&mut List<'a>) -> T>(&mut self, places: &mut [T], mut next: F)
         requires { F.IsAlwaysCallable next }
         ensures { (last : F) × FoldsTo (Gives F.FnMut) (next, self.old) places.new (last, self.new) }
@@ -167,6 +168,8 @@ impl<'a> List<'a> {
 }
 
 // Makes each call of a list, which is told its number: they count from 1.
+// The list and the writer are two parameters of each call here and in the programs: both are lent by `&mut`, and a struct of the two would be taken apart in
+// every call.
 pub fn each<W: Write + Drop, F: FnMut(u32, &mut List<'_>, &mut W) -> io::Result<()>>(
     list: &mut List<'_>,
     out: &mut W,

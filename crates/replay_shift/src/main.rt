@@ -44,6 +44,7 @@ fn read<W: Write + Drop>(kind: EntryKind, list: &mut List<'_>, out: &mut W) -> i
     write!(out, " entries{entries}")
 }
 
+// `replay_y4m` has this too: `replay`, whose `Left` it is, takes no type of `shift_writer`.
 fn left_of(written: Result<usize, NotWritten>, output: &[u8]) -> Left<'_> {
     Left {
         answer: shift_writer::outcome_of(written),

@@ -21,11 +21,17 @@ impl fmt::Display for Found {
     }
 }
 
-fn build<W: Write + Drop>(list: &mut List<'_>, out: &mut W) -> io::Result<()> {
+// A file and a summary: the list has both lengths, and then the bytes of each.
+fn file_and_summary(list: &mut List<'_>) -> io::Result<(Vec<u8>, Vec<u8>)> {
     let mut file = list.buffer(ROOM)?;
     let mut summary = list.buffer(ROOM)?;
     list.fill(&mut file);
     list.fill(&mut summary);
+    Ok((file, summary))
+}
+
+fn build<W: Write + Drop>(list: &mut List<'_>, out: &mut W) -> io::Result<()> {
+    let (file, mut summary) = file_and_summary(list)?;
     let form = shift_file::form_of(&file);
     let answer = Answer(summary_calls::build_summary(form, &file, &mut summary));
     let digest = Digest(&summary);
@@ -33,10 +39,7 @@ fn build<W: Write + Drop>(list: &mut List<'_>, out: &mut W) -> io::Result<()> {
 }
 
 fn check<W: Write + Drop>(list: &mut List<'_>, out: &mut W) -> io::Result<()> {
-    let mut file = list.buffer(ROOM)?;
-    let mut summary = list.buffer(ROOM)?;
-    list.fill(&mut file);
-    list.fill(&mut summary);
+    let (file, summary) = file_and_summary(list)?;
     let form = shift_file::form_of(&file);
     let verdict = summary_calls::check_summary(form, &file, &summary);
     let answer = Answer(verdict.map(|_| ()));

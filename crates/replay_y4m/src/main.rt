@@ -2,6 +2,7 @@
 #![tactic(auto)]
 
 use replay::{Answer, Left, List, Numbers};
+use shift_writer::NotWritten;
 use std::io::Write;
 use std::{fmt, io};
 use y4m_picture::PictureFrame;
@@ -53,6 +54,15 @@ fn read<W: Write + Drop>(list: &mut List<'_>, out: &mut W) -> io::Result<()> {
     write!(out, "{reading} entries{entries}")
 }
 
+// `replay_shift` has this too: `replay`, whose `Left` it is, takes no type of `shift_writer`.
+fn left_of(written: Result<usize, NotWritten>, output: &[u8]) -> Left<'_> {
+    Left {
+        answer: shift_writer::outcome_of(written),
+        size: shift_writer::size_of(written),
+        output,
+    }
+}
+
 fn write<W: Write + Drop>(list: &mut List<'_>, out: &mut W) -> io::Result<()> {
     let mut pictures = list.buffer(ROOM)?;
     let mut output = list.buffer(ROOM)?;
@@ -62,11 +72,7 @@ fn write<W: Write + Drop>(list: &mut List<'_>, out: &mut W) -> io::Result<()> {
     list.fill(&mut pictures);
     list.fill(&mut output);
     let written = y4m_writer::write_pictures(sampling, width, height, &pictures, &mut output);
-    let left = Left {
-        answer: shift_writer::outcome_of(written),
-        size: shift_writer::size_of(written),
-        output: &output,
-    };
+    let left = left_of(written, &output);
     write!(out, "{left}")
 }
 
@@ -88,11 +94,7 @@ fn write_picture<W: Write + Drop>(list: &mut List<'_>, out: &mut W) -> io::Resul
     list.fill_planes(&mut planes);
     list.fill(&mut output);
     let written = y4m_picture::write_picture(frame, &planes.y, &planes.u, &planes.v, &mut output);
-    let left = Left {
-        answer: shift_writer::outcome_of(written),
-        size: shift_writer::size_of(written),
-        output: &output,
-    };
+    let left = left_of(written, &output);
     write!(out, "{left}")
 }
 

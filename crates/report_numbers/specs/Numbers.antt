@@ -8,7 +8,19 @@ use Rattle.record_difference.specs.Record.{plane_number}
 use Rattle.shift_pairs.specs.declared.DifferingPair.{DifferingPair}
 use Rattle.shift_pairs.specs.declared.PairReport.{PairReport}
 use Rattle.shift_pairs.specs.declared.BrokenFile.{BrokenFile}
-use Rattle.report_numbers.specs.declared.DifferenceNumbers.{DifferenceNumbers}
+
+-- RULES 10.7: a difference's kind, and the numbers that it names; the others are 0
+pub record DifferenceNumbers : Type 0 where
+  pub kind : ℕ
+  pub our_width : ℕ
+  pub our_height : ℕ
+  pub their_width : ℕ
+  pub their_height : ℕ
+  pub plane : ℕ
+  pub row : ℕ
+  pub column : ℕ
+  pub our_sampling : ℕ
+  pub their_sampling : ℕ
 
 -- RULES 10.7: sizes are kind 1, a place is kind 2
 abbrev pub difference_numbers : Difference → DifferenceNumbers

@@ -1,16 +1,16 @@
-// Settings as numbers, for callers that have no enums: the codes of a request and of the C functions.
+// Settings from numbers, for callers that have no enums: the codes of a request and of the C functions. The other way round is `u32::from` of each.
 #![tactic(auto)]
 
 ghost use Rattle.std.specs.Prelude.{◌≡◌, get_or};
-ghost use Rattle.setting_codes.specs.Codes.{channels_codes, sampling_codes, range_codes, matrix_codes, transfer_codes, rounding_codes};
-ghost use Rattle.setting_codes.specs.Codes.{channels_code, sampling_code, range_code, matrix_code, transfer_code, rounding_code};
+ghost use Rattle.setting_codes.specs.Codes.{channels_codes, sampling_codes, range_codes, transfer_codes, rounding_codes};
 
 use sharp_gamma::{SharpYuvGammaTransfer, TableRounding};
-use yuv_support::{YuvChromaSubsampling, YuvRange, YuvSourceChannels, YuvStandardMatrix};
+use yuv_support::{YuvChromaSubsampling, YuvRange, YuvSourceChannels};
 
-// Each is one line over a `TryFrom` or a `From` that stands beside its type. `TryFrom` has no value for a code without a meaning, and callers that refuse
-// such a code elsewhere want the first meaning for it. One function over the six types would be `try_from(code).unwrap_or(first)` itself, with the first
-// meaning at each call.
+// Each is one line over the `TryFrom` that stands beside its type, which has no value for a code without a meaning: callers that refuse such a code
+// elsewhere want the first meaning for it. One function over the five types would be `try_from(code).unwrap_or(first)` itself, with the first meaning at
+// each call; and for `unwrap_or_default` each type would need a `Default`, where the first meaning is a rule of the numbers alone: no Rust caller has a
+// setting by default. A matrix is read by `call_numbers`, which has the kr and kb of a Custom one.
 pub fn channels_of(code: u32) -> YuvSourceChannels
     ensures { result ≡ get_or channels_codes code YuvSourceChannels.Rgb }
 {
@@ -29,13 +29,6 @@ pub fn range_of(code: u32) -> YuvRange
     YuvRange::try_from(code).unwrap_or(YuvRange::Limited)
 }
 
-// The six named matrices.
-pub fn matrix_of(code: u32) -> YuvStandardMatrix
-    ensures { result ≡ get_or matrix_codes code YuvStandardMatrix.Bt601 }
-{
-    YuvStandardMatrix::try_from(code).unwrap_or(YuvStandardMatrix::Bt601)
-}
-
 pub fn transfer_of(code: u32) -> SharpYuvGammaTransfer
     ensures { result ≡ get_or transfer_codes code SharpYuvGammaTransfer.Srgb }
 {
@@ -46,42 +39,4 @@ pub fn rounding_of(code: u32) -> TableRounding
     ensures { result ≡ get_or rounding_codes code TableRounding.Truncated }
 {
     TableRounding::try_from(code).unwrap_or(TableRounding::Truncated)
-}
-
-// The code of a setting, the other way round.
-pub fn channels_code(channels: YuvSourceChannels) -> u32
-    ensures { result ≡ channels_code channels }
-{
-    channels.into()
-}
-
-pub fn sampling_code(sampling: YuvChromaSubsampling) -> u32
-    ensures { result ≡ sampling_code sampling }
-{
-    sampling.into()
-}
-
-pub fn range_code(range: YuvRange) -> u32
-    ensures { result ≡ range_code range }
-{
-    range.into()
-}
-
-// Every Custom matrix has the code 6: kr and kb are no part of it.
-pub fn matrix_code(matrix: YuvStandardMatrix) -> u32
-    ensures { result ≡ matrix_code matrix }
-{
-    matrix.into()
-}
-
-pub fn transfer_code(transfer: SharpYuvGammaTransfer) -> u32
-    ensures { result ≡ transfer_code transfer }
-{
-    transfer.into()
-}
-
-pub fn rounding_code(rounding: TableRounding) -> u32
-    ensures { result ≡ rounding_code rounding }
-{
-    rounding.into()
 }

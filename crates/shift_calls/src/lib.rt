@@ -118,10 +118,8 @@ fn tell_written(written: Result<usize, NotWritten>, told: &mut [usize; 3]) -> u3
     ensures told { told.new
         ≡ (numbers_of (outcome_of written)).expected ∷ (numbers_of (outcome_of written)).received ∷ size_of written ∷ [] }
 {
-    let numbers = error_numbers::answer_numbers(shift_writer::outcome_of(written));
-    let size = shift_writer::size_of(written);
-    *told = [numbers.size.expected, numbers.size.received, size];
-    numbers.number
+    told[2] = shift_writer::size_of(written);
+    call_numbers::tell_answer(shift_writer::outcome_of(written), told)
 }
 
 // The frame of a record, from the six numbers that both forms have first: crossing, width, height, and the strides of Y, U and V.

@@ -24,11 +24,11 @@ side_bounds x h = let p = and_parts (leb 1 x) (leb x 16384) h in (leb-true 1 x p
 
 -- ---- the settings that are told
 
-pub allowed_told : (form : ShiftForm) (s : List ℕ) → codes_allowed form (settings_told form s) ≡ codes_allowed form s
+pub allowed_told : (form : ShiftForm) (s : List ℕ) → codes_allowed WithSettings (settings_told form s) ≡ codes_allowed form s
 allowed_told WithoutSettings s = refl
 allowed_told WithSettings s = refl
 
-pub sampling_told : (form : ShiftForm) (s : List ℕ) → sampling_of form (settings_told form s) ≡ sampling_of form s
+pub sampling_told : (form : ShiftForm) (s : List ℕ) → sampling_of WithSettings (settings_told form s) ≡ sampling_of form s
 sampling_told WithoutSettings s = refl
 sampling_told WithSettings s = refl
 

@@ -11,6 +11,7 @@ use lib.ListN.{length, drop, length-append, length-drop, take-append-drop, drop_
 use lib.Seq.{drop-drop, drop_at, length-take-le}
 use borrow.Author.Tests.{eqb-true, eq-eqb}
 use Rattle.std.proofs.lemmas.Bool.{and_from, and_parts}
+use Rattle.std.proofs.lemmas.Option.{cond_some}
 use Rattle.little_endian.specs.Number.{Bytes, low_bytes, number_in}
 use Rattle.little_endian.proofs.Number.{bytes_drop, number_low, low_rest, drop_low}
 use Rattle.shift_file.specs.declared.ShiftForm.{ShiftForm}
@@ -131,11 +132,6 @@ refused true true v n e = cc
 refused true false v n e = refl
 refused false u v n e = refl
 
-taken : (t u : Bool) (n s : ℕ) → cond (t && u) (Some n) None ≡ Some s → (t ≡ true) × (u ≡ true) × (n ≡ s)
-taken true true n s e = (refl, refl, cc)
-taken true false n s e = cc
-taken false u n s e = cc
-
 module _ (form : ShiftForm) (b : List ℕ) (pair at : ℕ) where
   pub walk_none : (n : ℕ) → 0 < n → next_size form b pair at ≡ None → walk form b pair at n ≡ false
   unfolding walk next_size
@@ -149,7 +145,10 @@ module _ (form : ShiftForm) (b : List ℕ) (pair at : ℕ) where
   module _ (s : ℕ) (e : next_size form b pair at ≡ Some s) where
     next_is : (record_stands form (drop at b) ≡ true) × (pair_is (drop pair b) at (size_at form (drop at b)) ≡ true) × (size_at form (drop at b) ≡ s)
     unfolding next_size
-    next_is = taken (record_stands form (drop at b)) _ _ s e
+    next_is =
+        let q = cond_some _ (size_at form (drop at b)) s e in
+        let p = and_parts (record_stands form (drop at b)) _ q.0 in
+        (p.0, p.1, q.1)
 
     pub walk_some : (n : ℕ) → 0 < n → walk form b pair at n ≡ walk form b (pair + 12) (at + s) (n - 1)
     unfolding walk

@@ -68,7 +68,8 @@ impl ShiftForm {
 
 // ---- a record, in a part that starts with it
 
-// A code below `codes`, or 255: not recorded. It tests a number, and converts none.
+// A code below `codes`, or 255: not recorded. It tests a number, and converts none: 255 is no code of a setting, and 6 is no matrix without kr and kb, so no
+// `TryFrom` reads them.
 fn is_code(codes: u32, code: u32) -> bool
     ensures { result ≡ is_code codes code }
 {
@@ -91,30 +92,10 @@ impl SettingCodes {
     pub fn are_allowed(self) -> bool
         ensures { result ≡ codes_allowed ShiftForm.WithSettings (code_list self) }
     {
-        (self.sampling < 2)
+        YuvChromaSubsampling::try_from(self.sampling).is_ok()
             && is_code(2, self.range)
             && is_code(7, self.matrix)
             && is_code(4, self.transfer)
-    }
-
-    // Whether the codes are allowed, in a form that has them.
-    pub fn are_allowed_in(self, form: ShiftForm) -> bool
-        ensures { result ≡ codes_allowed form (code_list self) }
-    {
-        match form {
-            ShiftForm::WithoutSettings => true,
-            ShiftForm::WithSettings => self.are_allowed(),
-        }
-    }
-
-    // The sampling of a record's planes: 4:2:0 in the form without settings.
-    pub fn sampling_in(self, form: ShiftForm) -> YuvChromaSubsampling
-        ensures { result ≡ sampling_of form (code_list self) }
-    {
-        match form {
-            ShiftForm::WithoutSettings => YuvChromaSubsampling::Yuv420,
-            ShiftForm::WithSettings => setting_codes::sampling_of(self.sampling),
-        }
     }
 }
 
@@ -233,6 +214,14 @@ pub fn from_place(bytes: &[u8], at: usize) -> &[u8]
     ensures { result.now ≡ drop at bytes.now }
 {
     &bytes[at..]
+}
+
+// The planes of a record, or of a picture, each a part of the bytes of its file.
+#[derive(Clone, Copy, Debug, PartialEq, Eq)]
+pub struct PlaneParts<'a> {
+    pub y: &'a [u8],
+    pub u: &'a [u8],
+    pub v: &'a [u8],
 }
 
 // So many bytes from a place on.

@@ -64,7 +64,7 @@ impl<'a> Part<'a> {
     pub fn sampling(&self) -> YuvChromaSubsampling
         ensures { result ≡ sampling_of self.now.form (settings_at self.now.form self.now.bytes.now) }
     {
-        self.settings().sampling_in(self.form)
+        setting_codes::sampling_of(self.settings().sampling)
     }
 
     // The bytes of the luma plane.
@@ -99,7 +99,7 @@ impl<'a> Part<'a> {
     fn are_settings(&self) -> bool
         ensures { result ≡ codes_allowed self.now.form (settings_at self.now.form self.now.bytes.now) }
     {
-        self.settings().are_allowed_in(self.form)
+        self.settings().are_allowed()
     }
 
     // Whether the sides and the settings are allowed.

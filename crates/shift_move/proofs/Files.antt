@@ -19,8 +19,10 @@ use Rattle.shift_file.specs.Read.{count_at, records_in}
 use Rattle.shift_file.specs.Check.{is_file}
 use Rattle.shift_file.proofs.Record.{length_bytes, size_most}
 use Rattle.shift_reader.specs.declared.file.ShiftFile.{ShiftFile}
+use Rattle.shift_reader.specs.declared.file.FileRecord.{FileRecord}
 use Rattle.shift_reader.specs.Entry.{record_of}
-use Rattle.shift_reader.proofs.Places.{Known, known, allowed}
+use Rattle.shift_reader.proofs.Places.{Known, known}
+use Rattle.shift_reader.proofs.Files.{record_allowed}
 use Rattle.shift_file.proofs.File.{its_records, length_file, file_most}
 use Rattle.shift_move.specs.Move.{other_form, is_plain, are_plain, may_move, moved_record, moved, moved_file}
 use Rattle.shift_writer.proofs.Pairs.{parts_put}
@@ -42,26 +44,23 @@ has_records form file n e bytes counted =
 pub file_records : (f : ShiftFile) → HasRecords f.form f.bytes.now f.count
 file_records f = has_records f.form f.bytes.now f.count f.checked f.are_bytes f.counted
 
--- what is known of record k, and of it moved
+-- what is known of a record, and of it moved
 pub record Moves (form : ShiftForm) (r : ShiftRecord) : Type 0 where
   pub settings : length r.settings ≡ settings_size form
   pub header : header_size form ≤ length (bytes_of r)
   pub most : length (bytes_of r) ≤ 2 ^ 30
   pub size : length (bytes_of (moved_record (other_form form) r)) + header_size form ≡ length (bytes_of r) + header_size (other_form form)
 
-pub moves : (form : ShiftForm) (file : List ℕ) (k n : ℕ) → is_file form file ≡ true → Bytes file → n ≡ count_at form file → k < n → Moves form (record_of form file k)
-moves form file k n e bytes counted below =
-    let h : HasRecords form file n = has_records form file n e bytes counted in
-    let r = record_of form file k in
-    let a : Allowed form r = allowed form file (records_in form file) k h.is_file_lem (omega (arith, h.count)) in record {
+pub record_moves : (x : FileRecord) → Moves x.file.form (record_of x.file.form x.file.bytes.now x.k)
+record_moves x =
+    let form = x.file.form in
+    let r = record_of form x.file.bytes.now x.k in
+    let a : Allowed form r = record_allowed x in record {
       settings = a.settings;
       header = omega (arith, length_bytes form r a);
       most = size_most form r a;
       size = length_moved (other_form form) form r a.settings;
     }
-
-pub file_moves : (f : ShiftFile) (k : ℕ) → k < f.count → Moves f.form (record_of f.form f.bytes.now k)
-file_moves f k below = moves f.form f.bytes.now k f.count f.checked f.are_bytes f.counted below
 
 -- ---- the records
 

@@ -6,12 +6,12 @@ ghost use Rattle.std.specs.Prelude.{◌≡◌, ◌+◌, ◌*◌, ◌^◌, ◌≤
 ghost use Rattle.std.proofs.lemmas.List.Edits.{sets};
 ghost use Rattle.shift_file.specs.File.{code_list, bytes_of, pairs_of, record_bytes};
 ghost use Rattle.shift_file.specs.Read.{records_in};
-ghost use Rattle.shift_reader.specs.Entry.{record_of};
+ghost use Rattle.shift_reader.specs.Known.{record_in};
 ghost use Rattle.shift_move.specs.Move.{other_form, plain_settings, is_plain, are_plain, may_move, moved_record, moved, moved_file};
 ghost use Rattle.shift_move.specs.Moving.{MovePost};
 
 use shift_file::{SettingCodes, ShiftForm};
-use shift_reader::file::ShiftFile;
+use shift_reader::file::{FileRecord, ShiftFile};
 use shift_writer::NotWritten;
 use yuv_error::YuvError;
 
@@ -39,7 +39,7 @@ fn are_plain(file: &ShiftFile) -> bool
     ensures { result ≡ are_plain (records_in file.now.form file.now.bytes.now) }
 {
     for k in 0..file.count {
-        if !is_plain(file.settings(k)) {
+        if !is_plain(file.record(k).settings()) {
             return false;
         }
     }
@@ -57,13 +57,12 @@ fn may_move(file: &ShiftFile) -> bool
 
 // ---- a record in the other form
 
-// The bytes of record k, moved.
-fn moved_size(file: &ShiftFile, k: usize) -> usize
-    requires { k < file.now.count }
-    ensures { result ≡ length (bytes_of (moved_record (other_form file.now.form) (record_of file.now.form file.now.bytes.now k))) }
+// The bytes of a record, moved.
+fn moved_size(file_record: &FileRecord) -> usize
+    ensures { result ≡ length (bytes_of (moved_record (other_form file_record.now.file.form) (record_in file_record.now))) }
 {
-    let entry = file.entry(k);
-    entry.length - file.form.header_size() + other_form(file.form).header_size()
+    let form = file_record.file.form;
+    file_record.entry().length - form.header_size() + other_form(form).header_size()
 }
 
 // The settings of a moved record.
@@ -76,16 +75,16 @@ fn plain_settings(form: ShiftForm) -> &'static [u8]
     }
 }
 
-// Record k, moved, at the front: crossing, width and height, other settings, and its planes.
-fn put_record(file: &ShiftFile, k: usize, output: &mut [u8])
-    requires below { k < file.now.count }
-    requires room { length (bytes_of (moved_record (other_form file.now.form) (record_of file.now.form file.now.bytes.now k))) ≤ length output.old }
-    ensures { output.new ≡ sets output.old 0 (bytes_of (moved_record (other_form file.now.form) (record_of file.now.form file.now.bytes.now k))) }
+// A record, moved, at the front: crossing, width and height, other settings, and its planes.
+fn put_record(file_record: &FileRecord, output: &mut [u8])
+    requires { length (bytes_of (moved_record (other_form file_record.now.file.form) (record_in file_record.now))) ≤ length output.old }
+    ensures { output.new ≡ sets output.old 0 (bytes_of (moved_record (other_form file_record.now.file.form) (record_in file_record.now))) }
 {
-    let to = other_form(file.form);
-    let record = file.record(k);
-    let planes = shift_file::from_place(record, file.form.header_size());
-    little_endian::put(output, 0, shift_file::part_of(record, 0, 8));
+    let form = file_record.file.form;
+    let to = other_form(form);
+    let bytes = file_record.bytes();
+    let planes = shift_file::from_place(bytes, form.header_size());
+    little_endian::put(output, 0, shift_file::part_of(bytes, 0, 8));
     little_endian::put(output, 8, plain_settings(to));
     little_endian::put(output, to.header_size(), planes);
 }
@@ -102,7 +101,7 @@ fn write_pairs(file: &ShiftFile, first_pair: usize, first: usize, output: &mut [
 {
     let mut at = first;
     for k in 0..file.count {
-        let size = moved_size(file, k);
+        let size = moved_size(&file.record(k));
         shift_writer::write_pair(output, first_pair + 12 * k, at, size);
         at += size;
     }
@@ -116,8 +115,9 @@ fn put_records(file: &ShiftFile, first: usize, output: &mut [u8])
 {
     let mut at = first;
     for k in 0..file.count {
-        put_record(file, k, &mut output[at..]);
-        at += moved_size(file, k);
+        let record = file.record(k);
+        put_record(&record, &mut output[at..]);
+        at += moved_size(&record);
     }
 }
 

@@ -12,6 +12,7 @@ use Rattle.merge_sort.specs.Order.{All}
 use Rattle.merge_sort.specs.Ascending.{insert, sorted, key, keys_from}
 use Rattle.merge_sort.proofs.Permuted.{all_map}
 use Rattle.merge_sort.proofs.Insertion.{sorted_all}
+use Rattle.merge_sort.proofs.Keys.{keys_rise}
 use Rattle.shift_file.specs.File.{ShiftRecord}
 use Rattle.crossing_keys.specs.Keys.{crossings_of}
 use Rattle.shift_pairs.specs.Pairs.{places_from}
@@ -48,11 +49,6 @@ insert-named c x (y ∷ l) h = at (insert-named c x l h.1) (leb x y) refl
         (swapped (eqb (x / 4096) c) (eqb (y / 4096) c) (x % 4096) (y % 4096) (named c l)
         (λ p q. omega (arith, leb-false x y e, h.0 (eqb-true _ _ q ∙ sym (eqb-true _ _ p)))))
 
-from_place : (i : ℕ) (cs : List ℕ) → i + length cs ≤ 4096 → All (λ k. i ≤ k % 4096) (keys_from i cs)
-unfolding All keys_from
-from_place i [] h = tt
-from_place i (c ∷ cs) h = (omega arith, all_map (keys_from (i + 1) cs) (λ k q. omega arith) (from_place (i + 1) cs (omega arith)))
-
 pub sorted-named : (c i : ℕ) (rs : List ShiftRecord) → i + length (crossings_of rs) ≤ 4096
     → named c (sorted (keys_from i (crossings_of rs))) ≡ places_from i c rs
 unfolding named sorted keys_from places_from
@@ -61,7 +57,7 @@ sorted-named c i (r ∷ rs) h =
     let later = sorted (keys_from (i + 1) (crossings_of rs)) in
     let x = key r.crossing i in
     let after : (k : ℕ) → i + 1 ≤ k % 4096 → k / 4096 ≡ x / 4096 → x ≤ k = λ k q same. omega arith in
-    let behind = all_map later after (sorted_all _ _ (from_place (i + 1) (crossings_of rs) (omega arith))) in
+    let behind = all_map later after (sorted_all _ _ (keys_rise (i + 1) (crossings_of rs) (omega arith)).0) in
     let crossing : x / 4096 ≡ r.crossing = omega arith in
     let place : x % 4096 ≡ i = omega arith in
     insert-named c x later behind ∙ rw (crossing, place, sorted-named c (i + 1) rs (omega arith))

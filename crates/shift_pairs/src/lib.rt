@@ -10,7 +10,7 @@ ghost use Rattle.shift_pairs.specs.Known.{OneMore};
 use crossing_keys::{Key, OrderedFile};
 use record_difference::Difference;
 use shift_file::ShiftForm;
-use shift_reader::file::ShiftFile;
+use shift_reader::file::{FileRecord, ShiftFile};
 use yuv_error::YuvError;
 
 // A pair that differs, by the places of its records in their files, from 0.
@@ -74,14 +74,13 @@ struct Tally {
     first: Option<DifferingPair>,
 }
 
-// One pair more, record i of ours with record j of theirs: here they are compared.
-fn with_pair(tally: Tally, ours: &ShiftFile, i: usize, theirs: &ShiftFile, j: usize) -> Tally
-    requires our_record { i < ours.now.count }
-    requires their_record { j < theirs.now.count }
-    requires few_pairs { tally.equal + tally.differing < 4096 }
-    ensures { OneMore (files_of ours.now.form ours.now.bytes.now theirs.now.form theirs.now.bytes.now) (record { ours = i; theirs = j }) tally result }
+// One pair more, a record of ours with one of theirs: here they are compared.
+fn with_pair(tally: Tally, ours: &FileRecord, theirs: &FileRecord) -> Tally
+    requires { tally.equal + tally.differing < 4096 }
+    ensures { OneMore (files_of ours.now.file.form ours.now.file.bytes.now theirs.now.file.form theirs.now.file.bytes.now)
+        (record { ours = ours.now.k; theirs = theirs.now.k }) tally result }
 {
-    let Some(difference) = record_difference::compare_records(ours, i, theirs, j) else {
+    let Some(difference) = record_difference::compare_records(ours, theirs) else {
         return Tally {
             equal: tally.equal + 1,
             ..tally
@@ -91,14 +90,14 @@ fn with_pair(tally: Tally, ours: &ShiftFile, i: usize, theirs: &ShiftFile, j: us
     if tally.differing != 0 {
         return Tally { differing, ..tally };
     }
-    let entry = ours.entry(i);
+    let entry = ours.entry();
     Tally {
         equal: tally.equal,
         differing,
         first: Some(DifferingPair {
             crossing: entry.crossing,
-            ours: i,
-            theirs: j,
+            ours: ours.k,
+            theirs: theirs.k,
             difference,
         }),
     }
@@ -132,7 +131,9 @@ fn pair_keys(ours: &OrderedFile, theirs: &OrderedFile) -> PairReport
         } else if their_crossing < our_crossing {
             j += 1;
         } else {
-            tally = with_pair(tally, &ours.file, x.place(), &theirs.file, y.place());
+            let our_record = ours.file.record(x.place());
+            let their_record = theirs.file.record(y.place());
+            tally = with_pair(tally, &our_record, &their_record);
             i += 1;
             j += 1;
         }

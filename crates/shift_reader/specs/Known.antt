@@ -2,9 +2,10 @@
 -- Assumes nothing.
 use Rattle.std.specs.Prelude.{ℕ, ◌+◌, ◌≤◌, ◌<◌, ◌≡◌, List, length, take, drop}
 use Rattle.shift_file.specs.declared.ShiftForm.{ShiftForm}
-use Rattle.shift_file.specs.File.{IsFileOf, header_size, bytes_of}
+use Rattle.shift_file.specs.File.{ShiftRecord, IsFileOf, header_size, bytes_of}
 use Rattle.shift_file.specs.Read.{records_in}
 use Rattle.shift_reader.specs.declared.ShiftEntry.{ShiftEntry}
+use Rattle.shift_reader.specs.declared.file.FileRecord.{FileRecord}
 use Rattle.shift_reader.specs.Entry.{record_of, offset_of}
 
 -- the file of its records, which are more than k
@@ -31,3 +32,11 @@ pub record EntryIs (form : ShiftForm) (file : List ℕ) (k : ℕ) (e : ShiftEntr
   pub y : take e.y_length (drop e.y_offset file) ≡ (record_of form file k).y
   pub u : take e.chroma_length (drop e.u_offset file) ≡ (record_of form file k).u
   pub v : take e.chroma_length (drop e.v_offset file) ≡ (record_of form file k).v
+
+-- what a record of a file is
+abbrev pub record_in : FileRecord → ShiftRecord
+record_in r = record_of r.file.form r.file.bytes.now r.k
+
+-- where it stands
+abbrev pub offset_in : FileRecord → ℕ
+offset_in r = offset_of r.file.form (records_in r.file.form r.file.bytes.now) r.k

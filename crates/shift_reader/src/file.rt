@@ -1,16 +1,15 @@
 // A shift file that the check let through, and its records (RULES 11.4).
-ghost use Rattle.std.specs.Prelude.{◌≡◌, ◌≤◌, true};
+ghost use Rattle.std.specs.Prelude.{◌≡◌, ◌≤◌, ◌<◌, true};
 ghost use Rattle.little_endian.specs.Number.{Bytes};
 ghost use Rattle.shift_file.specs.Read.{count_at};
 ghost use Rattle.shift_file.specs.Check.{is_file};
 
 use crate::ShiftEntry;
 use shift_file::part::Part;
-use shift_file::{SettingCodes, ShiftForm};
+use shift_file::{PlaneParts, SettingCodes, ShiftForm};
 use yuv_error::YuvError;
 
 // Bytes that are a shift file, and how many records it has. `RecordList` of `shift_writer` has the same fields, of records without count and pairs.
-// Record k is asked for by its number, as an item of a slice is: a value of file and number would be made for one call, and asks `k < count` too.
 #[derive(Clone, Copy)]
 pub struct ShiftFile<'a> {
     pub form: ShiftForm,
@@ -22,13 +21,18 @@ pub struct ShiftFile<'a> {
     ghost are_bytes: { Bytes bytes.now },
 }
 
+// Record k of a file, from 0.
+#[derive(Clone, Copy)]
+pub struct FileRecord<'a> {
+    pub file: ShiftFile<'a>,
+    pub k: usize,
+    ghost below: { k < file.count },
+}
+
 impl<'a> ShiftFile<'a> {
     ghost use Rattle.std.specs.Prelude.{◌≡◌, ◌<◌, ◌↔◌, true, false, length, IsOk, IfOk, IfErr};
-    ghost use Rattle.shift_file.specs.File.{settings_told, code_list, bytes_of};
     ghost use Rattle.shift_file.specs.Read.{records_in};
     ghost use Rattle.shift_file.specs.Check.{is_file};
-    ghost use Rattle.shift_reader.specs.Entry.{record_of};
-    ghost use Rattle.shift_reader.specs.Known.{EntryIs};
 
     // These bytes, where they are a shift file.
     pub fn open(form: ShiftForm, bytes: &'a [u8]) -> Result<ShiftFile<'a>, YuvError>
@@ -45,21 +49,34 @@ impl<'a> ShiftFile<'a> {
         }
     }
 
-    // Record k, without its bytes: its pair says where it stands, and its header what it is.
-    pub fn entry(&self, k: usize) -> ShiftEntry
+    // Record k.
+    pub fn record(&self, k: usize) -> FileRecord<'a>
         requires { k < self.now.count }
-        ensures { EntryIs self.now.form self.now.bytes.now k result }
+        ensures { (result.file ≡ self.now) × (result.k ≡ k) }
     {
-        let pair = self.form.mark_size() + 4 + 12 * k;
-        let offset = little_endian::read_u64(self.bytes, pair) as usize;
-        let length = little_endian::read_u32(self.bytes, pair + 8) as usize;
+        FileRecord { file: *self, k }
+    }
+}
+
+impl<'a> FileRecord<'a> {
+    ghost use Rattle.std.specs.Prelude.{◌≡◌};
+    ghost use Rattle.shift_file.specs.File.{settings_told, code_list, bytes_of};
+    ghost use Rattle.shift_reader.specs.Known.{EntryIs, record_in};
+
+    // The record without its bytes: its pair says where it stands, and its header what it is.
+    pub fn entry(&self) -> ShiftEntry
+        ensures { EntryIs self.now.file.form self.now.file.bytes.now self.now.k result }
+    {
+        let pair = self.file.form.mark_size() + 4 + 12 * self.k;
+        let offset = little_endian::read_u64(self.file.bytes, pair) as usize;
+        let length = little_endian::read_u32(self.file.bytes, pair + 8) as usize;
         let part = Part {
-            form: self.form,
-            bytes: shift_file::from_place(self.bytes, offset),
+            form: self.file.form,
+            bytes: shift_file::from_place(self.file.bytes, offset),
         };
         let luma = part.luma_size();
         let chroma = part.chroma_size();
-        let y_offset = offset + self.form.header_size();
+        let y_offset = offset + self.file.form.header_size();
         ShiftEntry {
             crossing: part.crossing(),
             width: part.width(),
@@ -74,47 +91,34 @@ impl<'a> ShiftFile<'a> {
         }
     }
 
-    // Record k: header and planes.
-    pub fn record(&self, k: usize) -> &'a [u8]
-        requires { k < self.now.count }
-        ensures { result.now ≡ bytes_of (record_of self.now.form self.now.bytes.now k) }
+    // Header and planes.
+    pub fn bytes(&self) -> &'a [u8]
+        ensures { result.now ≡ bytes_of (record_in self.now) }
     {
-        let entry = self.entry(k);
-        shift_file::part_of(self.bytes, entry.offset, entry.length)
+        let entry = self.entry();
+        shift_file::part_of(self.file.bytes, entry.offset, entry.length)
     }
 
-    pub fn y(&self, k: usize) -> &'a [u8]
-        requires { k < self.now.count }
-        ensures { result.now ≡ (record_of self.now.form self.now.bytes.now k).y }
+    pub fn planes(&self) -> PlaneParts<'a>
+        ensures y { result.y.now ≡ (record_in self.now).y }
+        ensures u { result.u.now ≡ (record_in self.now).u }
+        ensures v { result.v.now ≡ (record_in self.now).v }
     {
-        let entry = self.entry(k);
-        shift_file::part_of(self.bytes, entry.y_offset, entry.y_length)
+        let entry = self.entry();
+        PlaneParts {
+            y: shift_file::part_of(self.file.bytes, entry.y_offset, entry.y_length),
+            u: shift_file::part_of(self.file.bytes, entry.u_offset, entry.chroma_length),
+            v: shift_file::part_of(self.file.bytes, entry.v_offset, entry.chroma_length),
+        }
     }
 
-    pub fn u(&self, k: usize) -> &'a [u8]
-        requires { k < self.now.count }
-        ensures { result.now ≡ (record_of self.now.form self.now.bytes.now k).u }
-    {
-        let entry = self.entry(k);
-        shift_file::part_of(self.bytes, entry.u_offset, entry.chroma_length)
-    }
-
-    pub fn v(&self, k: usize) -> &'a [u8]
-        requires { k < self.now.count }
-        ensures { result.now ≡ (record_of self.now.form self.now.bytes.now k).v }
-    {
-        let entry = self.entry(k);
-        shift_file::part_of(self.bytes, entry.v_offset, entry.chroma_length)
-    }
-
-    // The settings of record k; 4:2:0, and nothing recorded, in the form without.
-    pub fn settings(&self, k: usize) -> SettingCodes
-        requires { k < self.now.count }
-        ensures { code_list result ≡ settings_told self.now.form (record_of self.now.form self.now.bytes.now k).settings }
+    // The settings; 4:2:0, and nothing recorded, in the form without.
+    pub fn settings(&self) -> SettingCodes
+        ensures { code_list result ≡ settings_told self.now.file.form (record_in self.now).settings }
     {
         let part = Part {
-            form: self.form,
-            bytes: self.record(k),
+            form: self.file.form,
+            bytes: self.bytes(),
         };
         part.settings()
     }

@@ -2,18 +2,18 @@
 // Nothing is copied: what the check did not look at, the planes, is not looked at here either.
 #![tactic(auto)]
 
-pub mod file; // a file that was checked
+pub mod file; // a file that was checked, and its records
 
 ghost use Rattle.std.specs.Prelude.{◌≡◌, ◌+◌, ◌*◌, ◌≤◌, ◌<◌, length};
 ghost use Rattle.std.proofs.lemmas.List.Edits.{sets};
 ghost use Rattle.shift_file.specs.File.{settings_told, code_list, bytes_of};
 ghost use Rattle.shift_file.specs.Read.{records_in};
-ghost use Rattle.shift_reader.specs.Entry.{record_of, entry_of, entry_size, entries_of, offset_of, nth};
-ghost use Rattle.shift_reader.specs.Known.{HasRecord, EntryIs};
+ghost use Rattle.shift_reader.specs.Entry.{record_of, entry_of, entry_size, entries_of, offset_of};
+ghost use Rattle.shift_reader.specs.Known.{HasRecord, EntryIs, record_in, offset_in};
 ghost use Rattle.shift_reader.specs.Reading.{ReadPost};
 
-use file::ShiftFile;
-use shift_file::{SettingCodes, ShiftForm};
+use file::{FileRecord, ShiftFile};
+use shift_file::{PlaneParts, SettingCodes, ShiftForm};
 use yuv_error::YuvError;
 
 // What is told of a record: eleven numbers, or its settings after them too.
@@ -82,19 +82,20 @@ impl From<ShiftEntry> for [u64; 11] {
 }
 
 // ---- record k of bytes that are known to have it. RULES 11.4 has a record and each of its planes be a part of the file, and these promise it of the bytes
-// themselves; each is one line over `ShiftFile`.
+// themselves; each is one line over `FileRecord`.
 
-// The file that these bytes are.
-fn known_file(form: ShiftForm, file: &[u8], k: usize) -> ShiftFile
+// Record k of the file that these bytes are.
+fn known_record(form: ShiftForm, file: &[u8], k: usize) -> FileRecord
     requires { HasRecord form file.now k }
-    ensures same { (result.form ≡ form) × (result.bytes.now ≡ file.now) }
-    ensures below { k < result.count }
+    ensures { (result.file.form ≡ form) × (result.file.bytes.now ≡ file.now) × (result.k ≡ k) }
 {
-    ShiftFile {
+    let count = shift_file::count_at(form, file) as usize;
+    let file = ShiftFile {
         form,
         bytes: file,
-        count: shift_file::count_at(form, file) as usize,
-    }
+        count,
+    };
+    FileRecord { file, k }
 }
 
 // Record k, without its bytes.
@@ -102,7 +103,7 @@ pub fn entry_of(form: ShiftForm, file: &[u8], k: usize) -> ShiftEntry
     requires { HasRecord form file.now k }
     ensures { EntryIs form file.now k result }
 {
-    known_file(form, file, k).entry(k)
+    known_record(form, file, k).entry()
 }
 
 // Record k: header and planes.
@@ -110,28 +111,17 @@ pub fn record_part(form: ShiftForm, file: &[u8], k: usize) -> &[u8]
     requires { HasRecord form file.now k }
     ensures { result.now ≡ bytes_of (record_of form file.now k) }
 {
-    known_file(form, file, k).record(k)
+    known_record(form, file, k).bytes()
 }
 
-pub fn y_part(form: ShiftForm, file: &[u8], k: usize) -> &[u8]
+// The planes of record k.
+pub fn record_planes(form: ShiftForm, file: &[u8], k: usize) -> PlaneParts
     requires { HasRecord form file.now k }
-    ensures { result.now ≡ (record_of form file.now k).y }
+    ensures y { result.y.now ≡ (record_of form file.now k).y }
+    ensures u { result.u.now ≡ (record_of form file.now k).u }
+    ensures v { result.v.now ≡ (record_of form file.now k).v }
 {
-    known_file(form, file, k).y(k)
-}
-
-pub fn u_part(form: ShiftForm, file: &[u8], k: usize) -> &[u8]
-    requires { HasRecord form file.now k }
-    ensures { result.now ≡ (record_of form file.now k).u }
-{
-    known_file(form, file, k).u(k)
-}
-
-pub fn v_part(form: ShiftForm, file: &[u8], k: usize) -> &[u8]
-    requires { HasRecord form file.now k }
-    ensures { result.now ≡ (record_of form file.now k).v }
-{
-    known_file(form, file, k).v(k)
+    known_record(form, file, k).planes()
 }
 
 // The settings of record k; 4:2:0, and nothing recorded, in the form without.
@@ -139,23 +129,21 @@ pub fn settings_of(form: ShiftForm, file: &[u8], k: usize) -> SettingCodes
     requires { HasRecord form file.now k }
     ensures { code_list result ≡ settings_told form (record_of form file.now k).settings }
 {
-    known_file(form, file, k).settings(k)
+    known_record(form, file, k).settings()
 }
 
 // ---- entries
 
-// The entry of record k at the front: eleven numbers, and its settings where they are told.
-fn tell_entry(kind: EntryKind, file: &ShiftFile, k: usize, entries: &mut [u64])
-    requires below { k < file.now.count }
-    requires room { entry_size kind ≤ length entries.old }
-    ensures { entries.new ≡ sets entries.old 0 (entry_of kind file.now.form (offset_of file.now.form (records_in file.now.form file.now.bytes.now) k)
-        (record_of file.now.form file.now.bytes.now k)) }
+// The entry of a record at the front: eleven numbers, and its settings where they are told.
+fn tell_entry(kind: EntryKind, file_record: &FileRecord, entries: &mut [u64])
+    requires { entry_size kind ≤ length entries.old }
+    ensures { entries.new ≡ sets entries.old 0 (entry_of kind file_record.now.file.form (offset_in file_record.now) (record_in file_record.now)) }
 {
-    little_endian::put(entries, 0, &<[u64; 11]>::from(file.entry(k)));
+    little_endian::put(entries, 0, &<[u64; 11]>::from(file_record.entry()));
     match kind {
         EntryKind::Places => {}
         EntryKind::PlacesAndSettings => {
-            little_endian::put(entries, 11, &<[u64; 4]>::from(file.settings(k)));
+            little_endian::put(entries, 11, &<[u64; 4]>::from(file_record.settings()));
         }
     }
 }
@@ -168,7 +156,7 @@ fn tell_entries(kind: EntryKind, file: &ShiftFile, first: usize, count: usize, e
 {
     let size = kind.size();
     for i in 0..count {
-        tell_entry(kind, file, first + i, &mut entries[size * i..]);
+        tell_entry(kind, &file.record(first + i), &mut entries[size * i..]);
     }
 }
 

@@ -1,3 +1,4 @@
 -- The laws.
 pub mod Rows
+pub mod Unpadded
 pub mod Made

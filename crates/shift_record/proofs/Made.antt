@@ -17,18 +17,22 @@ use Rattle.yuv_error.specs.declared.YuvError.{YuvError}
 use Rattle.yuv_error.specs.Numbers.{Numbers, numbers_of}
 use Rattle.yuv_error.specs.Rules.{Rule, first_numbers}
 use Rattle.yuv_error.proofs.Numbers.{refused_number}
-use Rattle.yuv_error.proofs.Accepted.{accepted_planes}
+use Rattle.yuv_error.specs.Known.{PlanesWhole}
+use Rattle.yuv_error.proofs.Accepted.{shape_accepted}
 use Rattle.little_endian.specs.Number.{Bytes, low_bytes}
 use Rattle.little_endian.proofs.Number.{length_low}
+use Rattle.little_endian.proofs.Stores.{sets-append}
+use native.Mathlib.Nat.{zero-add}
 use Rattle.shift_file.specs.declared.SettingCodes.{SettingCodes}
 use Rattle.shift_file.specs.File.{Allowed, settings_size, header_size, is_side, chroma_bytes, bytes_of}
 use Rattle.shift_file.proofs.Record.{side_bounds}
 use Rattle.shift_writer.specs.Output.{size_told}
 use Rattle.shift_writer.proofs.Pairs.{sets_four}
 use Rattle.shift_record.specs.declared.RecordFrame.{RecordFrame}
-use Rattle.shift_record.specs.Record.{unpadded, form_with, codes_in, record_form, settings_of, chroma_rows, record_made, header, record_size, y_lent, u_lent, v_lent, lent_rules, frame_allowed, opening_rules}
+use Rattle.shift_record.specs.Record.{unpadded_planes, form_with, codes_in, record_form, settings_of, record_shape, chroma_rows, record_made, header, record_size, lent_rules, frame_allowed, opening_rules}
 use Rattle.shift_record.specs.Known.{IsFrame, PlanesFit}
-use Rattle.shift_record.proofs.Rows.{length-unpadded, Bytes-unpadded}
+use Rattle.shift_record.proofs.Rows.{Bytes-unpadded}
+use Rattle.shift_record.proofs.Unpadded.{length-y, length-u, length-v, length-planes}
 
 -- ---- the settings
 
@@ -50,18 +54,28 @@ module _ (f : RecordFrame) (y u v : List ℕ) where
   abbrev Fit : Type 0
   Fit = PlanesFit f (length y) (length u) (length v)
 
+  pub whole : Fit → PlanesWhole (record_shape f) (length y) (length u) (length v)
+  whole p = record {
+    y_rows = record { wide = p.y_row; exact = p.y_size };
+    u_rows = record { wide = p.u_row; exact = p.u_size };
+    v_rows = record { wide = p.v_row; exact = p.v_size };
+  }
+
   y_size : Fit → length (record_made f y u v).y ≡ f.width * f.height
-  y_size p = length-unpadded _ _ p.y_row f.height y (omega (arith, p.y_size))
+  y_size p = length-y (record_shape f) y u v (whole p)
 
   u_size : Fit → length (record_made f y u v).u ≡ chroma_width f.width * chroma_rows f
-  u_size p = length-unpadded _ _ p.u_row (chroma_rows f) u (omega (arith, p.u_size))
+  u_size p = length-u (record_shape f) y u v (whole p)
 
   v_size : Fit → length (record_made f y u v).v ≡ chroma_width f.width * chroma_rows f
-  v_size p = length-unpadded _ _ p.v_row (chroma_rows f) v (omega (arith, p.v_size))
+  v_size p = length-v (record_shape f) y u v (whole p)
 
   pub length_made : Fit → length (bytes_of (record_made f y u v)) ≡ record_size f
   unfolding bytes_of
   length_made p = simp (length-append, length_low) (omega (arith, length_codes f.settings, y_size p, u_size p, v_size p))
+
+  pub length_parts : Fit → length (bytes_of (record_made f y u v)) ≡ header_size (record_form f) + length (unpadded_planes (record_shape f) y u v)
+  length_parts p = omega (arith, length_made p, length-planes (record_shape f) y u v (whole p))
 
   pub made_Allowed : Fit → f.crossing < 256 ^ 4 → is_side f.width ≡ true → is_side f.height ≡ true → Bytes y → Bytes u → Bytes v
       → Allowed (record_form f) (record_made f y u v)
@@ -81,39 +95,28 @@ module _ (f : RecordFrame) (y u v : List ℕ) where
   }
 
   -- header and planes put one after the other
-  record_put : Fit → (d : List ℕ) (y_at u_at v_at : ℕ) → y_at ≡ header_size (record_form f) → u_at ≡ y_at + f.width * f.height
-      → v_at ≡ u_at + chroma_width f.width * chroma_rows f
-      → let r = record_made f y u v in sets (sets (sets (sets d 0 (header f)) y_at r.y) u_at r.u) v_at r.v ≡ sets d 0 (bytes_of r)
-  unfolding bytes_of
-  record_put p d y_at u_at v_at ye ue ve =
+  pub record_put : (d : List ℕ) (at : ℕ) → at ≡ header_size (record_form f)
+      → sets (sets d 0 (header f)) at (unpadded_planes (record_shape f) y u v) ≡ sets d 0 (bytes_of (record_made f y u v))
+  unfolding bytes_of unpadded_planes
+  record_put d at e =
       let r = record_made f y u v in
-      let same : header f ++ (r.y ++ (r.u ++ r.v)) ≡ bytes_of r = simp append_assoc in
-      let top : length (header f) ≡ y_at = length-header f ∙ sym ye in
-      sets_four (header f) r.y r.u r.v d y_at u_at v_at top (rw (y_size p) (sym ue)) (rw (u_size p) (sym ve))
-      ∙ ap (sets d 0) same
-
-  -- the same, from what each step tells
-  pub record_steps : Fit → (d out₁ out₂ out₃ out₄ : List ℕ) (width rows y_at u_at v_at : ℕ) → out₁ ≡ sets d 0 (header f)
-      → y_at ≡ header_size (record_form f) → out₂ ≡ sets out₁ y_at (unpadded f.width f.y_stride f.height y)
-      → width ≡ chroma_width f.width → rows ≡ chroma_rows f
-      → u_at ≡ y_at + f.width * f.height → out₃ ≡ sets out₂ u_at (unpadded width f.u_stride rows u)
-      → v_at ≡ u_at + chroma_width f.width * chroma_rows f → out₄ ≡ sets out₃ v_at (unpadded width f.v_stride rows v)
-      → out₄ ≡ sets d 0 (bytes_of (record_made f y u v))
-  record_steps p d out₁ out₂ out₃ out₄ width rows y_at u_at v_at e₁ ye e₂ ew er ue e₃ ve e₄ =
-      rw (e₄, e₃, e₂, e₁, ew, er) (record_put p d y_at u_at v_at ye ue ve)
+      let planes = r.y ++ (r.u ++ r.v) in
+      let same : header f ++ planes ≡ bytes_of r = simp append_assoc in
+      let top : at ≡ length (header f) = e ∙ sym (length-header f) in
+      rw (top, ← same, sets-append (header f) planes d 0, zero-add (length (header f)))
 
   -- what the checks say
   pub planes_Fit : IsFrame f → (first_numbers (lent_rules f y u v)).number ≡ 0 → Fit
   planes_Fit is e =
-      let a = accepted_planes (y_lent f (length y)) (u_lent f (length u)) (v_lent f (length v)) e in
+      let a = shape_accepted (record_shape f) (length y) (length u) (length v) e in
       record {
         frame = is;
-        y_row = a.0.wide;
-        y_size = a.0.exact;
-        u_row = a.1.wide;
-        u_size = a.1.exact;
-        v_row = a.2.wide;
-        v_size = a.2.exact;
+        y_row = a.y_rows.wide;
+        y_size = a.y_rows.exact;
+        u_row = a.u_rows.wide;
+        u_size = a.u_rows.exact;
+        v_row = a.v_rows.wide;
+        v_size = a.v_rows.exact;
       }
 
 pub header_put : (f : RecordFrame) (d : List ℕ)

@@ -7,7 +7,7 @@ use Rattle.shift_record.specs.declared.RecordFrame.{RecordFrame}
 use Rattle.shift_record.specs.Record.{record_form, settings_of, chroma_rows}
 
 -- sides of 1 to 16,384, and codes that are allowed
--- two contracts ask it, of a frame that callers fill in: no type carries it; y4m_picture has another fact of this name
+-- a part of `PlanesFit`, which a type carries; alone no contract asks it; y4m_picture has another fact of this name
 pub record IsFrame (f : RecordFrame) : Type 0 where
   pub width_least : 1 ≤ f.width
   pub width_most : f.width ≤ 16384

@@ -4,8 +4,10 @@ use Rattle.std.specs.Prelude.{ℕ, zero, suc, ◌+◌, ◌*◌, ◌≡◌, Bool,
 use Rattle.yuv_support.specs.declared.YuvChromaSubsampling.{YuvChromaSubsampling}
 use Rattle.yuv_support.specs.Sampling.{chroma_width, chroma_height}
 use Rattle.yuv_error.specs.declared.LentBuffer.{LentBuffer}
+use Rattle.yuv_error.specs.declared.PlaneShape.{PlaneShape}
 use Rattle.yuv_error.specs.Numbers.{numbers_of}
-use Rattle.yuv_error.specs.Rules.{Rule, rule, first_numbers, planes_rules}
+use Rattle.yuv_error.specs.Rules.{Rule, rule, first_numbers}
+use Rattle.yuv_error.specs.Shape.{luma_lent, chroma_lent, shape_rules}
 use Rattle.little_endian.specs.Number.{low_bytes}
 use Rattle.shift_file.specs.declared.ShiftForm.{ShiftForm}
 use Rattle.shift_file.specs.declared.ShiftForm.TheVariants.{WithoutSettings, WithSettings}
@@ -19,6 +21,13 @@ use Rattle.shift_record.specs.declared.RecordFrame.{RecordFrame}
 unfoldable pub unpadded : (n stride rows : ℕ) → (plane : List ℕ) → List ℕ
 unpadded n stride zero plane = []
 unpadded n stride (suc rows) plane = take n plane ++ unpadded n stride rows (drop stride plane)
+
+-- RULES 11.6: Y, U and V without their padding, one after the other
+unfoldable pub unpadded_planes : PlaneShape → (y u v : List ℕ) → List ℕ
+unpadded_planes s y u v =
+    let cw = chroma_width s.width in
+    let ch = chroma_height s.sampling s.height in
+    unpadded s.width s.y_stride s.height y ++ (unpadded cw s.u_stride ch u ++ unpadded cw s.v_stride ch v)
 
 -- RULES 11.7: the form of a record with these settings, or with none
 abbrev pub form_with : Option SettingCodes → ShiftForm
@@ -41,6 +50,17 @@ settings_of f = codes_in f.settings
 -- RULES 11.6: 4:2:0. RULES 11.7: the recorded sampling
 abbrev pub frame_sampling : RecordFrame → YuvChromaSubsampling
 frame_sampling f = sampling_of (record_form f) (settings_of f)
+
+-- RULES 11.6, 11.7: the shape of its planes
+abbrev pub record_shape : RecordFrame → PlaneShape
+record_shape f = record {
+  width = f.width;
+  height = f.height;
+  sampling = frame_sampling f;
+  y_stride = f.y_stride;
+  u_stride = f.u_stride;
+  v_stride = f.v_stride;
+}
 
 -- RULES 11.6: ch
 abbrev pub chroma_rows : RecordFrame → ℕ
@@ -70,19 +90,19 @@ record_size f = header_size (record_form f) + (f.width * f.height + 2 * (chroma_
 
 -- RULES 7.6, 11.6: the planes, as a frame call is lent them
 abbrev pub y_lent : RecordFrame → (len : ℕ) → LentBuffer
-y_lent f len = record { row = f.width; rows = f.height; stride = f.y_stride; len = len }
+y_lent f len = luma_lent (record_shape f) len
 
 -- RULES 7.6, 11.6
 abbrev pub u_lent : RecordFrame → (len : ℕ) → LentBuffer
-u_lent f len = record { row = chroma_width f.width; rows = chroma_rows f; stride = f.u_stride; len = len }
+u_lent f len = chroma_lent (record_shape f) f.u_stride len
 
 -- RULES 7.6, 11.6
 abbrev pub v_lent : RecordFrame → (len : ℕ) → LentBuffer
-v_lent f len = record { row = chroma_width f.width; rows = chroma_rows f; stride = f.v_stride; len = len }
+v_lent f len = chroma_lent (record_shape f) f.v_stride len
 
 -- RULES 11.6: 8 to 12
 abbrev pub lent_rules : RecordFrame → (y u v : List ℕ) → List Rule
-lent_rules f y u v = planes_rules (y_lent f (length y)) (u_lent f (length u)) (v_lent f (length v))
+lent_rules f y u v = shape_rules (record_shape f) (length y) (length u) (length v)
 
 -- RULES 11.6: the sides are those of a frame. RULES 11.7: the settings have such codes
 abbrev pub frame_allowed : RecordFrame → Bool

@@ -3,19 +3,15 @@
 #![tactic(auto)]
 
 mod planes; // a frame and its planes that were checked
-pub mod padded; // the rows of a plane
+pub mod padded; // rows with their padding: of a plane, of the three planes of a shape
 
 ghost use Rattle.std.specs.Prelude.{◌≡◌};
-ghost use Rattle.yuv_error.specs.Numbers.{numbers_of};
-ghost use Rattle.yuv_error.specs.Rules.{first_numbers, planes_rules};
-ghost use Rattle.shift_record.specs.Record.{record_form, frame_sampling, y_lent, u_lent, v_lent, frame_allowed};
-ghost use Rattle.shift_record.specs.Record.{RecordPost};
-ghost use Rattle.shift_record.specs.Known.{IsFrame};
+ghost use Rattle.shift_record.specs.Record.{record_form, frame_sampling, record_shape, frame_allowed, RecordPost};
 
 use planes::FramePlanes;
 use shift_file::{SettingCodes, ShiftForm};
 use shift_writer::NotWritten;
-use yuv_error::{LentBuffer, YuvError};
+use yuv_error::PlaneShape;
 use yuv_support::YuvChromaSubsampling;
 
 // What a record says of its frame, and the strides of the planes that it is made of. A record of the form without settings has `None` for them.
@@ -59,34 +55,24 @@ impl RecordFrame {
             && shift_file::is_side(self.height as usize)
             && self.settings.is_none_or(SettingCodes::are_allowed)
     }
+}
 
-    // Refusals 8 to 12.
-    fn check_planes(self, y: usize, u: usize, v: usize) -> Result<(), YuvError>
-        requires { IsFrame self }
-        ensures { numbers_of result ≡ first_numbers (planes_rules (y_lent self y) (u_lent self u) (v_lent self v)) }
-    {
-        let chroma_width = yuv_support::chroma_width(self.width as usize) as u32;
-        let chroma_height = self.sampling().chroma_height(self.height as usize) as u32;
-        yuv_error::check_planes(
-            LentBuffer {
-                row: self.width,
-                rows: self.height,
-                stride: self.y_stride,
-                len: y,
-            },
-            LentBuffer {
-                row: chroma_width,
-                rows: chroma_height,
-                stride: self.u_stride,
-                len: u,
-            },
-            LentBuffer {
-                row: chroma_width,
-                rows: chroma_height,
-                stride: self.v_stride,
-                len: v,
-            },
-        )
+// What its planes are held against, field by field, as of another frame in `y4m_picture`: a trait over the two would have a method for each of the six.
+impl From<RecordFrame> for PlaneShape {
+    ghost use Rattle.std.specs.Prelude.{◌≡◌};
+    ghost use Rattle.shift_record.specs.Record.{record_shape};
+
+    ghost from_gives = { λ frame shape. shape ≡ record_shape frame };
+
+    fn from(frame: RecordFrame) -> PlaneShape {
+        PlaneShape {
+            width: frame.width,
+            height: frame.height,
+            sampling: frame.sampling(),
+            y_stride: frame.y_stride,
+            u_stride: frame.u_stride,
+            v_stride: frame.v_stride,
+        }
     }
 }
 

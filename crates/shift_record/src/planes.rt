@@ -3,8 +3,8 @@ ghost use Rattle.std.specs.Prelude.{length};
 ghost use Rattle.shift_record.specs.Known.{PlanesFit};
 
 use crate::RecordFrame;
-use crate::padded::PaddedRows;
-use yuv_error::YuvError;
+use crate::padded::PaddedPlanes;
+use yuv_error::{PlaneShape, YuvError};
 
 #[derive(Clone, Copy)]
 pub struct FramePlanes<'a> {
@@ -38,7 +38,7 @@ impl<'a> FramePlanes<'a> {
         if !frame.is_allowed() {
             return Err(YuvError::MalformedShiftFile);
         }
-        frame.check_planes(y.len(), u.len(), v.len())?;
+        PlaneShape::from(frame).check(y.len(), u.len(), v.len())?;
         Ok(FramePlanes { frame, y, u, v })
     }
 
@@ -80,42 +80,19 @@ impl<'a> FramePlanes<'a> {
         self.put_settings(output);
     }
 
-    // The record, at the front. `put` of `y4m_picture` makes the same three rows, of another frame: one function for both would take sides, sampling,
-    // strides and planes one by one, and ask in its clauses what each of the two types carries, which is no plainer.
+    // The record, at the front.
     #[tactic(auto, using(crate::proofs::Made::length_made))]
     pub fn put_record(&self, output: &mut [u8])
         requires { length (bytes_of (record_made self.now.frame self.now.y.now self.now.u.now self.now.v.now)) ≤ length output.old }
         ensures { output.new ≡ sets output.old 0 (bytes_of (record_made self.now.frame self.now.y.now self.now.u.now self.now.v.now)) }
     {
-        let width = self.frame.width as usize;
-        let height = self.frame.height as usize;
-        let sampling = self.frame.sampling();
-        let chroma_width = yuv_support::chroma_width(width);
-        let chroma_height = sampling.chroma_height(height);
-        let y_at = self.frame.form().header_size();
-        let u_at = y_at + shift_file::luma_size(width, height);
-        let v_at = u_at + shift_file::chroma_size(sampling, width, height);
-        let y = PaddedRows {
-            bytes: self.y,
-            size: width,
-            stride: self.frame.y_stride as usize,
-            count: height,
-        };
-        let u = PaddedRows {
-            bytes: self.u,
-            size: chroma_width,
-            stride: self.frame.u_stride as usize,
-            count: chroma_height,
-        };
-        let v = PaddedRows {
-            bytes: self.v,
-            size: chroma_width,
-            stride: self.frame.v_stride as usize,
-            count: chroma_height,
+        let planes = PaddedPlanes {
+            shape: self.frame.into(),
+            y: self.y,
+            u: self.u,
+            v: self.v,
         };
         self.put_header(output);
-        y.put(output, y_at);
-        u.put(output, u_at);
-        v.put(output, v_at);
+        planes.put(output, self.frame.form().header_size());
     }
 }

@@ -2,7 +2,7 @@
 // room it takes: 32 KiB of stack, and no heap.
 #![tactic(auto)]
 
-ghost use Rattle.std.specs.Prelude.{◌≡◌, ◌*◌, ◌≤◌, ◌<◌, length, get_or};
+ghost use Rattle.std.specs.Prelude.{◌≡◌, ◌*◌, ◌≤◌, length, get_or};
 ghost use Rattle.std.proofs.lemmas.List.Edits.{sets};
 ghost use Rattle.summary_entry.specs.Entry.{no_entry};
 ghost use Rattle.shift_file.specs.Read.{records_in};
@@ -10,19 +10,18 @@ ghost use Rattle.shift_summary.specs.Summary.{entries_of};
 ghost use Rattle.shift_summary.specs.Built.{summary_of};
 
 use crossing_keys::{Key, OrderedFile};
-use shift_reader::file::ShiftFile;
+use shift_reader::file::{FileRecord, ShiftFile};
 use summary_entry::{ENTRY, SummaryEntry};
 
-// The entry of record k.
-pub fn entry_at(file: &ShiftFile, k: usize) -> SummaryEntry
-    requires { k < file.now.count }
-    ensures { result ≡ get_or (entries_of file.now.form (records_in file.now.form file.now.bytes.now)) k no_entry }
+// The entry of a record.
+pub fn entry_at(file_record: &FileRecord) -> SummaryEntry
+    ensures { result ≡ get_or (entries_of file_record.now.file.form (records_in file_record.now.file.form file_record.now.file.bytes.now)) file_record.now.k no_entry }
 {
-    let entry = file.entry(k);
+    let entry = file_record.entry();
     SummaryEntry {
         crossing: entry.crossing,
         offset: entry.offset as u64,
-        mean: luma_mean::mean_luma(file.y(k)),
+        mean: luma_mean::mean_luma(file_record.planes().y),
     }
 }
 
@@ -36,7 +35,7 @@ fn write_entries(ordered: &OrderedFile, summary: &mut [u8])
     let keys = ordered.keys;
     for (i, key) in keys.iter().enumerate() {
         let place = key.place();
-        let entry = entry_at(&ordered.file, place);
+        let entry = entry_at(&ordered.file.record(place));
         summary_entry::write_entry(summary, ENTRY * i, entry);
     }
 }

@@ -8,11 +8,15 @@ use Rattle.yuv_error.specs.Rules.{Rule, rule}
 use Rattle.shift_writer.specs.declared.NotWritten.{NotWritten}
 use Rattle.shift_writer.specs.declared.NotWritten.TheVariants.{Refused, TooShort}
 
+-- RULES 11.5: the refusal of a call that wrote nothing: 16 where the output is too short
+abbrev pub refusal_of : NotWritten → YuvError
+refusal_of (Refused e) = e
+refusal_of (TooShort size) = OutputTooShort
+
 -- RULES 11.5: the answer of a call: finished, or its refusal
 abbrev pub outcome_of : Result ℕ NotWritten → Result Unit YuvError
 outcome_of (Ok size) = Ok tt
-outcome_of (Err (Refused e)) = Err e
-outcome_of (Err (TooShort size)) = Err OutputTooShort
+outcome_of (Err reason) = Err (refusal_of reason)
 
 -- RULES 11.5: the size that it tells
 abbrev pub size_of : Result ℕ NotWritten → ℕ

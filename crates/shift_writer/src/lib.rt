@@ -36,7 +36,23 @@ impl From<YuvError> for NotWritten {
     }
 }
 
-// The bytes that were written, or that are wanted where the output is too short for them; 0 with a refusal.
+// The refusal without the size: 16 where the output is too short.
+impl From<NotWritten> for YuvError {
+    ghost use Rattle.std.specs.Prelude.{◌≡◌};
+    ghost use Rattle.shift_writer.specs.Output.{refusal_of};
+
+    ghost from_gives = { λ reason error. error ≡ refusal_of reason };
+
+    fn from(reason: NotWritten) -> YuvError {
+        match reason {
+            NotWritten::Refused(refusal) => refusal,
+            NotWritten::TooShort(_) => YuvError::OutputTooShort,
+        }
+    }
+}
+
+// The bytes that were written, or that are wanted where the output is too short for them; 0 with a refusal. No `From`, here and in the next: `Result` and
+// `usize` are std's, and these are the two things that an answer tells.
 pub fn size_of(written: Result<usize, NotWritten>) -> usize
     ensures { result ≡ size_of written }
 {
@@ -51,11 +67,7 @@ pub fn size_of(written: Result<usize, NotWritten>) -> usize
 pub fn outcome_of(written: Result<usize, NotWritten>) -> Result<(), YuvError>
     ensures { result ≡ outcome_of written }
 {
-    match written {
-        Ok(_) => Ok(()),
-        Err(NotWritten::TooShort(_)) => Err(YuvError::OutputTooShort),
-        Err(NotWritten::Refused(error)) => Err(error),
-    }
+    written.map(|_| ()).map_err(YuvError::from)
 }
 
 // For callers without enums: tells the size, and answers the refusal's number, 0 of finished work.

@@ -12,6 +12,8 @@ use lib.Seq.{drop-cons}
 use Rattle.shift_file.specs.File.{ShiftRecord}
 use Rattle.shift_reader.specs.Entry.{no_record, nth}
 use Rattle.std.specs.Prelude.{Some, None}
+use Rattle.std.proofs.lemmas.Option.{cond_some}
+use Rattle.shift_writer.proofs.Count.{not_standing}
 use Rattle.summary_calls.specs.Found.{place_of_first, found_among, IsFirst, Finds}
 
 module _ (crossing : ℕ) where
@@ -55,20 +57,13 @@ module _ (crossing : ℕ) where
 pub finds : Finds
 finds = record { some = some; none = none }
   where
-    told : (c : ℕ) (rs : List ShiftRecord) (k : ℕ) (t : Bool) → ltb (place_of_first c rs) (length rs) ≡ t → cond t (Some (place_of_first c rs)) None ≡ Some k
-        → (place_of_first c rs < length rs) × (place_of_first c rs ≡ k)
-    told c rs k true q e = (ltb-true _ _ q, cc)
-    told c rs k false q e = absurd (let z : ◌≡◌ {A = ℕ} 0 1 = cc in omega arith)
-
     some : (c : ℕ) (rs : List ShiftRecord) (k : ℕ) → found_among c rs ≡ Some k → IsFirst c rs k
     some c rs k e =
-        let p = told c rs k (ltb (place_of_first c rs) (length rs)) refl e in
-        rw (← p.1) (record { below = p.0; has = first_has c rs p.0; before = λ i h. before_first c rs i h (omega arith) })
-
-    untold : (c : ℕ) (rs : List ShiftRecord) (t : Bool) → ltb (place_of_first c rs) (length rs) ≡ t → cond t (Some (place_of_first c rs)) None ≡ None
-        → length rs ≤ place_of_first c rs
-    untold c rs true q e = absurd (let z : ◌≡◌ {A = ℕ} 0 1 = cc in omega arith)
-    untold c rs false q e = ltb-false _ _ q
+        let p = cond_some (ltb (place_of_first c rs) (length rs)) (place_of_first c rs) k e in
+        let below = ltb-true _ _ p.0 in
+        rw (← p.1) (record { below = below; has = first_has c rs below; before = λ i h. before_first c rs i h (omega arith) })
 
     none : (c : ℕ) (rs : List ShiftRecord) → found_among c rs ≡ None → (i : ℕ) → i < length rs → (nth rs i).crossing ≡ c → ⊥
-    none c rs e i h = let all = untold c rs (ltb (place_of_first c rs) (length rs)) refl e in before_first c rs i (omega arith) h
+    none c rs e i h =
+        let all = ltb-false _ _ (not_standing (ltb (place_of_first c rs) (length rs)) (place_of_first c rs) e) in
+        before_first c rs i (omega arith) h

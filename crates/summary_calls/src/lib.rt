@@ -39,7 +39,7 @@ fn first_of(file: &ShiftFile, crossing: u32) -> Option<usize>
 {
     // A `for` loop: by `find` over the places the proof did not close.
     for k in 0..file.count {
-        if file.entry(k).crossing == crossing {
+        if file.record(k).entry().crossing == crossing {
             return Some(k);
         }
     }

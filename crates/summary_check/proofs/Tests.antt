@@ -24,8 +24,8 @@ use Rattle.summary_check.specs.Check.{same_entries, are_entries, is_summary}
 pub entries_same : (l m : List SummaryEntry) → same_entries l m ≡ true → l ≡ m
 unfolding same_entries
 entries_same [] [] h = refl
-entries_same [] (b ∷ m) h = absurd (let z : ◌≡◌ {A = ℕ} 0 1 = cc in omega arith)
-entries_same (a ∷ l) [] h = absurd (let z : ◌≡◌ {A = ℕ} 0 1 = cc in omega arith)
+entries_same [] (b ∷ m) h = absurd (cc h)
+entries_same (a ∷ l) [] h = absurd (cc h)
 entries_same (a ∷ l) (b ∷ m) h =
     let p = (and-eq-true_iff (same_entry a b) _).0 h in
     ap₂ {C = List SummaryEntry} (λ (x : SummaryEntry) (r : List SummaryEntry). x ∷ r) (same_true a b p.0) (entries_same l m p.1)

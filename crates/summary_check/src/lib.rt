@@ -22,7 +22,7 @@ fn are_those(ordered: &OrderedFile, summary: &[u8]) -> bool
     for (i, key) in keys.iter().enumerate() {
         let entry = summary_entry::read_entry(summary, ENTRY * i);
         let place = key.place();
-        let of_file = shift_summary::entry_at(&ordered.file, place);
+        let of_file = shift_summary::entry_at(&ordered.file.record(place));
         if entry != of_file {
             return false;
         }

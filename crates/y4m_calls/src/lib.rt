@@ -12,24 +12,11 @@ use y4m_picture::PictureFrame;
 use y4m_reader::Y4mReading;
 use yuv_error::YuvError;
 
-// The numbers of a reading.
-fn reading_numbers(read: Y4mReading) -> [usize; 5]
-    ensures { result ≡ y4m_told read }
-{
-    [
-        read.header.width,
-        read.header.height,
-        u32::from(read.header.sampling) as usize,
-        read.count,
-        read.told,
-    ]
-}
-
 fn tell_reading(reading: Result<Y4mReading, YuvError>, told: &mut [usize; 5]) -> u32
     ensures number { result ≡ (numbers_of (y4m_outcome reading)).number }
     ensures told { told.new ≡ y4m_told (y4m_reading_of reading) }
 {
-    *told = reading.map_or([0; 5], reading_numbers);
+    *told = reading.map_or([0; 5], <[usize; 5]>::from);
     error_numbers::answer_numbers(reading.map(|_| ())).number
 }
 

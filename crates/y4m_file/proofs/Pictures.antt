@@ -11,6 +11,7 @@ use lib.ListN.{length, take, drop, length-append, length-drop, take-append-drop}
 use lib.Seq.{take-add, drop-drop, drop_at, take_at, length-take-le}
 use borrow.Author.Tests.{lt-ltb, ltb-true, eqb-true}
 use Rattle.std.proofs.lemmas.Bool.{and_from, and_parts}
+use Rattle.std.proofs.lemmas.List.{nil_from_length}
 use Rattle.y4m_line.specs.Line.{line_of, frame, text_of}
 use Rattle.y4m_line.specs.Header.{tags_in, is_line, line_end}
 use Rattle.y4m_line.proofs.Text.{frame_tag, tags_text, text_line, length_line, end_is, end_short, text_is, rest_is, front_line, front_split}
@@ -152,14 +153,10 @@ module _ (luma chroma : ℕ) where
         ap₂ (λ q qs. q ∷ qs) (picture_is p e.0 (pictures_bytes ps) l refl) (rw next ih.1),
       )
 
-  empty : (l : List ℕ) → length l ≡ 0 → [] ≡ l
-  empty [] h = refl
-  empty (a ∷ l) h = absurd (omega arith)
-
   pub pictures_split : (k : ℕ) (l : List ℕ) → pictures sum k l ≡ true
       → EachAllowed luma chroma (pictures_from luma chroma k l) × (pictures_bytes (pictures_from luma chroma k l) ≡ l)
   unfolding pictures pictures_bytes pictures_from
-  pictures_split zero l e = (tt, empty l (eqb-true (length l) 0 e))
+  pictures_split zero l e = (tt, sym (nil_from_length l (eqb-true (length l) 0 e)))
   pictures_split (suc k) l e =
       let p = and_parts (ltb 0 (picture_size sum l)) _ e in
       let s = Stands-true sum l (ltb-true 0 (picture_size sum l) p.0) in

@@ -14,7 +14,7 @@ ghost use Rattle.y4m_file.specs.Known.{CountPost};
 pub use opened::Y4mRead;
 use yuv_support::YuvChromaSubsampling;
 
-// The bytes of a picture's planes. No `HeaderLine` is taken: `can_write` of `y4m_writer` and `y4m_picture` ask it of sides that are of no header yet.
+// The bytes of a picture's planes. No `HeaderLine` is taken: `y4m_picture` asks it of a frame that has strides too, and no header.
 pub fn plane_bytes(sampling: YuvChromaSubsampling, width: usize, height: usize) -> usize
     requires { (width ≤ 16384) × (height ≤ 16384) }
     ensures { (result ≡ plane_bytes sampling width height) × (result ≤ 2 ^ 34) }

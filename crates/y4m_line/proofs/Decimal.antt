@@ -1,14 +1,14 @@
 -- Laws of decimals and sizes. Assumes nothing.
 use Prim.Native.Nat.{ℕ, zero, suc, ◌+◌, ◌*◌, ◌-◌, ◌≤◌, ◌<◌}
 use mathlib.Core.Path.{◌≡◌, refl, sym}
-use mathlib.Core.Bool.{Bool, true, false, cond, ◌&&◌, not}
+use mathlib.Core.Bool.{Bool, true, false, ◌&&◌}
 use mathlib.Core.List.{List, [], ◌∷◌}
 use native.Mathlib.Omega.{arith}
-use lib.Dec.{leb, eqb}
+use lib.Dec.{leb}
 use lib.ListN.{length, get_or, drop, drop_of_length-le}
 use lib.Seq.{drop-cons}
 use borrow.Author.Tests.{le-leb, lt-leb, leb-true, leb-false, eq-eqb, ne_eqb}
-use Rattle.std.proofs.lemmas.Bool.{and_parts}
+use Rattle.std.proofs.lemmas.Bool.{and_parts, and_left, and_right, cond-false, cond_both}
 use Rattle.std.specs.Prelude.{Option, Some, None, SomeIff}
 use Rattle.std.specs.Char.{digit_value}
 use Rattle.std.specs.Option.{unwrap_or}
@@ -73,22 +73,13 @@ unfolding size is_size
 size_zero [] h e = absurd (omega arith)
 size_zero (a ∷ t) h e = rw (eq-eqb a 48 e)
 
-not_size : (p q r : Bool) (v : ℕ) → q ≡ false → cond (p && (q && r)) v 0 ≡ 0
-not_size true q r v e = rw e
-not_size false q r v e = refl
-
 pub size_bad : (t : List ℕ) → digits t ≡ false → size t ≡ 0
 unfolding size is_size
-size_bad t e = not_size (not (eqb (get_or t 0 48) 48)) (digits t) (leb (value 0 t) 16384) (value 0 t) e
-
-not_small : (p q r : Bool) (v : ℕ) → r ≡ false → cond (p && (q && r)) v 0 ≡ 0
-not_small true true r v e = rw e
-not_small true false r v e = refl
-not_small false q r v e = refl
+size_bad t e = cond-false (is_size t) (value 0 t) 0 (and_right _ _ (and_left _ _ e))
 
 pub size_large : (t : List ℕ) → 16384 < value 0 t → size t ≡ 0
 unfolding size is_size
-size_large t h = not_small (not (eqb (get_or t 0 48) 48)) (digits t) (leb (value 0 t) 16384) (value 0 t) (lt-leb (value 0 t) 16384 h)
+size_large t h = cond-false (is_size t) (value 0 t) 0 (and_right _ _ (and_right _ _ (lt-leb (value 0 t) 16384 h)))
 
 digit_some : (d : ℕ) → (d ≡ 48 → ⊥) → digit d ≤ 9 → 1 ≤ digit d
 digit_some d n h = cases (leb 48 d) refl
@@ -117,18 +108,11 @@ unfolding size is_size
 size_ok [] h n e k = absurd (omega arith)
 size_ok (a ∷ t) h n e k = rw (ne_eqb a 48 n, e, le-leb (value 0 (a ∷ t)) 16384 k)
 
-size_case : (p q : Bool) (v : ℕ) → cond (p && (q && leb v 16384)) v 0 ≤ 16384
-size_case true true v = under (leb v 16384) refl
-  where
-    under : (t : Bool) → leb v 16384 ≡ t → cond (leb v 16384) v 0 ≤ 16384
-    under true e = rw e (leb-true v 16384 e)
-    under false e = rw e (omega arith)
-size_case true false v = omega arith
-size_case false q v = omega arith
-
 pub size_bound : (t : List ℕ) → size t ≤ 16384
 unfolding size is_size
-size_bound t = size_case (not (eqb (get_or t 0 48) 48)) (digits t) (value 0 t)
+size_bound t =
+    cond_both (is_size t) (value 0 t) 0 (λ n. n ≤ 16384)
+    (λ e. leb-true (value 0 t) 16384 (and_parts (digits t) _ (and_parts _ (digits t && _) e).1).1) (λ e. omega arith)
 
 pub one_bound : (ts : List (List ℕ)) → one_size ts ≤ 16384
 one_bound [] = omega arith

@@ -3,11 +3,12 @@ use Prim.Native.Nat.{ℕ, ◌<◌, min}
 use mathlib.Core.Path.{◌≡◌, refl, ap, ◌∙◌}
 use mathlib.Core.Bool.{Bool, true, false, cond, ◌||◌}
 use mathlib.Core.List.{List}
+use native.Mathlib.Nat.{min_comm}
 use native.Mathlib.Omega.{arith}
-use lib.Dec.{leb, ltb, eqb}
+use lib.Dec.{ltb, eqb}
 use lib.ListN.{length, take}
-use lib.Seq.{take_all, take-length}
-use borrow.Author.Tests.{le-leb, leb-true, leb-false}
+use borrow.Author.Tests.{le-leb}
+use Rattle.std.proofs.lemmas.List.{take_min}
 use Rattle.std.specs.Prelude.{Option, Some, None}
 use Rattle.std.specs.Option.{unwrap_or}
 use Rattle.std.specs.List.{position_or_len}
@@ -45,15 +46,6 @@ module _ (l : List ℕ) where
 
 -- ---- the line at the front
 
-front_same : (b : List ℕ) → take (min (length b) 256) b ≡ take 256 b
-front_same b = cases (leb (length b) 256) refl
-  where
-    cases : (t : Bool) → leb (length b) 256 ≡ t → take (min (length b) 256) b ≡ take 256 b
-    cases true e =
-        let m : min (length b) 256 ≡ length b = omega (arith, leb-true (length b) 256 e) in
-        rw (m, take_all 256 b (leb-true (length b) 256 e)) (take-length b)
-    cases false e = let m : min (length b) 256 ≡ 256 = omega (arith, leb-false (length b) 256 e) in rw m
-
 told_end : (t : Bool) (e : ℕ) → unwrap_or (cond t (Some e) None) 256 ≡ cond t e 256
 told_end true e = refl
 told_end false e = refl
@@ -63,7 +55,7 @@ pub line_end_is : (b : List ℕ) (n : ℕ) → n ≡ min (length b) 256 → (fro
     → unwrap_or r 256 ≡ line_end b
 unfolding line_end
 line_end_is b n hn front hf r hr =
-    let f : front ≡ take 256 b = hf ∙ ap (λ m. take m b) hn ∙ front_same b in
+    let f : front ≡ take 256 b = hf ∙ ap (λ m. take m b) (hn ∙ min_comm (length b) 256) ∙ take_min 256 b in
     let p : position_or_len (λ x. eqb x 10) front ≡ upto 10 (take 256 b) = position_upto 10 front ∙ ap (upto 10) f in
     rw hr (told_end (ltb (position_or_len (λ x. eqb x 10) front) (length front)) (position_or_len (λ x. eqb x 10) front) ∙ (λ i. cond (ltb (p i) (length (f i))) (p i) 256))
 

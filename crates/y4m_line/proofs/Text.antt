@@ -8,7 +8,7 @@ use mathlib.Core.List.{List, [], ◌∷◌, ◌++◌, append-nil, append_assoc}
 use native.Mathlib.Omega.{arith}
 use lib.Dec.{ltb, eqb}
 use lib.ListN.{length, get_or, take, drop, length-append, length-take}
-use lib.Seq.{take-append-add, take_at, drop-append-add}
+use lib.Seq.{take-append-add, take_at, drop-append-add, drop-cons}
 use borrow.Author.Tests.{lt-ltb, ltb-true, ne_eqb, eq-eqb, eqb-true, eqb-false, not-true}
 use Rattle.std.proofs.lemmas.Bool.{and_from, and_parts}
 use Rattle.y4m_line.specs.Line.{Without, IsTag, EachTag, tag_bytes, text_of, line_of, IsLineOf, magic, frame}
@@ -200,17 +200,12 @@ tags_from : (ws : List (List ℕ)) (w : List ℕ) (vs : List (List ℕ)) → ws 
 tags_from [] w vs e k = absurd (omega (arith, ap length e))
 tags_from (u ∷ us) w vs e k = rw (← ap (drop 1) e) k.1
 
--- a list that is not empty, by its first and the others
-first_others : (ws : List (List ℕ)) → 0 < length ws → ws ≡ get_or ws 0 [] ∷ drop 1 ws
-first_others [] h = absurd (omega arith)
-first_others (w ∷ ws) h = refl
-
 module _ (word l : List ℕ) (is : is_line word l ≡ true) where
   pub words_are : words l ≡ word ∷ tags_in l
   unfolding is_line
   words_are =
       let p = and_parts (same (take (upto 32 l) l) word) (filled (words l)) is in
-      first_others (words l) (words_some l) ∙ ap (λ w. w ∷ tags_in l) (sym (first_word l) ∙ same_true (take (upto 32 l) l) word p.0)
+      drop-cons (words l) 0 [] (words_some l) ∙ ap (λ w. w ∷ tags_in l) (sym (first_word l) ∙ same_true (take (upto 32 l) l) word p.0)
 
   pub text_same : text_of word (tags_in l) ≡ l
   text_same = sym (ap text_of_words words_are) ∙ text_words l

@@ -1,4 +1,4 @@
 -- The laws.
+pub mod Checked
 pub mod Made
 pub mod Append
-pub mod Checked

@@ -12,7 +12,7 @@ abbrev pub picture_size : PictureFrame → ℕ
 picture_size f = 6 + plane_bytes (sampling_of f.sampling) f.width f.height
 
 -- sides of 1 to 16,384
--- two contracts ask it, of a frame that callers fill in: no type carries it; shift_record has another fact of this name
+-- one contract asks it, of a frame that callers fill in: no type carries it; shift_record has another fact of this name
 pub record IsFrame (f : PictureFrame) : Type 0 where
   pub width_least : 1 ≤ f.width
   pub width_most : f.width ≤ 16384

@@ -2,6 +2,7 @@
 -- Assumes nothing.
 use Rattle.std.specs.Prelude.{ℕ, ◌*◌, ◌≡◌, Bool, not, ◌&&◌, List, [], ◌∷◌, leb, eqb, length, Result}
 use Rattle.yuv_support.specs.Sampling.{chroma_width, chroma_height}
+use Rattle.yuv_error.specs.declared.PlaneShape.{PlaneShape}
 use Rattle.yuv_error.specs.Numbers.{numbers_of}
 use Rattle.yuv_error.specs.Rules.{Rule, rule, first_numbers}
 use Rattle.shift_writer.specs.Output.{outcome_of, size_of, overwritten, size_told, output_rules}
@@ -10,6 +11,17 @@ use Rattle.y4m_file.specs.File.{Y4mPicture, picture_bytes}
 use Rattle.shift_writer.specs.declared.NotWritten.{NotWritten}
 use Rattle.y4m_writer.specs.Pictures.{sampling_of, is_shape}
 use Rattle.y4m_picture.specs.declared.PictureFrame.{PictureFrame}
+
+-- RULES 14.7: the shape of its planes
+abbrev pub picture_shape : PictureFrame → PlaneShape
+picture_shape f = record {
+  width = f.width;
+  height = f.height;
+  sampling = sampling_of f.sampling;
+  y_stride = f.y_stride;
+  u_stride = f.u_stride;
+  v_stride = f.v_stride;
+}
 
 -- RULES 14.7: ch
 abbrev pub chroma_rows : PictureFrame → ℕ

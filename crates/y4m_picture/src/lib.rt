@@ -6,12 +6,12 @@ mod planes; // planes that were checked
 
 ghost use Rattle.std.specs.Prelude.{◌≡◌};
 ghost use Rattle.y4m_writer.specs.Pictures.{sampling_of};
-ghost use Rattle.y4m_picture.specs.Picture.{planes_allowed, picture_allowed, PicturePost};
+ghost use Rattle.y4m_picture.specs.Picture.{picture_shape, planes_allowed, picture_allowed, PicturePost};
 ghost use Rattle.y4m_picture.specs.Known.{IsFrame};
 
 use planes::PicturePlanes;
 use shift_writer::NotWritten;
-use yuv_error::LentBuffer;
+use yuv_error::PlaneShape;
 use yuv_support::YuvChromaSubsampling;
 
 // The bytes of the line FRAME, its newline counted.
@@ -37,31 +37,12 @@ impl PictureFrame {
     }
 
     // Whether planes of these lengths are so many rows, whole, the last one's padding too: none of refusals 8 to 12 is due.
+    #[tactic(auto, using(crate::proofs::Checked::planes_checked))]
     fn are_planes(self, y: usize, u: usize, v: usize) -> bool
         requires { IsFrame self }
         ensures { result ≡ planes_allowed self y u v }
     {
-        let chroma_width = yuv_support::chroma_width(self.width as usize) as u32;
-        let chroma_height = self.sampling().chroma_height(self.height as usize) as u32;
-        let y = LentBuffer {
-            row: self.width,
-            rows: self.height,
-            stride: self.y_stride,
-            len: y,
-        };
-        let u = LentBuffer {
-            row: chroma_width,
-            rows: chroma_height,
-            stride: self.u_stride,
-            len: u,
-        };
-        let v = LentBuffer {
-            row: chroma_width,
-            rows: chroma_height,
-            stride: self.v_stride,
-            len: v,
-        };
-        yuv_error::check_planes(y, u, v).is_ok()
+        PlaneShape::from(self).check(y, u, v).is_ok()
     }
 
     // Whether planes of these lengths are a picture.
@@ -71,6 +52,25 @@ impl PictureFrame {
     {
         y4m_writer::is_shape(self.sampling, self.width as usize, self.height as usize)
             && self.are_planes(y, u, v)
+    }
+}
+
+// What its planes are held against, field by field, as of another frame in `shift_record`: a trait over the two would have a method for each of the six.
+impl From<PictureFrame> for PlaneShape {
+    ghost use Rattle.std.specs.Prelude.{◌≡◌};
+    ghost use Rattle.y4m_picture.specs.Picture.{picture_shape};
+
+    ghost from_gives = { λ frame shape. shape ≡ picture_shape frame };
+
+    fn from(frame: PictureFrame) -> PlaneShape {
+        PlaneShape {
+            width: frame.width,
+            height: frame.height,
+            sampling: frame.sampling(),
+            y_stride: frame.y_stride,
+            u_stride: frame.u_stride,
+            v_stride: frame.v_stride,
+        }
     }
 }
 

@@ -1,12 +1,10 @@
 // The planes of a picture that were checked, and the picture that is made of them (RULES 14.7). `FramePlanes` of `shift_record` is made of another frame,
-// and says which of refusals 8 to 12 is due where this one answers 19. What is alike is the check of planes, and of the rows of a plane `PaddedRows`. One
-// function that makes the three rows of both would take sides, sampling, strides and planes one by one, and ask in its clauses what each of the two types
-// carries, which is no plainer.
+// and says which of refusals 8 to 12 is due where this one answers 19. What is alike is the check, `PlaneShape::check`, and the rows, `PaddedPlanes`.
 ghost use Rattle.std.specs.Prelude.{◌≡◌, true, length};
 ghost use Rattle.y4m_picture.specs.Picture.{picture_allowed};
 
 use crate::{FRAME_LINE, PictureFrame};
-use shift_record::padded::PaddedRows;
+use shift_record::padded::PaddedPlanes;
 use yuv_error::YuvError;
 
 // Planes of a frame that is allowed, each of whole rows.
@@ -59,39 +57,18 @@ impl<'a> PicturePlanes<'a> {
     }
 
     // The picture, at the front.
-    #[tactic(auto, using(crate::proofs::Made::planes_fit, crate::proofs::Made::planes_length))]
+    #[tactic(auto, using(crate::proofs::Made::planes_whole, crate::proofs::Made::length_parts))]
     pub fn put(&self, output: &mut [u8])
         requires { length (picture_bytes (picture_made self.now.frame self.now.y.now self.now.u.now self.now.v.now)) ≤ length output.old }
         ensures { output.new ≡ sets output.old 0 (picture_bytes (picture_made self.now.frame self.now.y.now self.now.u.now self.now.v.now)) }
     {
-        let width = self.frame.width as usize;
-        let height = self.frame.height as usize;
-        let sampling = self.frame.sampling();
-        let chroma_width = yuv_support::chroma_width(width);
-        let chroma_height = sampling.chroma_height(height);
-        let u_at = FRAME_LINE + shift_file::luma_size(width, height);
-        let v_at = u_at + shift_file::chroma_size(sampling, width, height);
-        let y = PaddedRows {
-            bytes: self.y,
-            size: width,
-            stride: self.frame.y_stride as usize,
-            count: height,
-        };
-        let u = PaddedRows {
-            bytes: self.u,
-            size: chroma_width,
-            stride: self.frame.u_stride as usize,
-            count: chroma_height,
-        };
-        let v = PaddedRows {
-            bytes: self.v,
-            size: chroma_width,
-            stride: self.frame.v_stride as usize,
-            count: chroma_height,
+        let planes = PaddedPlanes {
+            shape: self.frame.into(),
+            y: self.y,
+            u: self.u,
+            v: self.v,
         };
         little_endian::put(output, 0, b"FRAME\n");
-        y.put(output, FRAME_LINE);
-        u.put(output, u_at);
-        v.put(output, v_at);
+        planes.put(output, FRAME_LINE);
     }
 }

@@ -22,7 +22,8 @@ allowed_at luma chroma k [] e h = absurd (omega arith)
 allowed_at luma chroma zero (p ∷ ps) e h = e.0
 allowed_at luma chroma (suc k) (p ∷ ps) e h = allowed_at luma chroma k ps e.1 (omega arith)
 
-bytes_at : (k : ℕ) (ps : List Y4mPicture) → k < length ps
+-- the picture stands first among these
+pub bytes_at : (k : ℕ) (ps : List Y4mPicture) → k < length ps
     → pictures_bytes (drop k ps) ≡ picture_bytes (get_or ps k no_picture) ++ pictures_bytes (drop (suc k) ps)
 unfolding pictures_bytes
 bytes_at k [] h = absurd (omega arith)

@@ -10,6 +10,7 @@ ghost use Rattle.y4m_reader.specs.Entry.{picture_of, plane_numbers, entries_of};
 ghost use Rattle.y4m_reader.specs.Known.{SizesAre, Stood};
 ghost use Rattle.y4m_reader.specs.Reading.{ReadPost};
 
+use shift_file::PlaneParts;
 use y4m_file::Y4mRead;
 use y4m_line::HeaderLine;
 use yuv_error::YuvError;
@@ -25,12 +26,23 @@ pub struct Y4mReading {
     pub told: usize,
 }
 
-// The planes of a picture, each a part of the file.
-#[derive(Clone, Copy, Debug, PartialEq, Eq)]
-pub struct PictureParts<'a> {
-    pub y: &'a [u8],
-    pub u: &'a [u8],
-    pub v: &'a [u8],
+// Its five numbers, with the code of the sampling.
+impl From<Y4mReading> for [usize; 5] {
+    ghost use Rattle.std.specs.Prelude.{◌≡◌, [], ◌∷◌};
+    ghost use Rattle.yuv_support.specs.Codes.{sampling_code};
+
+    ghost from_gives = { λ reading numbers. numbers
+        ≡ reading.header.width ∷ reading.header.height ∷ sampling_code reading.header.sampling ∷ reading.count ∷ reading.told ∷ [] };
+
+    fn from(reading: Y4mReading) -> [usize; 5] {
+        [
+            reading.header.width,
+            reading.header.height,
+            u32::from(reading.header.sampling) as usize,
+            reading.count,
+            reading.told,
+        ]
+    }
 }
 
 // The bytes of Y, and of U or V.
@@ -77,7 +89,7 @@ fn place_of(file: &Y4mRead, k: usize) -> usize
 }
 
 // The planes of a picture.
-pub fn picture_parts<'a>(file: &Y4mRead<'a>, k: usize) -> PictureParts<'a>
+pub fn picture_parts<'a>(file: &Y4mRead<'a>, k: usize) -> PlaneParts<'a>
     requires { k < file.now.count }
     ensures y { result.y.now ≡ (picture_of (file_in file.now.bytes.now) k).y }
     ensures u { result.u.now ≡ (picture_of (file_in file.now.bytes.now) k).u }
@@ -87,7 +99,7 @@ pub fn picture_parts<'a>(file: &Y4mRead<'a>, k: usize) -> PictureParts<'a>
     let y = past_line(file.bytes, place_of(file, k));
     let u = y + sizes.luma;
     let v = u + sizes.chroma;
-    PictureParts {
+    PlaneParts {
         y: shift_file::part_of(file.bytes, y, sizes.luma),
         u: shift_file::part_of(file.bytes, u, sizes.chroma),
         v: shift_file::part_of(file.bytes, v, sizes.chroma),

@@ -6,7 +6,7 @@ use mathlib.Core.Bool.{Bool, true, false, cond}
 use mathlib.Core.List.{List, [], ◌∷◌, ◌++◌}
 use native.Mathlib.Omega.{arith}
 use lib.Dec.{leb, ltb, lit≤}
-use lib.ListN.{length, get_or, length-append}
+use lib.ListN.{length, get_or, get_or-append, length-append}
 use borrow.Author.Tests.{lt-ltb, le-ltb, le-leb}
 use Rattle.std.specs.Prelude.{decimal as printed}
 use Rattle.std.proofs.lemmas.Bool.{and_parts}
@@ -28,10 +28,6 @@ digits_append : (d : ℕ) (a : List ℕ) → digits a ≡ true → digit d ≤ 9
 unfolding digits
 digits_append d [] h k = rw (le-leb (digit d) 9 k)
 digits_append d (x ∷ a) h k = let q = and_parts (leb (digit x) 9) (digits a) h in rw q.0 (digits_append d a q.1 k)
-
-get_d_front : (d : ℕ) (a : List ℕ) → 0 < length a → get_or (a ++ (d ∷ [])) 0 48 ≡ get_or a 0 48
-get_d_front d [] h = absurd (omega arith)
-get_d_front d (x ∷ a) h = refl
 
 -- t is the decimal of v
 pub record Decimal (v : ℕ) (t : List ℕ) : Type 0 where
@@ -58,7 +54,7 @@ more_digit v t h d =
       worth = value-append 0 (48 + v % 10) t ∙ rw (d.worth, e) (omega arith);
       all = digits_append (48 + v % 10) t d.all (rw e (omega arith));
       some = rw length-append (omega (arith, d.some));
-      lead = λ k z. d.lead (omega arith) (sym (get_d_front (48 + v % 10) t d.some) ∙ z);
+      lead = λ k z. d.lead (omega arith) (sym (get_or-append t ((48 + v % 10) ∷ []) 48 0 d.some) ∙ z);
       bytes = λ x k. Without-append x t _ (d.bytes x k) ((λ z. omega arith), tt);
     }
 

@@ -1,11 +1,12 @@
 -- Planes that are whole pictures, and the pictures put. Assumes nothing.
 use Prim.Native.Nat.{ℕ, zero, suc, ◌+◌, ◌*◌, ◌/◌, ◌%◌, ◌≤◌, ◌<◌}
 use mathlib.Core.Path.{◌≡◌, refl, sym, ap, ◌∙◌}
-use mathlib.Core.List.{List, [], ◌∷◌, ◌++◌, append_assoc}
+use mathlib.Core.List.{List, [], ◌++◌, append_assoc}
 use native.Mathlib.Nat.{mul-zero, mul-suc, add-zero, div-add-mod, add-div_left, div-eq_of_lt}
 use native.Mathlib.Omega.{arith}
 use lib.ListN.{length, take, drop, length-append, length-drop, take-append-drop}
 use lib.Seq.{sets, length-take-le, take_at, drop_at}
+use Rattle.std.proofs.lemmas.List.{nil_from_length}
 use Rattle.little_endian.proofs.Stores.{sets-append}
 use Rattle.y4m_line.specs.Line.{line_of, text_of, tag_bytes, frame, IsLineOf}
 use Rattle.y4m_file.specs.File.{EachAllowed, picture_bytes, pictures_bytes}
@@ -101,12 +102,8 @@ module _ (luma chroma : ℕ) where
     each_allowed k (drop (luma + 2 * chroma) b) e.1,
   )
 
-  none : (b : List ℕ) → length b ≡ 0 → [] ≡ b
-  none [] h = refl
-  none (a ∷ b) h = absurd (omega arith)
-
   pub planes_are : (k : ℕ) (b : List ℕ) → Exact (luma + 2 * chroma) k b → planes_of (pictures_of luma chroma k b) ≡ b
   unfolding planes_of pictures_of picture_from
-  planes_are zero b e = none b e
+  planes_are zero b e = sym (nil_from_length b e)
   planes_are (suc k) b e =
       rw (cut luma chroma b, planes_are k (drop (luma + 2 * chroma) b) e.1) (take-append-drop (luma + 2 * chroma) b)

@@ -3,6 +3,6 @@ pub mod Decimal
 pub mod Puts
 pub mod Frames
 pub mod Back
-pub mod Answers
 pub mod Sizes
+pub mod Sides
 pub mod Whole

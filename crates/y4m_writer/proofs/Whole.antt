@@ -1,15 +1,16 @@
 -- Planes that were checked, as a value: what is known of them, and of their file. Assumes nothing.
-use Prim.Native.Nat.{ℕ, zero, suc, ◌+◌, ◌*◌, ◌/◌, ◌≤◌, ◌<◌}
+use Prim.Native.Nat.{ℕ, ◌+◌, ◌*◌, ◌/◌, ◌≤◌}
 use mathlib.Core.Path.{◌≡◌, refl, sym, ap, ◌∙◌}
+use mathlib.Core.Bool.{false}
 use mathlib.Core.List.{◌++◌}
-use native.Mathlib.Omega.{arith}
 use lib.ListN.{length, length-append}
+use borrow.Author.Tests.{le-ltb}
 use Rattle.yuv_support.specs.declared.YuvChromaSubsampling.{YuvChromaSubsampling}
 use Rattle.yuv_support.specs.declared.YuvChromaSubsampling.TheVariants.{Yuv420, Yuv422}
 use Rattle.yuv_support.specs.Codes.{sampling_code}
 use Rattle.y4m_file.specs.Check.{plane_bytes}
 use Rattle.y4m_writer.specs.declared.planes.WholePictures.{WholePictures}
-use Rattle.y4m_writer.specs.Pictures.{sampling_of}
+use Rattle.y4m_writer.specs.Pictures.{sampling_of, is_shape, can_write}
 use Rattle.y4m_writer.specs.Known.{header_line, frames_in, file_in}
 use Rattle.y4m_writer.proofs.Back.{Written, written, made, length_made}
 use Rattle.y4m_writer.proofs.Sizes.{plane_least}
@@ -18,10 +19,10 @@ said_again : (s : YuvChromaSubsampling) → sampling_of (sampling_code s) ≡ s
 said_again Yuv420 = refl
 said_again Yuv422 = refl
 
-pub code_again : (code : ℕ) → code < 2 → sampling_code (sampling_of code) ≡ code
-code_again zero h = refl
-code_again (suc zero) h = refl
-code_again (suc (suc n)) h = absurd (omega arith)
+-- a code past those of the samplings
+pub no_sampling : (code w h size : ℕ) → 2 ≤ code → can_write code w h size ≡ false
+unfolding is_shape can_write
+no_sampling code w h size past = rw (le-ltb code 2 past) refl
 
 module _ (p : WholePictures) where
   pub planes_known : Written (sampling_code p.header.sampling) p.header.width p.header.height p.bytes.now

@@ -5,6 +5,7 @@ mod planes; // planes that were checked
 
 ghost use Rattle.std.specs.Prelude.{◌≡◌, ◌++◌, ◌+◌, ◌≤◌, length};
 ghost use Rattle.std.proofs.lemmas.List.Edits.{sets};
+ghost use Rattle.yuv_support.specs.Codes.{sampling_code};
 ghost use Rattle.y4m_writer.specs.Text.{decimal};
 ghost use Rattle.y4m_writer.specs.Pictures.{is_shape, can_write};
 ghost use Rattle.y4m_writer.specs.Known.{code_line, header_line};
@@ -19,6 +20,7 @@ use yuv_support::YuvChromaSubsampling;
 // ---- the header's line, piece by piece: each is put at the front, and its length told
 
 // A text and the decimal of a side.
+#[tactic(auto, using(crate::proofs::Sides::printed_most, crate::proofs::Sides::side_put, crate::proofs::Sides::side_end))]
 fn put_side(text: &[u8], side: usize, output: &mut [u8]) -> usize
     requires picture { side ≤ 16384 }
     requires room { length text.now + 5 ≤ length output.old }
@@ -55,23 +57,25 @@ fn put_header(header: HeaderLine, output: &mut [u8; 64]) -> usize
 
 // ---- what may be written
 
-// Whether a code is that of a sampling, and sides are those of a picture. The code is C's, and no sampling yet: a `HeaderLine` is what passed this.
-// So code, width and height stay three numbers, as C lends them, here and in `can_write`, `write_pictures` and `WholePictures::open`.
+// Whether a code is that of a sampling, and sides are those of a picture. The code is a number: `y4m_picture` asks this of a frame that has no sampling yet.
 #[tactic(auto, unfolding(crate::specs::Pictures::is_shape))]
 pub fn is_shape(code: u32, width: usize, height: usize) -> bool
     ensures { result ≡ is_shape code width height }
 {
-    code < 2 && shift_file::is_side(width) && shift_file::is_side(height)
+    YuvChromaSubsampling::try_from(code).is_ok()
+        && shift_file::is_side(width)
+        && shift_file::is_side(height)
 }
 
-// Whether so many bytes are whole pictures of an allowed shape.
-fn can_write(code: u32, width: usize, height: usize, size: usize) -> bool
-    ensures { result ≡ can_write code width height size }
+// Whether the sides of a header are a picture's, and so many bytes are whole pictures.
+#[tactic(auto, using(crate::proofs::Sizes::plane_least), unfolding(crate::specs::Pictures::is_shape, crate::specs::Pictures::can_write))]
+fn can_write(header: HeaderLine, size: usize) -> bool
+    ensures { result ≡ can_write (sampling_code header.sampling) header.width header.height size }
 {
-    if !is_shape(code, width, height) {
+    if !(shift_file::is_side(header.width) && shift_file::is_side(header.height)) {
         return false;
     }
-    let planes = y4m_file::plane_bytes(setting_codes::sampling_of(code), width, height);
+    let planes = y4m_file::plane_bytes(header.sampling, header.width, header.height);
     size % planes == 0
 }
 

@@ -5,6 +5,7 @@ ghost use Rattle.y4m_writer.specs.Pictures.{can_write};
 
 use y4m_line::HeaderLine;
 use yuv_error::YuvError;
+use yuv_support::YuvChromaSubsampling;
 
 // The planes, and what their file's header says.
 #[derive(Clone, Copy)]
@@ -23,6 +24,7 @@ impl<'a> WholePictures<'a> {
     ghost use Rattle.y4m_writer.specs.Known.{header_line, frames_in, file_in};
 
     // These bytes, where code and sides are allowed and they are whole pictures.
+    #[tactic(auto, using(crate::proofs::Whole::no_sampling))]
     pub fn open(
         code: u32,
         width: usize,
@@ -33,14 +35,15 @@ impl<'a> WholePictures<'a> {
         ensures accepted { OnOk result (can_write code width height (length bytes.now) ≡ true) }
         ensures refused { IfErr result (λ e. (e ≡ YuvError.MalformedY4m) × (can_write code width height (length bytes.now) ≡ false)) }
     {
-        if !crate::can_write(code, width, height, bytes.len()) {
-            return Err(YuvError::MalformedY4m);
-        }
+        let sampling = YuvChromaSubsampling::try_from(code).map_err(|_| YuvError::MalformedY4m)?;
         let header = HeaderLine {
             width,
             height,
-            sampling: setting_codes::sampling_of(code),
+            sampling,
         };
+        if !crate::can_write(header, bytes.len()) {
+            return Err(YuvError::MalformedY4m);
+        }
         Ok(WholePictures { header, bytes })
     }
 

@@ -13,10 +13,12 @@ use Rattle.definitions.specs.declared.FrameDescription.{FrameDescription}
 use Rattle.definitions.specs.Image.{source_row_size}
 use Rattle.yuv_error.specs.Rules.{Rule, first_numbers, planes_rules, buffer_rules, too_narrow, not_whole}
 use Rattle.yuv_error.specs.Lowest.{in_order, NoneHolds}
+use Rattle.yuv_error.specs.Shape.{luma_lent, chroma_lent, shape_rules}
 use Rattle.yuv_error.specs.Lent.{source_of, y_of, u_of, v_of, opening_rules, lent_rules}
-use Rattle.yuv_error.specs.Known.{Sized, WholeRows, PlanesLent}
+use Rattle.yuv_error.specs.Known.{Sized, WholeRows, PlanesWhole, PlanesLent}
 use Rattle.yuv_error.specs.declared.LentBuffer.{LentBuffer}
 use Rattle.yuv_error.specs.declared.Lengths.{Lengths}
+use Rattle.yuv_error.specs.declared.PlaneShape.{PlaneShape}
 use Rattle.yuv_error.proofs.Lowest.{first_is_lowest}
 
 -- number 0 is answered where no condition holds
@@ -88,6 +90,12 @@ accepted_planes y u v e =
       whole_rows u (or_parts (too_narrow u) _ (none 10)).0 u12.0,
       whole_rows v (or_parts (too_narrow v) _ (none 11)).0 v12.0,
     )
+
+-- planes of a shape
+pub shape_accepted : (s : PlaneShape) (y u v : ℕ) → (first_numbers (shape_rules s y u v)).number ≡ 0 → PlanesWhole s y u v
+shape_accepted s y u v e =
+    let a = accepted_planes (luma_lent s y) (chroma_lent s s.u_stride u) (chroma_lent s s.v_stride v) e in
+    record { y_rows = a.0; u_rows = a.1; v_rows = a.2 }
 
 -- the source of so many rows, and the planes
 pub record Buffers (d : FrameDescription) (rows stride : ℕ) (n : Lengths) : Type 0 where

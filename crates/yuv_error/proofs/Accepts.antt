@@ -13,10 +13,12 @@ use Rattle.definitions.specs.declared.FrameDescription.{FrameDescription}
 use Rattle.definitions.proofs.Numbers.{chroma_rows}
 use Rattle.yuv_error.specs.Numbers.{numbers}
 use Rattle.yuv_error.specs.Rules.{Rule, first_numbers, planes_rules, buffer_rules, least_of, whole_of, too_narrow, too_short, not_whole}
+use Rattle.yuv_error.specs.Shape.{luma_lent, chroma_lent, shape_rules}
 use Rattle.yuv_error.specs.Lent.{opening_rules, lent_rules}
-use Rattle.yuv_error.specs.Known.{Sized, WholeRows}
+use Rattle.yuv_error.specs.Known.{Sized, WholeRows, PlanesWhole}
 use Rattle.yuv_error.specs.declared.LentBuffer.{LentBuffer}
 use Rattle.yuv_error.specs.declared.Lengths.{Lengths}
+use Rattle.yuv_error.specs.declared.PlaneShape.{PlaneShape}
 use Rattle.yuv_error.proofs.First.{numbered, after_finished}
 use Rattle.yuv_error.proofs.Accepted.{AcceptedBuffers, Buffers}
 
@@ -65,6 +67,12 @@ planes_pass y u v y_some u_some v_some y_rows u_rows v_rows =
     let r = passes u u_some u_rows in
     let t = passes v v_some v_rows in
     rw (q.0, q.1, r.0, r.1, t.0, t.1, q.2, r.2, t.2)
+
+-- planes of a shape
+pub shape_passes : (s : PlaneShape) (y u v : ℕ) → 1 ≤ s.height → PlanesWhole s y u v → first_numbers (shape_rules s y u v) ≡ numbers 0 0 0
+shape_passes s y u v some p =
+    let c = (chroma_rows s.sampling s.height some).0 in
+    planes_pass (luma_lent s y) (chroma_lent s s.u_stride u) (chroma_lent s s.v_stride v) some c c p.y_rows p.u_rows p.v_rows
 
 pub lent_passes : {d : FrameDescription} {rows stride : ℕ} {n : Lengths} → Sized d → 1 ≤ rows → Buffers d rows stride n
     → first_numbers (lent_rules d rows stride n) ≡ numbers 0 0 0

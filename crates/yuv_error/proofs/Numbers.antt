@@ -1,9 +1,7 @@
 -- An answer is known by its numbers: `answer_of` finds it again. Assumes nothing.
-use Prim.Native.Nat.{ℕ}
 use Rattle.std.specs.Prelude.{Result, Ok, Err}
 use mathlib.Core.Bool.{false}
 use mathlib.Core.Path.{◌≡◌, refl, sym, ap, ◌∙◌}
-use native.Mathlib.Omega.{arith}
 use lib.Dec.{eqb}
 use borrow.Author.Tests.{ne_eqb}
 use Rattle.yuv_error.specs.Numbers.{numbers_of, error_numbers, answer_of}
@@ -50,4 +48,4 @@ pub is_finished : (a : Result Unit YuvError) → (numbers_of a).number ≡ 0 →
 is_finished a e = sym (found a) ∙ rw e
 
 pub refused_number : (e : YuvError) → eqb (error_numbers e).number 0 ≡ false
-refused_number e = ne_eqb (error_numbers e).number 0 λ z. let w : ◌≡◌ {A = ℕ} 0 1 = cc (is_finished (Err e) z) in omega arith
+refused_number e = ne_eqb (error_numbers e).number 0 λ z. cc (is_finished (Err e) z)

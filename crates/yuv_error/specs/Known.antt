@@ -5,9 +5,13 @@ use Rattle.yuv_support.specs.Matrix.{accepted}
 use Rattle.definitions.specs.declared.FrameDescription.{FrameDescription}
 use Rattle.definitions.specs.declared.Band.{Band}
 use Rattle.yuv_error.specs.declared.LentBuffer.{LentBuffer}
+use Rattle.yuv_error.specs.declared.PlaneShape.{PlaneShape}
+use Rattle.yuv_error.specs.Shape.{luma_lent, chroma_lent}
 use Rattle.definitions.specs.Image.{source_row_size, chroma_size, chroma_rows}
 
 -- a frame's size, matrix and place in its source
+-- a frame is a public struct that callers fill in, so its type cannot carry this; a checked type would be opened again at once, as `Band` of
+-- `definitions` and the calls' own states hold the plain frame
 pub record Sized (d : FrameDescription) : Type 0 where
   pub width_least : 1 ≤ d.width
   pub width_most : d.width ≤ 16384
@@ -24,6 +28,12 @@ pub record WholeRows (b : LentBuffer) : Type 0 where
   pub wide : b.row ≤ b.stride
   pub exact : b.len ≡ b.stride * b.rows
 
+-- planes of whole rows, by their lengths
+pub record PlanesWhole (s : PlaneShape) (y u v : ℕ) : Type 0 where
+  pub y_rows : WholeRows (luma_lent s y)
+  pub u_rows : WholeRows (chroma_lent s s.u_stride u)
+  pub v_rows : WholeRows (chroma_lent s s.v_stride v)
+
 -- a band's rows, and its source
 pub record Given (b : Band) (source : ℕ) : Type 0 where
   pub rows_least : 1 ≤ b.rows
@@ -31,7 +41,7 @@ pub record Given (b : Band) (source : ℕ) : Type 0 where
   pub source_row : source_row_size b.frame ≤ b.stride
   pub source_size : b.stride * b.rows ≤ source
 
--- plane strides, and planes of whole rows
+-- plane strides, and planes of whole rows: a field for each fact that a frame's `PlanesWhole` holds, as the calls above read them
 pub record PlanesLent (d : FrameDescription) (y u v : ℕ) : Type 0 where
   pub y_row : d.width ≤ d.y_stride
   pub y_size : y ≡ d.y_stride * d.height

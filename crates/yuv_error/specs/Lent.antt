@@ -2,11 +2,13 @@
 -- Assumes nothing.
 use Rattle.std.specs.Prelude.{ℕ, ◌+◌, ◌||◌, List, [], ◌∷◌, ◌++◌, ltb, length, Result, Ok, Err}
 use Rattle.definitions.specs.declared.FrameDescription.{FrameDescription}
-use Rattle.definitions.specs.Image.{source_row_size, chroma_size, chroma_rows}
+use Rattle.definitions.specs.Image.{source_row_size}
 use Rattle.yuv_error.specs.declared.YuvError.{YuvError}
 use Rattle.yuv_error.specs.declared.LentBuffer.{LentBuffer}
 use Rattle.yuv_error.specs.declared.Lengths.{Lengths}
+use Rattle.yuv_error.specs.declared.PlaneShape.{PlaneShape}
 use Rattle.yuv_error.specs.Rules.{Rule, rule, size_rules, large_rules, matrix_rules, buffer_rules}
+use Rattle.yuv_error.specs.Shape.{luma_lent, chroma_lent}
 
 -- the lengths of a source and of the planes
 abbrev pub lengths_of : (source y u v : List ℕ) → Lengths
@@ -16,17 +18,28 @@ lengths_of source y u v = record { source = length source; y = length y; u = len
 abbrev pub source_of : FrameDescription → (rows stride len : ℕ) → LentBuffer
 source_of d rows stride len = record { row = source_row_size d; rows = rows; stride = stride; len = len }
 
+-- RULES 2.1: the shape of its planes
+abbrev pub shape_of : FrameDescription → PlaneShape
+shape_of d = record {
+  width = d.width;
+  height = d.height;
+  sampling = d.settings.sampling;
+  y_stride = d.y_stride;
+  u_stride = d.u_stride;
+  v_stride = d.v_stride;
+}
+
 -- RULES 2.1, 7.6: h rows of w bytes
 abbrev pub y_of : FrameDescription → (len : ℕ) → LentBuffer
-y_of d len = record { row = d.width; rows = d.height; stride = d.y_stride; len = len }
+y_of d len = luma_lent (shape_of d) len
 
 -- RULES 2.1, 7.6: ch rows of cw bytes
 abbrev pub u_of : FrameDescription → (len : ℕ) → LentBuffer
-u_of d len = record { row = chroma_size d; rows = chroma_rows d; stride = d.u_stride; len = len }
+u_of d len = chroma_lent (shape_of d) d.u_stride len
 
 -- RULES 2.1, 7.6
 abbrev pub v_of : FrameDescription → (len : ℕ) → LentBuffer
-v_of d len = record { row = chroma_size d; rows = chroma_rows d; stride = d.v_stride; len = len }
+v_of d len = chroma_lent (shape_of d) d.v_stride len
 
 -- RULES 7.9: 14, the frame reaches past its source
 abbrev pub window_rules : FrameDescription → List Rule

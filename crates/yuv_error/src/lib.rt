@@ -7,13 +7,14 @@ ghost use Rattle.yuv_error.specs.Numbers.{numbers_of};
 ghost use Rattle.yuv_error.specs.Checks.{least_mismatch, stride_mismatch};
 ghost use Rattle.yuv_error.specs.Rules.{first_numbers, large_rules, size_rules, matrix_rules, least_of, whole_of, too_short, too_narrow};
 ghost use Rattle.yuv_error.specs.Rules.{source_rules, plane_rules, whole_rules, planes_rules, buffer_rules};
+ghost use Rattle.yuv_error.specs.Shape.{luma_lent, chroma_lent, shape_rules};
 ghost use Rattle.yuv_error.specs.Lent.{source_of, window_rules, opening_rules, lent_rules};
-ghost use Rattle.yuv_error.specs.Known.{Sized, WholeRows, PlanesLent};
+ghost use Rattle.yuv_error.specs.Known.{Sized, WholeRows, PlanesWhole, PlanesLent};
 
 use definitions::FrameDescription;
 use std::error::Error;
 use std::fmt;
-use yuv_support::YuvStandardMatrix;
+use yuv_support::{YuvChromaSubsampling, YuvStandardMatrix};
 
 // The most pixels a side (RULES 7.3).
 const MAX_SIDE: u32 = 16384;
@@ -261,7 +262,8 @@ fn check_large(width: u32, height: u32) -> Result<(), YuvError>
     Ok(())
 }
 
-fn check_size(width: u32, height: u32) -> Result<(), YuvError>
+// Refuses a side of 0 (2) and one above 16,384 (3).
+pub fn check_size(width: u32, height: u32) -> Result<(), YuvError>
     ensures numbers { numbers_of result ≡ first_numbers (size_rules width height) }
     ensures small { OnOk result ((1 ≤ width) × (width ≤ 16384) × (1 ≤ height) × (height ≤ 16384)) }
 {
@@ -348,6 +350,73 @@ pub fn check_planes(y: LentBuffer, u: LentBuffer, v: LentBuffer) -> Result<(), Y
     v.check_whole_rows()
 }
 
+// What the lengths of a frame's planes are held against: sides, sampling and strides.
+#[derive(Clone, Copy, Debug, PartialEq, Eq, Hash)]
+pub struct PlaneShape {
+    pub width: u32,
+    pub height: u32,
+    pub sampling: YuvChromaSubsampling,
+    pub y_stride: u32,
+    pub u_stride: u32,
+    pub v_stride: u32,
+}
+
+impl From<FrameDescription> for PlaneShape {
+    ghost use Rattle.std.specs.Prelude.{◌≡◌};
+    ghost use Rattle.yuv_error.specs.Lent.{shape_of};
+
+    ghost from_gives = { λ frame shape. shape ≡ shape_of frame };
+
+    fn from(frame: FrameDescription) -> PlaneShape {
+        PlaneShape {
+            width: frame.width,
+            height: frame.height,
+            sampling: frame.settings.sampling,
+            y_stride: frame.y_stride,
+            u_stride: frame.u_stride,
+            v_stride: frame.v_stride,
+        }
+    }
+}
+
+impl PlaneShape {
+    // A luma plane of so many bytes.
+    fn luma(self, len: usize) -> LentBuffer
+        ensures { result ≡ luma_lent self len }
+    {
+        LentBuffer {
+            row: self.width,
+            rows: self.height,
+            stride: self.y_stride,
+            len,
+        }
+    }
+
+    // A chroma plane with this stride, of so many bytes.
+    fn chroma(self, stride: u32, len: usize) -> LentBuffer
+        ensures { result ≡ chroma_lent self stride len }
+    {
+        LentBuffer {
+            row: yuv_support::chroma_width(self.width as usize) as u32,
+            rows: self.sampling.chroma_height(self.height as usize) as u32,
+            stride,
+            len,
+        }
+    }
+
+    // Refusals 8 to 12, of planes of these lengths.
+    pub fn check(self, y: usize, u: usize, v: usize) -> Result<(), YuvError>
+        ensures numbers { numbers_of result ≡ first_numbers (shape_rules self y u v) }
+        ensures whole { OnOk result (PlanesWhole self y u v) }
+    {
+        check_planes(
+            self.luma(y),
+            self.chroma(self.u_stride, u),
+            self.chroma(self.v_stride, v),
+        )
+    }
+}
+
 // Refusals 6 to 12, for a source of `rows` rows.
 pub fn check_lent(
     frame: FrameDescription,
@@ -361,8 +430,7 @@ pub fn check_lent(
     ensures whole { OnOk result (WholeRows (source_of frame rows stride lent.source) × PlanesLent frame lent.y lent.u lent.v) }
 {
     let row = frame.window.source_width * frame.settings.channels.get_channels_count() as u32;
-    let chroma_width = yuv_support::chroma_width(frame.width as usize) as u32;
-    let chroma_height = frame.settings.sampling.chroma_height(frame.height as usize) as u32;
+    let shape = PlaneShape::from(frame);
     check_buffers(
         LentBuffer {
             row,
@@ -370,23 +438,8 @@ pub fn check_lent(
             stride,
             len: lent.source,
         },
-        LentBuffer {
-            row: frame.width,
-            rows: frame.height,
-            stride: frame.y_stride,
-            len: lent.y,
-        },
-        LentBuffer {
-            row: chroma_width,
-            rows: chroma_height,
-            stride: frame.u_stride,
-            len: lent.u,
-        },
-        LentBuffer {
-            row: chroma_width,
-            rows: chroma_height,
-            stride: frame.v_stride,
-            len: lent.v,
-        },
+        shape.luma(lent.y),
+        shape.chroma(shape.u_stride, lent.u),
+        shape.chroma(shape.v_stride, lent.v),
     )
 }

@@ -21,7 +21,6 @@ luma_step-requires g c =
 pub carried_step-requires-clause-for_step : goal.carried_step-requires-clause-for_step
 carried_step-requires-clause-for_step g c =
     let some : c.args.work.now.rows.done < c.args.work.now.rows.done + c.args.work.now.rows.count = omega (arith, c.requires.for_rows.lent.given.rows_least) in
-    let row = row_is (band_of c.args.work.now) c.step_at-step.ensures in
     record {
       sampling = c.requires.for_rows.sampling;
       in_source = source_at (band_of c.args.work.now) c.requires.for_rows.lent (le_refl _) some c.step_at-step.ensures c.requires.for_rows.pixel;

@@ -18,7 +18,6 @@ luma_step-requires g c =
 pub alone_step-requires-clause-for_step : goal.alone_step-requires-clause-for_step
 alone_step-requires-clause-for_step g c =
     let most : c.args.row < c.args.work.now.rows.done + c.args.work.now.rows.count = omega (arith, c.requires.last_row.1) in
-    let row = row_is (band_of c.args.work.now) c.step_at-step.ensures in
     record {
       sampling = c.requires.for_rows.sampling;
       in_source = source_at (band_of c.args.work.now) c.requires.for_rows.lent c.requires.last_row.0 most c.step_at-step.ensures c.requires.for_rows.pixel;

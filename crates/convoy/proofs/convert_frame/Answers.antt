@@ -1,18 +1,10 @@
 -- `convert_frame` meets its contract: the parts that are lent to the frame call are the frame's, and come back in their places.
 -- Assumes nothing.
 use Rattle.std.proofs.Common.{rules, ◌≡◌}
-use Rattle.std.specs.Prelude.{None, Some, Err}
-use Rattle.yuv_error.specs.declared.YuvError.TheVariants.{MalformedRequest}
+use Rattle.std.specs.Prelude.{Some}
 use Rattle.buffer_parts.proofs.Parts.{part_size}
-use Rattle.convoy.specs.Run.{planes_of}
-use Rattle.convoy.proofs.Calls.{unmade, made}
+use Rattle.convoy.proofs.Calls.{made}
 use Rattle.convoy.proofs.convert_frame.Goals as goal
-
-pub returns-in_err-description : goal.returns-in_err-description
-returns-in_err-description c =
-    let none : c.args.frame.described ≡ None = search rules in
-    let refused : c.from_residual.result ≡ Err MalformedRequest = search rules in
-    rw refused (unmade c.args.frame c.args.source.now (planes_of c.args.y.now c.args.u.now c.args.v.now) none)
 
 pub returns : goal.returns
 returns c =

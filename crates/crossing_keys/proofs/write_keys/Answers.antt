@@ -12,7 +12,7 @@ loop-place-preserved c =
     let rs = records_in c.args.file.now.form c.args.file.now.bytes.now in
     let long = records_counted c.args.file.now in
     keys_more (keys_from 0 (crossings_of rs)) c.loop-place.keys c.loop-place.place c.new.result (omega arith) (omega (arith, keys_long rs, c.requires, long))
-    (its_key rs c.loop-place.place _ (omega (arith, c.requires, long)) (c.new.ensures ∙ ap (λ (n : ℕ). n * 4096 + c.loop-place.place) c.entry-entry.ensures.crossing)) c.loop-place.invariant
+    (its_key rs c.loop-place.place _ (omega (arith, c.requires, long)) (c.new.ensures ∙ ap (λ (n : ℕ). n * 4096 + c.loop-place.place) (rw (c.«record».ensures.0, c.«record».ensures.1) at c.entry-entry.ensures.crossing))) c.loop-place.invariant
 
 pub returns : goal.returns
 returns c =

@@ -17,6 +17,6 @@ returns c =
       result = desk_answer c.open_described-answer.new.desk c.open_described-answer.result;
       number = c.tell_answer.ensures.0;
       told = c.tell_answer.ensures.1 ∙ two_told c.args.told.now _ _ size;
-      opened = rw (c.desk-desk.ensures, c.parts_of.ensures, c.lengths_of.ensures) at c.open_described-answer.ensures;
+      opened = rw (c.desk-desk.ensures, c.parts_at.ensures, c.lengths_of.ensures) at c.open_described-answer.ensures;
       after = search (rules, c.put_answer.ensures.numbers, c.put_answer.ensures.lent_numbers, c.put_answer.ensures.lent_customs, c.put_answer.ensures.lent_parts);
     }

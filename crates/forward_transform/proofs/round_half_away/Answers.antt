@@ -15,13 +15,13 @@ not_below : (m c : ℕ) → T (ltb (m * 1) (0 * c)) → ⊥
 not_below m c t = omega (arith, ltb→lt (m * 1) (0 * c) t)
 
 -- below 0, the opposite number is not, is as small, and rounds to the opposite
-opposite : (x : Float) → T (small x) → T (lt x zero)
+opposite : (x : Float) → T (small x) → lt x zero ≡ true
     → T (small (neg x)) × T (not (lt (neg x) zero)) × (neg_ℤ (round_half_away (neg x)) ≡ round_half_away x)
 unfolding lt neg round_half_away
-opposite nan h l = absurd h
-opposite (inf s) h l = absurd h
-opposite (fin true m e) h l = (h, not_T (ltb (m * up e * 1) (0 * down e)) (not_below (m * up e) (down e)), refl)
-opposite (fin false m e) h l = absurd (not_below (m * up e) (down e) l)
+opposite nan h e = absurd h
+opposite (inf s) h e = absurd h
+opposite (fin true m e) h is = (h, not_T (ltb (m * up e * 1) (0 * down e)) (not_below (m * up e) (down e)), refl)
+opposite (fin false m e) h is = absurd (not_below (m * up e) (down e) (subst T (sym is) tt))
 
 -- a u16 negated in i32
 negated : (n : ℕ) → n < 2 ^ 16 → pos 0 -ℤ to_z w32 n ≡ neg_ℤ (pos n)
@@ -33,25 +33,17 @@ negated_fits n h = subst (λ (z : ℤ). SFits w32 z) (sym (negated n h)) (fits_i
 pub nearest_whole-requires-clause-small : goal.nearest_whole-requires-clause-small
 unfolding of_bits
 nearest_whole-requires-clause-small c =
-    let below : T (lt c.args.x zero) =
-    subst T (sym c.if-x.true) tt in
-    let o = opposite c.args.x c.requires below in
-    o.0
+    (opposite c.args.x c.requires c.if-x.true).0
 
 pub nearest_whole-requires-clause-not_negative : goal.nearest_whole-requires-clause-not_negative
 unfolding of_bits
 nearest_whole-requires-clause-not_negative c =
-    let below : T (lt c.args.x zero) =
-    subst T (sym c.if-x.true) tt in
-    let o = opposite c.args.x c.requires below in
-    o.1
+    (opposite c.args.x c.requires c.if-x.true).1
 
 pub returns-then-x : goal.returns-then-x
 unfolding of_bits
 returns-then-x c =
-    let below : T (lt c.args.x zero) =
-    subst T (sym c.if-x.true) tt in
     to_z-of_z w32 (pos 0 -ℤ to_z w32 c.nearest_whole.result) (negated_fits c.nearest_whole.result (omega arith))
     ∙ negated c.nearest_whole.result (omega arith)
     ∙ ap neg_ℤ c.nearest_whole.ensures
-    ∙ (opposite c.args.x c.requires below).2
+    ∙ (opposite c.args.x c.requires c.if-x.true).2

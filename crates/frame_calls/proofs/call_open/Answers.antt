@@ -1,4 +1,4 @@
--- `call_open` meets its contract: what it tells is what `open_told` has to tell.
+-- `call_open` meets its contract: what it tells is what `opening_answer` answers, and no row done.
 -- Assumes nothing.
 use mathlib.Core.Path.{◌∙◌}
 use Rattle.call_numbers.proofs.Arrays.{three_told}
@@ -7,9 +7,9 @@ use Rattle.frame_calls.proofs.call_open.Goals as goal
 pub returns : goal.returns
 returns c =
     record {
-      answer = c.open_told.result.answer;
-      done = c.open_told.result.done;
+      answer = c.opening_answer.result;
+      done = 0;
       number = c.tell.ensures.0;
       told = c.tell.ensures.1 ∙ three_told c.args.told.now _ _ _ c.tell-arg-1.given.0.1;
-      answered = c.open_told.ensures;
+      answered = c.opening_answer.ensures;
     }

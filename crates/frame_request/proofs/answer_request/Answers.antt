@@ -15,12 +15,12 @@ returns-in_err-check_size c =
     let same : c.from_residual-in_err-check_size.result ≡ Err c.in_err-check_size.field-0.0 = search rules in
     rw same (refused_size c.args.input.now c.args.output.now c.in_ok-frame.frame sound frame c.in_err-check_size.was c.check_size.ensures)
 
-pub convert-requires : goal.convert-requires
-convert-requires c =
+pub invariant_of-frame : goal.invariant_of-frame
+invariant_of-frame c =
     let sound : malformed c.args.input.now ≡ false = search rules in
     let frame : c.in_ok-frame.frame ≡ frame_of c.args.input.now = search rules in
     let input = c.args.input.now in
-    rw frame (packed input (checked input (opened input c.in_ok-frame.frame sound frame c.in_ok-check_size.was c.check_size.ensures)))
+    record { packed = rw frame (packed input (checked input (opened input c.in_ok-frame.frame sound frame c.in_ok-check_size.was c.check_size.ensures))) }
 
 pub returns-in_err-convert : goal.returns-in_err-convert
 returns-in_err-convert c =

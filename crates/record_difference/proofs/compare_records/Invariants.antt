@@ -7,6 +7,6 @@ use Rattle.record_difference.proofs.compare_records.Given as goal
 
 abbrev pub invariant-loop-plane : goal.invariant-loop-plane
 invariant-loop-plane l =
-    let r = record_of l.ours.form l.ours.bytes.now l.i in
-    let s = record_of l.theirs.form l.theirs.bytes.now l.j in
-    from_plane l.plane-index l.a.size r s ≡ record_difference l.ours.form r l.theirs.form s
+    let r = record_of l.ours.file.form l.ours.file.bytes.now l.ours.k in
+    let s = record_of l.theirs.file.form l.theirs.file.bytes.now l.theirs.k in
+    from_plane l.plane-index l.a.size r s ≡ record_difference l.ours.file.form r l.theirs.file.form s

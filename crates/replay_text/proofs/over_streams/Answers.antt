@@ -1,5 +1,6 @@
 -- `over_streams` meets its contract: `replay` made the requests, over buffers that were empty at first, and nothing was written after them.
-use Rattle.replay.proofs.Streams.{begun, kept}
+use Rattle.std.proofs.KnownBytes.{Keeps-trans}
+use Rattle.replay.proofs.Streams.{begun}
 use Rattle.replay_text.proofs.Opened.{opened}
 use Rattle.replay_text.proofs.over_streams.Goals as goal
 
@@ -18,5 +19,5 @@ returns g c =
       begun g.O.Write.contents c.in_ok-out.out _ wrote.inner wrote.empty,
       p.5,
       p.6,
-      kept _ _ _ p.7 c.in_ok-into_inner.ensures.ok,
+      Keeps-trans _ _ _ p.7 c.in_ok-into_inner.ensures.ok,
     )

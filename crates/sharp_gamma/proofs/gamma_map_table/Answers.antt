@@ -12,8 +12,8 @@ returns c =
     let entry = gamma_entry c.args.transfer c.args.rounding in
     let first = c.first_index_table-first.result in
     let all : c.loop-k.k ≡ 255 = omega arith in
-    let filled = subst (λ (k : ℕ). Filled entry c.loop-k.table (get_or first k 0) k) all (c.loop-k.invariant.2 entry c.first_index_table-first.ensures) in
+    let filled = subst (λ (k : ℕ). Filled entry c.loop-k.table (get_or first k 0) k) all (c.loop-k.invariant entry c.first_index_table-first.ensures) in
     record {
       size = grind (arith, common_steps);
-      at = finish {run = c.fill-2.new.self} filled (gamma_entry-le c.args.transfer c.args.rounding) c.loop-k.invariant.0 (omega arith) (search rules) _;
+      at = finish {run = c.fill-2.new.self} filled (gamma_entry-le c.args.transfer c.args.rounding) (search rules) (omega arith) (search rules) _;
     }

@@ -4,14 +4,19 @@ use Rattle.std.proofs.Common.{rules, ◌≡◌}
 use Rattle.std.specs.Prelude.{Ok, Err}
 use Rattle.yuv_error.specs.Numbers.{numbers_of}
 use Rattle.yuv_error.specs.Lent.{lengths_of}
-use Rattle.sharp_rgba_to_yuv.proofs.Accepted.{answered}
+use Rattle.sharp_rgba_to_yuv.proofs.Accepted.{Accepted, answered}
 use Rattle.sharp_rgba_to_yuv.proofs.Post.{refused, finished}
 use Prim.Native.Nat.{◌*◌}
 use mathlib.Core.Path.{refl, sym, ap, ◌∙◌}
 use native.Mathlib.Omega.{arith}
 use lib.ListN.{length-drop}
+use Rattle.sharp_rgba_to_yuv.proofs.rgbx_to_sharp_yuv.Goals.{In_ok-check_frame}
 use Rattle.std.proofs.lemmas.List.{take_rest}
 use Rattle.sharp_rgba_to_yuv.proofs.rgbx_to_sharp_yuv.Goals as goal
+
+-- an accepted frame, and what it is lent
+its_frame : (c : In_ok-check_frame) → Accepted c.args.frame c.args.stride (lengths_of c.args.source.now c.args.y.now c.args.u.now c.args.v.now)
+its_frame c = answered _ _ _ c.in_ok-check_frame.was c.check_frame.ensures.numbers
 
 pub returns-in_err-check_frame : goal.returns-in_err-check_frame
 returns-in_err-check_frame c =
@@ -21,24 +26,17 @@ returns-in_err-check_frame c =
     (same ∙ c.check_frame.ensures.numbers) is
 
 pub overflow_mul-at : goal.overflow_mul-at
-overflow_mul-at c =
-    let n = lengths_of c.args.source.now c.args.y.now c.args.u.now c.args.v.now in
-    omega (arith, (answered c.args.frame c.args.stride n c.in_ok-check_frame.was c.check_frame.ensures.numbers).inside)
+overflow_mul-at c = omega (arith, (its_frame (goal.at.overflow_mul-at c).In_ok-check_frame).inside)
 
 pub slice_bounds-sharpen_band-count : goal.slice_bounds-sharpen_band-count
-slice_bounds-sharpen_band-count c =
-    let n = lengths_of c.args.source.now c.args.y.now c.args.u.now c.args.v.now in
-    omega (arith, (answered c.args.frame c.args.stride n c.in_ok-check_frame.was c.check_frame.ensures.numbers).inside)
+slice_bounds-sharpen_band-count c = omega (arith, (its_frame (goal.at.slice_bounds-sharpen_band-count c).In_ok-check_frame).inside)
 
 pub slice_bounds-sharpen_band-start : goal.slice_bounds-sharpen_band-start
-slice_bounds-sharpen_band-start c =
-    let n = lengths_of c.args.source.now c.args.y.now c.args.u.now c.args.v.now in
-    omega (arith, (answered c.args.frame c.args.stride n c.in_ok-check_frame.was c.check_frame.ensures.numbers).inside)
+slice_bounds-sharpen_band-start c = omega (arith, (its_frame (goal.at.slice_bounds-sharpen_band-start c).In_ok-check_frame).inside)
 
 pub sharpen_band-requires : goal.sharpen_band-requires
 sharpen_band-requires c =
-    let n = lengths_of c.args.source.now c.args.y.now c.args.u.now c.args.v.now in
-    let f = answered c.args.frame c.args.stride n c.in_ok-check_frame.was c.check_frame.ensures.numbers in
+    let f = its_frame (goal.at.sharpen_band-requires c).In_ok-check_frame in
     let at = c.args.frame.window.top * c.args.stride in
     record {
       lent = rw (take_rest c.args.source.now at, length-drop at c.args.source.now) f.lent;

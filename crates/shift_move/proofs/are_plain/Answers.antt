@@ -20,7 +20,7 @@ left_here c =
     let f = c.args.file.now in
     let h = file_records f in
     let plain_here : c.is_plain.result ≡ is_plain (record_of f.form f.bytes.now c.loop-k.k).settings =
-    c.is_plain.ensures ∙ ap is_plain (c.settings.ensures ∙ told_with f.form c.requires (record_of f.form f.bytes.now c.loop-k.k).settings) in
+    c.is_plain.ensures ∙ ap is_plain ((rw (c.«record».ensures.0, c.«record».ensures.1) at c.settings.ensures) ∙ told_with f.form c.requires (record_of f.form f.bytes.now c.loop-k.k).settings) in
     rw plain_here (sym (plain_next (records_in f.form f.bytes.now) c.loop-k.k (omega (arith, h.count, c.loop-k-test.true))) ∙ c.loop-k.invariant)
 
 pub returns-then-not-is_plain : goal.returns-then-not-is_plain

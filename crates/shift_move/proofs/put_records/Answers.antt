@@ -27,7 +27,7 @@ inside : (c : After-moved_size-at) → let f = c.args.file.now in
 inside c =
     let f = c.args.file.now in
     let h = file_records f in
-    omega (arith, c.moved_size-at.ensures, c.loop-k.invariant.room, left_next (records_in f.form f.bytes.now) c.loop-k.k (other_form f.form) (omega (arith, h.count, c.loop-k-test.true)))
+    omega (arith, (rw (c.record-record.ensures.0, c.record-record.ensures.1) at c.moved_size-at.ensures), c.loop-k.invariant.room, left_next (records_in f.form f.bytes.now) c.loop-k.k (other_form f.form) (omega (arith, h.count, c.loop-k-test.true)))
 
 -- a record has room behind those that were put
 fits : (c : In-loop-k) → let f = c.args.file.now in
@@ -36,8 +36,9 @@ fits c =
     let f = c.args.file.now in
     omega (arith, c.loop-k.invariant.room, left_next (records_in f.form f.bytes.now) c.loop-k.k (other_form f.form) (below c))
 
-pub put_record-requires-clause-room : goal.put_record-requires-clause-room
-put_record-requires-clause-room c = omega (arith, fits (goal.at.put_record-requires-clause-room c).In-loop-k)
+pub put_record-requires : goal.put_record-requires
+put_record-requires c =
+    rw (c.record-record.ensures.0, c.record-record.ensures.1) (omega (arith, fits (goal.at.put_record-requires c).In-loop-k))
 
 pub overflow_add-at : goal.overflow_add-at
 overflow_add-at c = omega (arith, inside (goal.at.overflow_add-at c).After-moved_size-at)
@@ -47,8 +48,8 @@ loop-k-preserved c =
     let f = c.args.file.now in
     let fit = fits (goal.at.loop-k-preserved c).In-loop-k in
     record {
-      same = rw (c.put_record.ensures, sets_part c.loop-k.output (bytes_of (moved_record (other_form f.form) (record_of f.form f.bytes.now c.loop-k.k))) c.loop-k.at (length c.loop-k.output - c.loop-k.at) (omega (arith, fit)) (omega (arith, fit)))
-          (record_next (records_in f.form f.bytes.now) c.loop-k.k (other_form f.form) c.loop-k.output c.loop-k.at _ (below (goal.at.loop-k-preserved c).In-loop-k) c.moved_size-at.ensures ∙ c.loop-k.invariant.same);
+      same = rw ((rw (c.record-record.ensures.0, c.record-record.ensures.1) at c.put_record.ensures), sets_part c.loop-k.output (bytes_of (moved_record (other_form f.form) (record_of f.form f.bytes.now c.loop-k.k))) c.loop-k.at (length c.loop-k.output - c.loop-k.at) (omega (arith, fit)) (omega (arith, fit)))
+          (record_next (records_in f.form f.bytes.now) c.loop-k.k (other_form f.form) c.loop-k.output c.loop-k.at _ (below (goal.at.loop-k-preserved c).In-loop-k) (rw (c.record-record.ensures.0, c.record-record.ensures.1) at c.moved_size-at.ensures) ∙ c.loop-k.invariant.same);
       room = inside (goal.at.loop-k-preserved c).After-moved_size-at;
     }
 

@@ -26,7 +26,7 @@ inside : (c : After-moved_size-size) → let f = c.args.file.now in let rs = rec
 inside c =
     let f = c.args.file.now in
     let h = file_records f in
-    omega (arith, c.moved_size-size.ensures, c.loop-k.invariant.here, left_next (records_in f.form f.bytes.now) c.loop-k.k (other_form f.form) (omega (arith, h.count, c.loop-k-test.true)))
+    omega (arith, (rw (c.«record».ensures.0, c.«record».ensures.1) at c.moved_size-size.ensures), c.loop-k.invariant.here, left_next (records_in f.form f.bytes.now) c.loop-k.k (other_form f.form) (omega (arith, h.count, c.loop-k-test.true)))
 
 pub loop-k-init : goal.loop-k-init
 loop-k-init c = record { same = rw add-zero; here = refl }
@@ -39,7 +39,7 @@ loop-k-preserved c =
     let f = c.args.file.now in
     let pair : c.args.first_pair + 12 * (c.loop-k.k + 1) ≡ c.args.first_pair + 12 * c.loop-k.k + 12 = omega arith in record {
       same = rw (pair, c.write_pair.ensures)
-          (pair_next (records_in f.form f.bytes.now) c.loop-k.k (other_form f.form) c.loop-k.output c.loop-k.at _ _ (below (goal.at.loop-k-preserved c).In-loop-k) c.moved_size-size.ensures ∙ c.loop-k.invariant.same);
+          (pair_next (records_in f.form f.bytes.now) c.loop-k.k (other_form f.form) c.loop-k.output c.loop-k.at _ _ (below (goal.at.loop-k-preserved c).In-loop-k) (rw (c.«record».ensures.0, c.«record».ensures.1) at c.moved_size-size.ensures) ∙ c.loop-k.invariant.same);
       here = inside (goal.at.loop-k-preserved c).After-moved_size-size;
     }
 

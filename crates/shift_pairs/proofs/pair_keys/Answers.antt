@@ -36,8 +36,8 @@ loop-i-preserved-then-their_crossing-our_crossing c = (
       c.crossing-their_crossing.ensures c.if-their_crossing-our_crossing.true,
 )
 
-pub with_pair-tally-requires-clause-few_pairs : goal.with_pair-tally-requires-clause-few_pairs
-with_pair-tally-requires-clause-few_pairs c =
+pub with_pair-tally-requires : goal.with_pair-tally-requires
+with_pair-tally-requires c =
     omega (arith, so_far _ _ _ c.loop-i.i c.loop-i.j c.loop-i.tally c.loop-i.invariant.2, c.loop-i.invariant.2.few_ours, keys_counted c.args.ours.now, c.args.ours.now.file.few)
 
 pub loop-i-preserved : goal.loop-i-preserved
@@ -45,7 +45,8 @@ loop-i-preserved c = (
   search rules,
   search rules,
   next_both _ _ _ c.loop-i.i c.loop-i.j c.loop-i.tally _ _ _ _ c.loop-i.invariant.2 (omega arith) (omega arith) c.crossing-our_crossing.ensures
-      c.crossing-their_crossing.ensures (omega arith) _ _ c.place.ensures c.place-else-their_crossing-our_crossing.ensures _ c.with_pair-tally.ensures,
+      c.crossing-their_crossing.ensures (omega arith) _ _ c.place.ensures c.place-else-their_crossing-our_crossing.ensures _
+      (rw (c.record-our_record.ensures.0, c.record-our_record.ensures.1, c.record-their_record.ensures.0, c.record-their_record.ensures.1) at c.with_pair-tally.ensures),
 )
 
 pub overflow_add-pairs : goal.overflow_add-pairs

@@ -17,4 +17,4 @@ loop-i-preserved c =
     let k = file_known f in
     entry_told c.args.kind f.form (records_in f.form f.bytes.now) c.args.entries.now c.loop-i.entries _ c.args.first c.loop-i.i c.args.count _ _ k.its.has.each
     (omega (arith, k.count, f.counted, c.requires.below)) c.loop-i-test.true c.requires.room c.loop-i.auto.entries (rw c.size-size.ensures.0) (omega arith)
-    c.loop-i.invariant c.tell_entry.ensures
+    c.loop-i.invariant (rw (c.«record».ensures.0, c.«record».ensures.1) at c.tell_entry.ensures)

@@ -7,11 +7,11 @@ use Rattle.shift_summary.proofs.entry_at.Goals as goal
 
 pub mean_luma-requires : goal.mean_luma-requires
 mean_luma-requires c =
-    let f = c.args.file.now in
-    luma_bounds f.form (records_in f.form f.bytes.now) c.args.k (record_below f c.args.k c.requires) (record_allowed f c.args.k c.requires) _ c.y.ensures
+    let r = c.args.file_record.now in
+    luma_bounds r.file.form (records_in r.file.form r.file.bytes.now) r.k (record_below r.file r.k r.below) (record_allowed r) _ c.planes.ensures.y
 
 pub returns : goal.returns
 returns c =
-    let f = c.args.file.now in
-    entry_told f.form (records_in f.form f.bytes.now) c.args.k (record_below f c.args.k c.requires) (record_allowed f c.args.k c.requires) _ _ _ _
-    c.entry-entry.ensures.crossing c.entry-entry.ensures.offset c.y.ensures c.mean_luma.ensures
+    let r = c.args.file_record.now in
+    entry_told r.file.form (records_in r.file.form r.file.bytes.now) r.k (record_below r.file r.k r.below) (record_allowed r) _ _ _ _
+    c.entry-entry.ensures.crossing c.entry-entry.ensures.offset c.planes.ensures.y c.mean_luma.ensures

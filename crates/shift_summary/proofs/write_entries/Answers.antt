@@ -1,8 +1,8 @@
 -- The invariant: the entries that are left to write complete the whole. Each key names a record. Assumes nothing.
-use Rattle.std.proofs.Common.{arith, sym, ap, ◌∙◌, ℕ, List, get_or}
+use Rattle.std.proofs.Common.{arith, sym, ap, ◌∙◌, List}
 use lib.Seq.{sets}
 use Rattle.summary_entry.specs.declared.SummaryEntry.{SummaryEntry}
-use Rattle.summary_entry.specs.Entry.{entries_bytes, no_entry}
+use Rattle.summary_entry.specs.Entry.{entries_bytes}
 use Rattle.shift_file.specs.Read.{records_in}
 use Rattle.shift_summary.specs.Summary.{entries_of}
 use Rattle.shift_summary.proofs.Loops.{ordered_entries, entry_more, entries_done}
@@ -13,7 +13,7 @@ loop-i-preserved c =
     let o = c.args.ordered.now in
     let es = entries_of o.file.form (records_in o.file.form o.file.bytes.now) in
     entry_more es o.keys.now c.loop-i.summary _ c.loop-i.i _ _ (omega arith)
-    (c.entry_at-entry.ensures ∙ ap (λ (n : ℕ). get_or es n no_entry) c.place-place.ensures) c.write_entry.ensures
+    (rw (c.«record».ensures.0, c.«record».ensures.1, c.place-place.ensures) at c.entry_at-entry.ensures) c.write_entry.ensures
     ∙ c.loop-i.invariant
 
 pub returns : goal.returns

@@ -10,7 +10,7 @@ pub returns-then-entry-crossing : goal.returns-then-entry-crossing
 returns-then-entry-crossing c =
     let rs = records_in c.args.file.now.form c.args.file.now.bytes.now in
     let long = records_counted c.args.file.now in
-    let is = sym c.entry.ensures.crossing ∙ c.if-entry-crossing.true in
+    let is = sym (rw (c.«record».ensures.0, c.«record».ensures.1) at c.entry.ensures.crossing) ∙ c.if-entry-crossing.true in
     let here : c.loop-k.k ≡ place_of_first c.args.crossing rs = first_here c.args.crossing rs c.loop-k.k (omega (arith, long)) is ∙ c.loop-k.invariant in
     rw (lt-ltb (place_of_first c.args.crossing rs) (length rs) (omega (arith, here, long))) (ap Some here)
 
@@ -18,7 +18,7 @@ pub loop-k-preserved : goal.loop-k-preserved
 loop-k-preserved c =
     let rs = records_in c.args.file.now.form c.args.file.now.bytes.now in
     first_more c.args.crossing rs c.loop-k.k (omega (arith, records_counted c.args.file.now))
-    (λ e. c.if-entry-crossing.false (c.entry.ensures.crossing ∙ e)) ∙ c.loop-k.invariant
+    (λ e. c.if-entry-crossing.false ((rw (c.«record».ensures.0, c.«record».ensures.1) at c.entry.ensures.crossing) ∙ e)) ∙ c.loop-k.invariant
 
 pub returns : goal.returns
 returns c =

@@ -1,7 +1,7 @@
 -- The invariant: whether the entries from place i on are those that the keys name is what is asked. Assumes nothing.
-use Rattle.std.proofs.Common.{arith, ap, ap₂, sym, ◌∙◌, ◌≡◌, ℕ, ◌+◌, Bool, true, false, ◌&&◌, length, get_or}
+use Rattle.std.proofs.Common.{arith, ap, ap₂, sym, ◌∙◌, ◌≡◌, ◌+◌, Bool, true, false, ◌&&◌, length}
 use borrow.Author.Tests.{not-true, not-false}
-use Rattle.summary_entry.specs.Entry.{entries_in, same_entry, no_entry}
+use Rattle.summary_entry.specs.Entry.{entries_in, same_entry}
 use Rattle.summary_entry.proofs.Entry.{length_read, entry_at}
 use Rattle.shift_file.specs.Read.{records_in}
 use Rattle.shift_summary.specs.Summary.{entries_of}
@@ -25,7 +25,7 @@ step c =
     ∙ same_step keys es fs c.loop-i.i _ (omega arith) (omega (arith, length_read n c.args.summary.now))
     ∙ ap (λ (b : Bool). b && same_from keys es fs (c.loop-i.i + 1))
     (sym (ap₂ same_entry (c.read_entry-entry.ensures ∙ sym (entry_at n c.loop-i.i c.args.summary.now (omega arith)))
-    (c.entry_at-of_file.ensures ∙ ap (λ (k : ℕ). get_or fs k no_entry) c.place-place.ensures)))
+    (rw (c.«record».ensures.0, c.«record».ensures.1, c.place-place.ensures) at c.entry_at-of_file.ensures)))
 
 pub returns-then-ne : goal.returns-then-ne
 returns-then-ne c =

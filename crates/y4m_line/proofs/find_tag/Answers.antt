@@ -1,4 +1,5 @@
 -- `find_tag` meets its contract: of the words that begin with the letter, the first and whether another follows. Assumes nothing.
+-- The chain of iterators stands in each answer: one lemma for the three was tried, and its type, which has to say the calls of both closures, was not found.
 use Rattle.std.proofs.Common.{rules, tests, eqb, ap, ◌∙◌, ◌∷◌}
 use Rattle.std.proofs.lemmas.Iterator.Consumers.{YieldsList-from_filter, YieldsList-at}
 use Rattle.std.proofs.lemmas.Iterator.Splits.{YieldsList-from_slice_split}

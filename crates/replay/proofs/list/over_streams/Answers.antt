@@ -1,7 +1,8 @@
 -- `over_streams` meets its contract: `replay` made the calls, of the bytes that were read; nothing waited to be written at first, and nothing
 -- was written after them.
 use Rattle.std.proofs.Common.{rules}
-use Rattle.replay.proofs.Streams.{begun, kept}
+use Rattle.std.proofs.KnownBytes.{Keeps-trans}
+use Rattle.replay.proofs.Streams.{begun}
 use Rattle.replay.proofs.list.over_streams.Goals as goal
 
 pub returns : goal.returns
@@ -18,5 +19,5 @@ returns g c =
       p.3,
       begun g.O.Write.contents c.in_ok-out.out _ wrote.inner wrote.empty,
       p.4,
-      kept _ _ _ p.5 c.in_ok-into_inner.ensures.ok,
+      Keeps-trans _ _ _ p.5 c.in_ok-into_inner.ensures.ok,
     )

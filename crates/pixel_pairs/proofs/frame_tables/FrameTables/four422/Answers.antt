@@ -37,18 +37,11 @@ mixed-second-requires g c =
 
 pub put_luma-requires-clause-total_fits : goal.put_luma-requires-clause-total_fits
 put_luma-requires-clause-total_fits g c =
-    let row : Pixels = pixels_of g.row.N c.args.this.now in
-    let right : 2 * c.args.j + 1 < c.args.self.now.luma.rows.frame.width = omega (arith, c.requires.inside) in
-    fits_ready c.args.self.now.luma.summed row _ _ c.pair-a.ensures
+    fits_ready c.args.self.now.luma.summed (pixels_of g.row.N c.args.this.now) _ _ c.pair-a.ensures
 
 pub put_luma-requires-2-clause-total_fits : goal.put_luma-requires-2-clause-total_fits
 put_luma-requires-2-clause-total_fits g c =
-    let row : Pixels = pixels_of g.row.N c.args.this.now in
-    let here : InRow c.args.self.now.luma.rows.frame (record { j = c.args.j; next = 2 * c.args.j + 1 }) = (four_InRow _ _ c.requires.inside).0 in
-    let last : 2 * (c.args.j + 1) + 1 < c.args.self.now.luma.rows.frame.width = omega (arith, c.requires.inside) in
-    let l = lumas_is c.args.self.now.luma.summed row _ _ c.pair-a.ensures in
-    let more = luma422_more c.args.self.now.luma.rows.frame g.row.N here c.requires.row422 l.0 l.1 c.put_luma.ensures in
-    fits_ready c.args.self.now.luma.summed row _ _ c.pair-b.ensures
+    fits_ready c.args.self.now.luma.summed (pixels_of g.row.N c.args.this.now) _ _ c.pair-b.ensures
 
 pub returns : goal.returns
 returns g c =

@@ -4,7 +4,6 @@ use lib.ListN.{length}
 use Rattle.y4m_writer.proofs.Sizes.{count_most}
 use Rattle.y4m_writer.proofs.Puts.{line_most}
 use Rattle.y4m_writer.proofs.Whole.{planes_least}
-use Rattle.y4m_writer.proofs.planes.WholePictures.file_size.Goals.{Start}
 use Rattle.y4m_writer.proofs.planes.WholePictures.file_size.Goals as goal
 
 pub overflow_add-line : goal.overflow_add-line

@@ -1,2 +1,0 @@
--- `rows_by_pixel` meets its contract: a pixel has 3 bytes or 4.
--- Assumes nothing.
