@@ -195,7 +195,12 @@ pub fn size_standing(form: ShiftForm, bytes: &[u8]) -> Option<usize>
     ensures { result ≡ size_standing form bytes.now }
 {
     let part = Part::new(form, bytes)?;
-    (part.is_allowed() && part.size() <= bytes.len()).then_some(part.size())
+    if !part.is_allowed() {
+        return None;
+    }
+    // Worked out once: the walk over a file waits for it.
+    let size = part.size();
+    (size <= bytes.len()).then_some(size)
 }
 
 // Whether an allowed record stands there, whole.
