@@ -151,7 +151,7 @@ fn state_numbers(kind: u32, rows: u32, stride: u32, state: FrameState) -> [u32; 
         u32::from(settings.channels),
         u32::from(settings.sampling),
         u32::from(settings.range),
-        u32::from(settings.matrix),
+        setting_codes::matrix_code(settings.matrix),
         u32::from(settings.transfer),
         frame.y_stride,
         frame.u_stride,

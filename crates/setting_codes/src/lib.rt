@@ -1,15 +1,16 @@
-// Settings from numbers, for callers that have no enums: the codes of a request and of the C functions. The other way round is `u32::from` of each.
+// Settings from numbers, for callers that have no enums: the codes of a request and of the C functions. The other way round is `u32::from` of each, and
+// of a matrix `matrix_code` too.
 #![tactic(auto)]
 
 ghost use Rattle.std.specs.Prelude.{◌≡◌, get_or};
-ghost use Rattle.setting_codes.specs.Codes.{channels_codes, sampling_codes, range_codes, transfer_codes, rounding_codes};
+ghost use Rattle.setting_codes.specs.Codes.{channels_codes, sampling_codes, range_codes, transfer_codes, rounding_codes, matrix_code};
 
 use sharp_gamma::{SharpYuvGammaTransfer, TableRounding};
-use yuv_support::{YuvChromaSubsampling, YuvRange, YuvSourceChannels};
+use yuv_support::{YuvChromaSubsampling, YuvRange, YuvSourceChannels, YuvStandardMatrix};
 
-// Each is one line over the `TryFrom` that stands beside its type, which has no value for a code without a meaning: callers that refuse such a code
-// elsewhere want the first meaning for it. One function over the five types would be `try_from(code).unwrap_or(first)` itself, with the first meaning at
-// each call; and for `unwrap_or_default` each type would need a `Default`, where the first meaning is a rule of the numbers alone: no Rust caller has a
+// Each of the five is one line over the `TryFrom` that stands beside its type, which has no value for a code without a meaning: callers that refuse such a
+// code elsewhere want the first meaning for it. One function over the five types would be `try_from(code).unwrap_or(first)` itself, with the first meaning
+// at each call; and for `unwrap_or_default` each type would need a `Default`, where the first meaning is a rule of the numbers alone: no Rust caller has a
 // setting by default. A matrix is read by `call_numbers`, which has the kr and kb of a Custom one.
 pub fn channels_of(code: u32) -> YuvSourceChannels
     ensures { result ≡ get_or channels_codes code YuvSourceChannels.Rgb }
@@ -39,4 +40,11 @@ pub fn rounding_of(code: u32) -> TableRounding
     ensures { result ≡ get_or rounding_codes code TableRounding.Truncated }
 {
     TableRounding::try_from(code).unwrap_or(TableRounding::Truncated)
+}
+
+// Every Custom matrix has the code 6: kr and kb are no part of it.
+pub fn matrix_code(matrix: YuvStandardMatrix) -> u32
+    ensures { result ≡ matrix_code matrix }
+{
+    u32::from(matrix)
 }
