@@ -65,7 +65,8 @@ pub fn chroma_row420<const C: usize, const N: usize>(
     }
 }
 
-// Two rows, four pixels a turn, as far as their last whole four. Both colours of a turn are looked up before either is weighed: a tenth faster.
+// Two rows, four pixels a turn, as far as their last whole four. Both colours of a turn are looked up before either is weighed: a tenth faster. A row
+// without one returns first, so that the loop is not tested before its first turn.
 fn fours420<const N: usize>(
     tables: &FrameTables,
     this: &[u8],
@@ -77,6 +78,9 @@ fn fours420<const N: usize>(
     requires { Lent420 tables.now.luma.rows.frame N this.now below.now y.old u.old v.old }
     ensures { Begun420 tables.now.luma.rows.frame N this.now below.now (2 * (tables.now.luma.rows.frame.width / 4)) y.old u.old v.old y.new u.new v.new }
 {
+    if tables.luma.rows.frame.width < 4 {
+        return;
+    }
     for k in 0..tables.luma.rows.frame.width as usize / 4 {
         let j = 2 * k;
         let c = tables.four420::<N>(this, below, j, y);
@@ -124,7 +128,7 @@ pub fn sharpen_rows420<const N: usize>(
     rest420::<N>(tables, this, below, y, u, v);
 }
 
-// A row, four pixels a turn, as far as its last whole four.
+// A row, four pixels a turn, as far as its last whole four. A row without one returns first here too.
 fn fours422<const N: usize>(
     tables: &FrameTables,
     this: &[u8],
@@ -135,6 +139,9 @@ fn fours422<const N: usize>(
     requires { Lent422 tables.now.luma.rows.frame N this.now y.old u.old v.old }
     ensures { Begun422 tables.now.luma.rows.frame N this.now (2 * (tables.now.luma.rows.frame.width / 4)) y.old u.old v.old y.new u.new v.new }
 {
+    if tables.luma.rows.frame.width < 4 {
+        return;
+    }
     for k in 0..tables.luma.rows.frame.width as usize / 4 {
         let j = 2 * k;
         let c = tables.four422::<N>(this, j, y);
