@@ -1,10 +1,15 @@
 -- What is known of a file that the check let through, and of a place in it. This serves the contracts between functions: no meaning stands here.
 -- Assumes nothing.
-use Rattle.std.specs.Prelude.{ℕ, ◌≤◌, ◌^◌, ◌≡◌, List, length, drop}
-use Rattle.y4m_file.specs.File.{pictures_bytes, luma_bytes, chroma_bytes}
+use Rattle.std.specs.Prelude.{ℕ, ◌≤◌, ◌<◌, ◌^◌, ◌≡◌, List, length, drop}
+use Rattle.y4m_file.specs.File.{IsFileOf, pictures_bytes, luma_bytes, chroma_bytes}
 use Rattle.y4m_file.specs.Read.{file_in}
 use Rattle.y4m_reader.specs.declared.PlaneSizes.{PlaneSizes}
 use Rattle.y4m_reader.specs.Entry.{offset_of}
+
+-- a file of more than k pictures
+pub record HasPicture (file : List ℕ) (k : ℕ) : Type 0 where
+  pub is_file_lem : IsFileOf file (file_in file)
+  pub below : k < length (file_in file).pictures
 
 -- the bytes of its planes
 pub record SizesAre (file : List ℕ) (p : PlaneSizes) : Type 0 where

@@ -7,7 +7,7 @@ ghost use Rattle.std.proofs.lemmas.List.Edits.{sets};
 ghost use Rattle.y4m_line.specs.Header.{line_end};
 ghost use Rattle.y4m_file.specs.Read.{file_in};
 ghost use Rattle.y4m_reader.specs.Entry.{picture_of, plane_numbers, entries_of};
-ghost use Rattle.y4m_reader.specs.Known.{SizesAre, Stood};
+ghost use Rattle.y4m_reader.specs.Known.{HasPicture, SizesAre, Stood};
 ghost use Rattle.y4m_reader.specs.Reading.{ReadPost};
 
 use shift_file::PlaneParts;
@@ -104,6 +104,44 @@ pub fn picture_parts<'a>(file: &Y4mRead<'a>, k: usize) -> PlaneParts<'a>
         u: shift_file::part_of(file.bytes, u, sizes.chroma),
         v: shift_file::part_of(file.bytes, v, sizes.chroma),
     }
+}
+
+// ---- picture k of bytes that are known to have it. RULES 14.5 has each plane be a part of the file, and these promise it of the bytes themselves; each
+// is one line over `picture_parts`.
+
+// The planes of picture k of the file that these bytes are.
+fn known_parts(file: &[u8], k: usize) -> PlaneParts
+    requires { HasPicture file.now k }
+    ensures y { result.y.now ≡ (picture_of (file_in file.now) k).y }
+    ensures u { result.u.now ≡ (picture_of (file_in file.now) k).u }
+    ensures v { result.v.now ≡ (picture_of (file_in file.now) k).v }
+{
+    let read = Y4mRead::open(file).unwrap();
+    picture_parts(&read, k)
+}
+
+// Y of a picture, as a part of the file.
+pub fn y_part(file: &[u8], k: usize) -> &[u8]
+    requires { HasPicture file.now k }
+    ensures { result.now ≡ (picture_of (file_in file.now) k).y }
+{
+    known_parts(file, k).y
+}
+
+// The same of U.
+pub fn u_part(file: &[u8], k: usize) -> &[u8]
+    requires { HasPicture file.now k }
+    ensures { result.now ≡ (picture_of (file_in file.now) k).u }
+{
+    known_parts(file, k).u
+}
+
+// The same of V.
+pub fn v_part(file: &[u8], k: usize) -> &[u8]
+    requires { HasPicture file.now k }
+    ensures { result.now ≡ (picture_of (file_in file.now) k).v }
+{
+    known_parts(file, k).v
 }
 
 // ---- numbers
