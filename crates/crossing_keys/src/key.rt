@@ -2,6 +2,8 @@
 ghost use Rattle.std.specs.Prelude.{◌≡◌, ◌/◌, ◌%◌, ◌<◌};
 ghost use Rattle.merge_sort.specs.Ascending.{key};
 
+use merge_sort::Numbered;
+
 // A key has room for the place of any of 4,096 records.
 const PLACES: u64 = 4096;
 
@@ -27,5 +29,22 @@ impl Key {
         ensures { result ≡ self.0 % 4096 }
     {
         (self.0 % PLACES) as usize
+    }
+}
+
+impl Numbered for Key {
+    ghost use Rattle.std.specs.Prelude.{map};
+    ghost use Rattle.std.proofs.Common.{refl};
+    ghost use Rattle.crossing_keys.specs.Keys.{number_of};
+
+    ghost number = { number_of };
+
+    ghost numbers = { map number_of };
+
+    ghost each = { λ _. refl };
+
+    fn number(&self) -> u64 {
+        let Key(number) = *self;
+        number
     }
 }

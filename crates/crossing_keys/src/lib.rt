@@ -23,5 +23,5 @@ pub fn write_keys(file: &ShiftFile, keys: &mut [Key])
         let entry = file.record(place).entry();
         keys[place] = Key::new(entry.crossing, place);
     }
-    keys.sort_unstable();
+    merge_sort::sort(keys);
 }

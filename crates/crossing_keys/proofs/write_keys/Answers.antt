@@ -1,9 +1,8 @@
 use Rattle.std.proofs.Common.{◌∙◌, ap, arith, ℕ, ◌+◌, ◌*◌}
 use Rattle.merge_sort.specs.Ascending.{sorted, keys_from}
-use Rattle.merge_sort.proofs.ByStd.{sorted_by_std}
 use Rattle.shift_file.specs.Read.{records_in}
-use Rattle.crossing_keys.specs.Keys.{crossings_of, number_of}
-use Rattle.crossing_keys.proofs.Keyed.{keys_long, its_key, keys_more, keys_all, keys_in_order}
+use Rattle.crossing_keys.specs.Keys.{crossings_of}
+use Rattle.crossing_keys.proofs.Keyed.{keys_long, its_key, keys_more, keys_all}
 use Rattle.crossing_keys.proofs.Places.{records_counted}
 use Rattle.crossing_keys.proofs.write_keys.Goals as goal
 
@@ -18,4 +17,4 @@ pub returns : goal.returns
 returns c =
     let rs = records_in c.args.file.now.form c.args.file.now.bytes.now in
     let all = keys_all (keys_from 0 (crossings_of rs)) c.loop-place.keys c.loop-place.place (omega arith) (omega (arith, keys_long rs, c.requires, records_counted c.args.file.now)) c.loop-place.invariant in
-    sorted_by_std number_of _ _ c.sort_unstable.ensures.permutation (keys_in_order _ c.sort_unstable.ensures.sorted) ∙ ap sorted all
+    c.sort.ensures ∙ ap sorted all
