@@ -23,7 +23,7 @@ fn are_those(ordered: &OrderedFile, summary: &[u8]) -> bool
         let entry = summary_entry::read_entry(summary, ENTRY * i);
         let place = key.place();
         let of_file = shift_summary::entry_at(&ordered.file.record(place));
-        if entry != of_file {
+        if !entry.is_same(of_file) {
             return false;
         }
     }

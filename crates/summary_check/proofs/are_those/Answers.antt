@@ -1,6 +1,5 @@
 -- The invariant: whether the entries from place i on are those that the keys name is what is asked. Assumes nothing.
 use Rattle.std.proofs.Common.{arith, ap, ap₂, sym, ◌∙◌, ◌≡◌, ◌+◌, Bool, true, false, ◌&&◌, length}
-use borrow.Author.Tests.{not-true, not-false}
 use Rattle.summary_entry.specs.Entry.{entries_in, same_entry}
 use Rattle.summary_entry.proofs.Entry.{length_read, entry_at}
 use Rattle.shift_file.specs.Read.{records_in}
@@ -27,16 +26,16 @@ step c =
     (sym (ap₂ same_entry (c.read_entry-entry.ensures ∙ sym (entry_at n c.loop-i.i c.args.summary.now (omega arith)))
     (rw (c.«record».ensures.0, c.«record».ensures.1, c.place-place.ensures) at c.entry_at-of_file.ensures)))
 
-pub returns-then-ne : goal.returns-then-ne
-returns-then-ne c =
+pub returns-then-not-is_same : goal.returns-then-not-is_same
+returns-then-not-is_same c =
     let o = c.args.ordered.now in
-    let differ : same_entry c.read_entry-entry.result c.entry_at-of_file.result ≡ false = not-true _ (sym c.if-ne.ensures) in
-    sym (rw differ at (step (goal.at.returns-then-ne c).After-entry_at-of_file))
+    let differ : same_entry c.read_entry-entry.result c.entry_at-of_file.result ≡ false = sym c.is_same.ensures ∙ c.if-not-is_same.true in
+    sym (rw differ at (step (goal.at.returns-then-not-is_same c).After-entry_at-of_file))
     ∙ ap (same_entries _) (ordered_entries o.file.form (records_in o.file.form o.file.bytes.now) o.keys.now o.in_order)
 
 pub loop-i-preserved : goal.loop-i-preserved
 loop-i-preserved c =
-    let same : same_entry c.read_entry-entry.result c.entry_at-of_file.result ≡ true = not-false _ (sym c.if-ne.ensures) in
+    let same : same_entry c.read_entry-entry.result c.entry_at-of_file.result ≡ true = sym c.is_same.ensures ∙ c.if-not-is_same.false in
     sym (rw same at (step (goal.at.loop-i-preserved c).After-entry_at-of_file))
 
 pub returns : goal.returns
