@@ -14,7 +14,7 @@ use std::{fmt, io};
 const RETRIES: u32 = 1000;
 
 // A read or a write failed, when so many bytes were read or written. Nothing prints it: a program says its own `Failure`.
-#[derive(Debug, Drop)]
+#[derive(Clone, Copy, Debug)]
 pub struct Stopped {
     pub size: usize,
     pub error: io::Error,
