@@ -8,8 +8,11 @@
 #![tactic(auto)]
 
 use replay_text::Reply;
-use std::io::Write;
+use std::io::{Read, Write};
 use std::{fmt, io};
+
+// The most bytes of the text: those past them are not read.
+const MOST: u64 = 65536;
 
 // The lines of black and white of either range, and of the middle, where there are lines.
 #[derive(Clone, Copy)]
@@ -42,6 +45,7 @@ fn reply<W: Write + Drop>(request: &[u8], out: &mut W) -> io::Result<()> {
 }
 
 fn main(rt: HostRuntime) -> io::Result<()> {
-    replay_text::over_streams(rt.alloc(), rt.reader(), 16, io::writer(&rt), reply)?;
+    let text = rt.reader().take(MOST);
+    replay_text::over_streams(rt.alloc(), text, 16, io::writer(&rt), reply)?;
     Ok(())
 }

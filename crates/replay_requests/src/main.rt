@@ -9,7 +9,10 @@
 
 use replay_text::Reply;
 use std::io;
-use std::io::Write;
+use std::io::{Read, Write};
+
+// The most bytes of the text: those past them are not read.
+const MOST: u64 = 65536;
 
 fn reply<W: Write + Drop>(request: &[u8], out: &mut W) -> io::Result<()> {
     // `reply_to` takes an array of this size, and the reply fills a part of it.
@@ -20,7 +23,8 @@ fn reply<W: Write + Drop>(request: &[u8], out: &mut W) -> io::Result<()> {
 }
 
 fn main(rt: HostRuntime) -> io::Result<()> {
+    let text = rt.reader().take(MOST);
     // One byte past the largest request.
-    replay_text::over_streams(rt.alloc(), rt.reader(), 65546, io::writer(&rt), reply)?;
+    replay_text::over_streams(rt.alloc(), text, 65546, io::writer(&rt), reply)?;
     Ok(())
 }
