@@ -5,3 +5,4 @@ pub mod Crc
 pub mod Digits
 pub mod Made
 pub mod Streams
+pub mod Sources

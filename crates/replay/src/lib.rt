@@ -4,6 +4,8 @@
 
 mod list;
 mod printed;
+mod reading;
 
-pub use list::{List, each, over_streams, repeat, replay};
+pub use list::{List, each, list_of, over_streams, repeat, replay};
 pub use printed::{Answer, Digest, Left, Numbers, Planes, crc32};
+pub use reading::{ByteSource, Streamed};

@@ -1,21 +1,24 @@
 // A stored list, and the loop over its calls.
-ghost use Rattle.std.specs.Prelude.{◌≡◌, ℕ, ◌≤◌, length, take, drop, min, replicate, IfOk, IfErr, OnOk, IfSome};
+ghost use Rattle.std.specs.Prelude.{◌≡◌, ℕ, ◌≤◌, length, take, drop, min, replicate, IfOk, IfErr, OnOk};
 ghost use Rattle.std.specs.List.{FoldsTo, range_with_len};
-ghost use Rattle.replay.specs.Stored.{next_bytes, read_over, next_number, next_room, IsNumber, IsWide, IsFilled, Repeats, float_of, IsFloat, IsFrame, AreFilled};
+ghost use Rattle.replay.specs.Stored.{next_bytes, next_room, IsNumber, IsWide, IsFilled, Repeats, float_of, IsFloat, IsFrame, AreFilled};
+ghost use Rattle.replay.specs.Sources.{Reads, IsWhole, told};
+ghost use Rattle.replay.specs.Streams.{streamed_left};
 ghost use Rattle.std.specs.Io.KnownBytes.{Keeps};
-ghost use Rattle.std.specs.Io.Buffered.{writer_contents};
+ghost use Rattle.std.specs.Io.Buffered.{reader_remaining, writer_contents};
 ghost use Rattle.replay.specs.Calls.{Gives, CallsAt, StopsAt, Prints};
 
-use super::Planes;
+use super::{ByteSource, Planes, Streamed};
 use definitions::FrameDescription;
 use std::alloc::{AllocError, Global};
 use std::io;
-use std::io::{BufWriter, Read, Write};
+use std::io::{BufReader, BufWriter, Read, Write};
 
-// What is left to read of a list, whose bytes are all at hand: so reading cannot fail. Past its end each number is 0.
+// What is left to read of a list. Past its end each number is 0, and after a read that failed nothing is known of a number: so reading it answers no error,
+// which its source keeps.
 #[derive(Drop)]
-pub struct List<'a> {
-    pub rest: &'a [u8],
+pub struct List<S> {
+    pub rest: S,
     pub alloc: Global,
 }
 
@@ -43,38 +46,26 @@ fn float_of(bits: u32) -> f32
     f32::from_bits(bits)
 }
 
-impl<'a> List<'a> {
-    // Fills a buffer with the next bytes. Past the list's end it stays as it was.
-    fn bytes(&mut self, buffer: &mut [u8])
-        ensures filled { buffer.new ≡ read_over self.old.rest.now buffer.old }
-        ensures left { self.new.rest.now ≡ drop (length buffer.old) self.old.rest.now }
-    {
-        let size = buffer.len().min(self.rest.len());
-        let (read, rest) = self.rest.split_at(size);
-        buffer[..size].copy_from_slice(read);
-        self.rest = rest;
-    }
-
+impl<S: ByteSource> List<S> {
     // The next so many bytes, or zeros past the list's end.
     fn array<const N: usize>(&mut self) -> [u8; N]
-        ensures value { result ≡ next_bytes N self.old.rest.now }
-        ensures left { self.new.rest.now ≡ drop N self.old.rest.now }
+        ensures { Reads (S.left self.old.rest) (S.left self.new.rest) (λ old new. (result ≡ next_bytes N old) × (new ≡ drop N old)) }
     {
         let mut bytes = [0; N];
-        self.bytes(&mut bytes);
+        self.rest.bytes(&mut bytes);
         bytes
     }
 
     // The next number: four bytes, low byte first.
     pub fn number(&mut self) -> u32
-        ensures { IsNumber self.old.rest.now self.new.rest.now result }
+        ensures { Reads (S.left self.old.rest) (S.left self.new.rest) (λ old new. IsNumber old new result) }
     {
         u32::from_le_bytes(self.array())
     }
 
     // The next two numbers as one of 64 bits, the low half first. It reads, and converts no type.
     pub fn wide(&mut self) -> u64
-        ensures { IsWide self.old.rest.now self.new.rest.now result }
+        ensures { Reads (S.left self.old.rest) (S.left self.new.rest) (λ old new. IsWide old new result) }
     {
         u64::from_le_bytes(self.array())
     }
@@ -82,22 +73,22 @@ impl<'a> List<'a> {
     // The next number, at most this one.
     pub fn room(&mut self, most: usize) -> usize
         ensures bound { result ≤ most }
-        ensures value { result ≡ next_room most self.old.rest.now }
-        ensures left { self.new.rest.now ≡ drop 4 self.old.rest.now }
+        ensures value { Reads (S.left self.old.rest) (S.left self.new.rest) (λ old new.
+            (result ≡ next_room most old) × (new ≡ drop 4 old)) }
     {
         (self.number() as usize).min(most)
     }
 
     // The next number as the bits of a float.
     pub fn float(&mut self) -> f32
-        ensures { IsFloat self.old.rest.now self.new.rest.now result }
+        ensures { Reads (S.left self.old.rest) (S.left self.new.rest) (λ old new. IsFloat old new result) }
     {
         float_of(self.number())
     }
 
     // The numbers of a description, in their order; the bits of kr and kb stand behind the code of the matrix.
     pub fn frame(&mut self) -> FrameDescription
-        ensures { IsFrame self.old.rest.now self.new.rest.now result }
+        ensures { Reads (S.left self.old.rest) (S.left self.new.rest) (λ old new. IsFrame old new result) }
     {
         let mut numbers = [0u32; 15];
         let mut custom = [0f32; 2];
@@ -110,8 +101,10 @@ impl<'a> List<'a> {
 
     // Zeros, as many as the next number says, at most this many.
     pub fn buffer(&mut self, most: usize) -> Result<Vec<u8>, AllocError>
-        ensures zeros { IfOk result (λ buffer. buffer.items ≡ replicate (next_room most self.old.rest.now) 0) }
-        ensures left { self.new.rest.now ≡ drop 4 self.old.rest.now }
+        ensures bound { IfOk result (λ buffer. length buffer.items ≤ most) }
+        ensures zeros { IfOk result (λ buffer. Reads (S.left self.old.rest) (S.left self.new.rest) (λ old new.
+            buffer.items ≡ replicate (next_room most old) 0)) }
+        ensures left { Reads (S.left self.old.rest) (S.left self.new.rest) (λ old new. new ≡ drop 4 old) }
     {
         let length = self.room(most);
         vec![in self.alloc; 0u8; length]
@@ -119,11 +112,13 @@ impl<'a> List<'a> {
 
     // Zeros for each plane, as `buffer`.
     pub fn planes(&mut self, most: usize) -> Result<Planes, AllocError>
-        ensures zeros { let left = self.old.rest.now in IfOk result (λ planes.
-            (planes.y.items ≡ replicate (next_room most left) 0)
-            × (planes.u.items ≡ replicate (next_room most (drop 4 left)) 0)
-            × (planes.v.items ≡ replicate (next_room most (drop 8 left)) 0)) }
-        ensures left { self.new.rest.now ≡ drop 12 self.old.rest.now }
+        ensures bound { IfOk result (λ planes.
+            (length planes.y.items ≤ most) × (length planes.u.items ≤ most) × (length planes.v.items ≤ most)) }
+        ensures zeros { IfOk result (λ planes. Reads (S.left self.old.rest) (S.left self.new.rest) (λ old new.
+            (planes.y.items ≡ replicate (next_room most old) 0)
+            × (planes.u.items ≡ replicate (next_room most (drop 4 old)) 0)
+            × (planes.v.items ≡ replicate (next_room most (drop 8 old)) 0))) }
+        ensures left { Reads (S.left self.old.rest) (S.left self.new.rest) (λ old new. new ≡ drop 12 old) }
     {
         let y = self.room(most);
         let u = self.room(most);
@@ -137,18 +132,23 @@ impl<'a> List<'a> {
 
     // Fills a buffer with the next block, which is repeated.
     pub fn fill(&mut self, buffer: &mut [u8])
-        ensures { IsFilled self.old.rest.now self.new.rest.now buffer.old buffer.new }
+        ensures as_long { length buffer.new ≡ length buffer.old }
+        ensures filled { Reads (S.left self.old.rest) (S.left self.new.rest) (λ old new.
+            IsFilled old new buffer.old buffer.new) }
     {
         let block = self.room(buffer.len());
-        self.bytes(&mut buffer[..block]);
+        self.rest.bytes(&mut buffer[..block]);
         repeat(buffer, block);
     }
 
     // Fills each plane so.
     pub fn fill_planes(&mut self, planes: &mut Planes)
-        ensures { AreFilled self.old.rest.now self.new.rest.now
+        ensures as_long { (length planes.new.y.items ≡ length planes.old.y.items)
+            × (length planes.new.u.items ≡ length planes.old.u.items)
+            × (length planes.new.v.items ≡ length planes.old.v.items) }
+        ensures filled { Reads (S.left self.old.rest) (S.left self.new.rest) (λ old new. AreFilled old new
             (planes.old.y.items, planes.old.u.items, planes.old.v.items)
-            (planes.new.y.items, planes.new.u.items, planes.new.v.items) }
+            (planes.new.y.items, planes.new.u.items, planes.new.v.items)) }
     {
         self.fill(&mut planes.y);
         self.fill(&mut planes.u);
@@ -157,7 +157,7 @@ impl<'a> List<'a> {
 
     // Reads a value for each place. That a closure may always be called is asked where it is taken, here and in eight more functions: its type is a parameter
     // of each, and a struct round it would ask the same.
-    pub fn row<T: Copy, F: FnMut(&mut List<'a>) -> T>(&mut self, places: &mut [T], mut next: F)
+    pub fn row<T: Copy, F: FnMut(&mut List<S>) -> T>(&mut self, places: &mut [T], mut next: F)
         requires { F.IsAlwaysCallable next }
         ensures { (last : F) × FoldsTo (Gives F.FnMut) (next, self.old) places.new (last, self.new) }
     {
@@ -167,22 +167,34 @@ impl<'a> List<'a> {
     }
 }
 
+// The list that a reader holds, which is read through a buffer.
+pub fn list_of<I: Read + Drop>(alloc: Global, input: I) -> io::Result<List<Streamed<BufReader<I>>>>
+    ensures { IfOk result (λ list. streamed_left (reader_remaining I.remaining) list.rest ≡ told (I.remaining input)) }
+{
+    let reader = BufReader::new(alloc, input)?;
+    let rest = Streamed {
+        reader,
+        ended: false,
+        failure: None,
+    };
+    Ok(List { rest, alloc })
+}
+
 // Makes each call of a list, which is told its number: they count from 1.
 // The list and the writer are two parameters of each call here and in the programs: both are lent by `&mut`, and a struct of the two would be taken apart in
 // every call.
-pub fn each<W: Write + Drop, F: FnMut(u32, &mut List<'_>, &mut W) -> io::Result<()>>(
-    list: &mut List<'_>,
+pub fn each<S: ByteSource, W: Write + Drop, F: FnMut(u32, &mut List<S>, &mut W) -> io::Result<()>>(
+    list: &mut List<S>,
     out: &mut W,
     mut call: F,
 ) -> io::Result<()>
     requires { F.IsAlwaysCallable call }
-    ensures all { OnOk result ((first : List) × (last : F)
-        × (first.rest.now ≡ drop 4 list.old.rest.now)
-        × FoldsTo (CallsAt F.FnMut) (call, first, out.old)
-        (range_with_len 1 (next_number list.old.rest.now)) (last, list.new, out.new)) }
-    ensures stop { IfErr result (λ error. (first : List) × (last : F)
-        × (first.rest.now ≡ drop 4 list.old.rest.now)
-        × StopsAt F.FnMut (call, first, out.old) (next_number list.old.rest.now) error (last, list.new, out.new)) }
+    ensures all { OnOk result ((first : List S) × (last : F) × (count : ℕ)
+        × Reads (S.left list.old.rest) (S.left first.rest) (λ old new. IsNumber old new count)
+        × FoldsTo (CallsAt F.FnMut) (call, first, out.old) (range_with_len 1 count) (last, list.new, out.new)) }
+    ensures stop { IfErr result (λ error. (first : List S) × (last : F) × (count : ℕ)
+        × Reads (S.left list.old.rest) (S.left first.rest) (λ old new. IsNumber old new count)
+        × StopsAt F.FnMut (call, first, out.old) count error (last, list.new, out.new)) }
 {
     let count = list.number();
     for place in 0..count {
@@ -191,53 +203,54 @@ pub fn each<W: Write + Drop, F: FnMut(u32, &mut List<'_>, &mut W) -> io::Result<
     Ok(())
 }
 
-// Makes each call of a list, and prints a line of each: its number, and what the call prints.
+// Makes each call of a list, and prints a line of each: its number, and what the call prints. Where a read of the list failed no call is made after it.
 // A loop of its own: over `each`, by a closure that prints around `call`, it did not prove that the closure may be called again and again.
-pub fn replay<W: Write + Drop, F: FnMut(&mut List<'_>, &mut W) -> io::Result<()>>(
-    list: &mut List<'_>,
+pub fn replay<S: ByteSource, W: Write + Drop, F: FnMut(&mut List<S>, &mut W) -> io::Result<()>>(
+    list: &mut List<S>,
     out: &mut W,
     mut call: F,
 ) -> io::Result<()>
     requires { F.IsAlwaysCallable call }
-    ensures { OnOk result ((first : List) × (last : F) × (written : W)
-        × (first.rest.now ≡ drop 4 list.old.rest.now)
-        × FoldsTo (Prints F.FnMut W.contents) (call, first, out.old)
-        (range_with_len 1 (next_number list.old.rest.now)) (last, list.new, written)
+    ensures { OnOk result ((first : List S) × (last : F) × (written : W) × (count : ℕ)
+        × Reads (S.left list.old.rest) (S.left first.rest) (λ old new. IsNumber old new count)
+        × IsWhole (S.left first.rest)
+        × FoldsTo (Prints F.FnMut W.contents) (call, first, out.old) (range_with_len 1 count) (last, list.new, written)
+        × IsWhole (S.left list.new.rest)
         × Keeps (W.contents written) (W.contents out.new)) }
 {
     let count = list.number();
+    list.rest.check()?;
     for place in 0..count {
         let number = place + 1;
         write!(out, "{number}")?;
         call(list, out)?;
         out.write_all(b"\n")?;
+        list.rest.check()?;
     }
     out.flush()
 }
 
-// Makes and prints the calls of the list that a reader holds, which is read whole first, and answers the writer. What is written goes through
-// a buffer.
+// Makes and prints the calls of the list that a reader holds, and answers the writer, or the error of a read that failed. Both streams go through buffers.
 pub fn over_streams<
     I: Read + Drop,
     O: Write + Drop,
-    F: FnMut(&mut List<'_>, &mut BufWriter<O>) -> io::Result<()>,
->(alloc: Global, mut input: I, output: O, call: F) -> io::Result<O>
+    F: FnMut(&mut List<Streamed<BufReader<I>>>, &mut BufWriter<O>) -> io::Result<()>,
+>(alloc: Global, input: I, output: O, call: F) -> io::Result<O>
     requires { F.IsAlwaysCallable call }
-    ensures { IfOk result (λ output_left. (opened : List) × (first : List) × (ended : List) × (last : F)
-        × (begun : BufWriter O Global) × (written : BufWriter O Global)
-        × IfSome (I.remaining input) (λ held. opened.rest.now ≡ held)
-        × (first.rest.now ≡ drop 4 opened.rest.now)
+    ensures { IfOk result (λ output_left. let left = streamed_left (reader_remaining I.remaining) in
+        (opened : List (Streamed (BufReader I Global))) × (first : List (Streamed (BufReader I Global)))
+        × (ended : List (Streamed (BufReader I Global))) × (last : F)
+        × (begun : BufWriter O Global) × (written : BufWriter O Global) × (count : ℕ)
+        × (left opened.rest ≡ told (I.remaining input))
+        × Reads (left opened.rest) (left first.rest) (λ old new. IsNumber old new count)
+        × IsWhole (left first.rest)
         × (writer_contents O.contents begun ≡ O.contents output)
         × FoldsTo (Prints F.FnMut (writer_contents O.contents)) (call, first, begun)
-        (range_with_len 1 (next_number opened.rest.now)) (last, ended, written)
+        (range_with_len 1 count) (last, ended, written)
+        × IsWhole (left ended.rest)
         × Keeps (writer_contents O.contents written) (O.contents output_left)) }
 {
-    let mut bytes = Vec::new(alloc);
-    input.read_to_end(&mut bytes)?;
-    let mut list = List {
-        rest: &bytes,
-        alloc,
-    };
+    let mut list = list_of(alloc, input)?;
     let mut out = BufWriter::new(alloc, output)?;
     replay(&mut list, &mut out, call)?;
     Ok(out.into_inner()?)
@@ -248,6 +261,29 @@ mod tests {
     use super::*;
     use std::io::ErrorKind;
     use std::test::Fail;
+
+    // Gives a byte a call, and an error at one call: never where that is 0.
+    #[derive(Drop)]
+    struct Slow<'a> {
+        rest: &'a [u8],
+        calls: u32,
+        fails_at: u32,
+    }
+
+    impl Read for Slow<'_> {
+        fn read(&mut self, buf: &mut [u8]) -> io::Result<usize> {
+            self.calls = self.calls.wrapping_add(1);
+            if self.calls == self.fails_at {
+                return Err(io::Error::from(ErrorKind::PermissionDenied));
+            }
+            if buf.is_empty() || self.rest.is_empty() {
+                return Ok(0);
+            }
+            buf[0] = self.rest[0];
+            self.rest = &self.rest[1..];
+            Ok(1)
+        }
+    }
 
     #[test]
     fn a_buffer_is_as_long_as_the_list_says(rt: HostRuntime) -> Result<(), Fail> {
@@ -338,5 +374,39 @@ mod tests {
         })?;
         assert_eq!(rt; out.as_slice(), b"1 7\n2 8\n".as_slice());
         Ok(())
+    }
+
+    #[test]
+    fn a_list_may_come_a_byte_a_call(rt: HostRuntime) -> Result<(), Fail> {
+        let input = Slow {
+            rest: &[2, 0, 0, 0, 7, 0, 0, 0, 8, 0, 0, 0],
+            calls: 0,
+            fails_at: 0,
+        };
+        let mut out = Vec::new(rt.alloc());
+        over_streams(rt.alloc(), input, &mut out, |list, out| {
+            let number = list.number();
+            write!(out, " {number}")
+        })?;
+        assert_eq!(rt; out.as_slice(), b"1 7\n2 8\n".as_slice());
+        Ok(())
+    }
+
+    #[test]
+    fn a_failed_read_is_no_end(rt: HostRuntime) {
+        let input = Slow {
+            rest: &[2, 0, 0, 0, 7, 0, 0, 0, 8, 0, 0, 0],
+            calls: 0,
+            fails_at: 10,
+        };
+        let mut out = Vec::new(rt.alloc());
+        let made = over_streams(rt.alloc(), input, &mut out, |list, out| {
+            let number = list.number();
+            write!(out, " {number}")
+        });
+        assert_eq!(rt;
+            made.map(|_| ()).map_err(|error| error.kind()),
+            Err(ErrorKind::PermissionDenied)
+        );
     }
 }

@@ -3,9 +3,9 @@
 #![tactic(auto)]
 
 use band_calls::{FrameAnswer, FrameState};
-use replay::{Answer, Digest, List, Planes};
+use replay::{Answer, ByteSource, Digest, List, Planes};
 use std::alloc::AllocError;
-use std::io::{BufWriter, Read, Write};
+use std::io::{BufWriter, Write};
 use std::{fmt, io};
 
 // The most bytes of a source, and the bytes of each plane and of the carried row, which a sequence keeps from call to call.
@@ -24,7 +24,7 @@ impl fmt::Display for Answered {
     }
 }
 
-fn read_state(list: &mut List<'_>) -> FrameState {
+fn read_state<S: ByteSource>(list: &mut List<S>) -> FrameState {
     FrameState {
         frame: list.frame(),
         done: list.number(),
@@ -32,8 +32,8 @@ fn read_state(list: &mut List<'_>) -> FrameState {
 }
 
 // Makes a call on as much of each buffer as it is lent.
-fn make(
-    list: &mut List<'_>,
+fn make<S: ByteSource>(
+    list: &mut List<S>,
     planes: &mut Planes,
     carried: &mut [u8],
 ) -> Result<FrameAnswer, AllocError> {
@@ -57,8 +57,8 @@ fn make(
     ))
 }
 
-fn call<W: Write + Drop>(
-    list: &mut List<'_>,
+fn call<S: ByteSource, W: Write + Drop>(
+    list: &mut List<S>,
     planes: &mut Planes,
     carried: &mut [u8],
     out: &mut W,
@@ -69,7 +69,7 @@ fn call<W: Write + Drop>(
 }
 
 // The opening, and the calls after it, all on the same buffers.
-fn sequence<W: Write + Drop>(sequence: u32, list: &mut List<'_>, out: &mut W) -> io::Result<()> {
+fn sequence<S: ByteSource, W: Write + Drop>(sequence: u32, list: &mut List<S>, out: &mut W) -> io::Result<()> {
     let opened = Answered(FrameState::open(list.frame()));
     writeln!(out, "{sequence}{opened}")?;
     let mut planes = Planes::new(list.alloc, ROOM)?;
@@ -86,17 +86,12 @@ fn sequence<W: Write + Drop>(sequence: u32, list: &mut List<'_>, out: &mut W) ->
 // cover: a closure that moves its call into `replay::replay`, `replay::each` handed on as it is, and a closure's parameter of a function's type.
 fn main(rt: HostRuntime) -> io::Result<()> {
     let alloc = rt.alloc();
-    let mut bytes = Vec::new(alloc);
-    rt.reader().read_to_end(&mut bytes)?;
-    let mut list = List {
-        rest: &bytes,
-        alloc,
-    };
+    let mut list = replay::list_of(alloc, rt.reader())?;
     let mut out = BufWriter::new(alloc, io::writer(&rt))?;
-    replay::each(
-        &mut list,
-        &mut out,
-        |number, list, out| sequence(number, list, out),
-    )?;
+    replay::each(&mut list, &mut out, |number, list, out| {
+        list.rest.check()?;
+        sequence(number, list, out)
+    })?;
+    list.rest.check()?;
     out.flush()
 }

@@ -1,7 +1,7 @@
 // Converts the convoys of a stored list, its standard input, and prints a line of what came of each. vectors/README.md has both forms.
 #![tactic(auto)]
 
-use replay::{List, Planes};
+use replay::{ByteSource, List, Planes};
 use std::alloc::AllocError;
 use std::io;
 use std::io::Write;
@@ -25,7 +25,7 @@ struct Convoy {
     parts: Vec<u64>,
 }
 
-fn read_convoy(list: &mut List<'_>) -> Result<Convoy, AllocError> {
+fn read_convoy<S: ByteSource>(list: &mut List<S>) -> Result<Convoy, AllocError> {
     let count = list.wide() as usize;
     let numbers_room = list.room(NUMBERS);
     let customs_room = list.room(CUSTOMS);
@@ -66,7 +66,7 @@ fn convert<W: Write + Drop>(
     write!(out, " {number} {expected} {received} done={done}")
 }
 
-fn call<W: Write + Drop>(list: &mut List<'_>, out: &mut W) -> io::Result<()> {
+fn call<S: ByteSource, W: Write + Drop>(list: &mut List<S>, out: &mut W) -> io::Result<()> {
     let mut source = list.buffer(ROOM)?;
     let mut planes = list.planes(ROOM)?;
     let convoy = read_convoy(list)?;

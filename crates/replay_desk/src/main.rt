@@ -3,9 +3,9 @@
 
 ghost use Rattle.std.specs.Prelude.{◌<◌, length};
 
-use replay::{Digest, List, Planes};
+use replay::{ByteSource, Digest, List, Planes};
 use std::alloc::{AllocError, Global};
-use std::io::{BufWriter, Read, Write};
+use std::io::{BufWriter, Write};
 use std::{fmt, io};
 
 // What is asked of a desk; what is none of these is an offer. A delivery is no call: a camera writes bytes into the source.
@@ -41,8 +41,8 @@ struct Buffers {
 
 // ---- the desk before the first call: how many of a list's numbers are not 0, and of each its place and what stands there
 
-fn place<'a, T: Copy, F: FnMut(&mut List<'a>) -> T>(
-    list: &mut List<'a>,
+fn place<S: ByteSource, T: Copy, F: FnMut(&mut List<S>) -> T>(
+    list: &mut List<S>,
     places: &mut [T],
     mut next: F,
 )
@@ -56,7 +56,7 @@ fn place<'a, T: Copy, F: FnMut(&mut List<'a>) -> T>(
     }
 }
 
-fn read_desk(list: &mut List<'_>) -> Desk {
+fn read_desk<S: ByteSource>(list: &mut List<S>) -> Desk {
     let mut desk = Desk {
         numbers: [0; 609],
         customs: [0.0; 64],
@@ -68,7 +68,7 @@ fn read_desk(list: &mut List<'_>) -> Desk {
     desk
 }
 
-fn read_buffers(list: &mut List<'_>) -> Result<Buffers, AllocError> {
+fn read_buffers<S: ByteSource>(list: &mut List<S>) -> Result<Buffers, AllocError> {
     let mut source = vec![in list.alloc; 0u8; SOURCE]?;
     let mut planes = Planes::new(list.alloc, ROOM)?;
     let mut carried = vec![in list.alloc; 0u8; ROOM]?;
@@ -118,7 +118,7 @@ impl fmt::Display for Buffers {
 
 // ---- the calls
 
-fn open<W: Write + Drop>(list: &mut List<'_>, desk: &mut Desk, out: &mut W) -> io::Result<()> {
+fn open<S: ByteSource, W: Write + Drop>(list: &mut List<S>, desk: &mut Desk, out: &mut W) -> io::Result<()> {
     // Arrays of these lengths, as the calls take them; each is filled whole, and so is an offer's.
     let mut custom = [0f32; 2];
     let mut frame_parts = [0u64; 8];
@@ -146,7 +146,7 @@ fn open<W: Write + Drop>(list: &mut List<'_>, desk: &mut Desk, out: &mut W) -> i
     write!(out, "{number} {expected} {received}")
 }
 
-fn offer<W: Write + Drop>(list: &mut List<'_>, desk: &mut Desk, out: &mut W) -> io::Result<()> {
+fn offer<S: ByteSource, W: Write + Drop>(list: &mut List<S>, desk: &mut Desk, out: &mut W) -> io::Result<()> {
     let mut band = [0u32; 2];
     let mut part = [0u64; 3];
     let camera = list.number();
@@ -164,8 +164,8 @@ fn offer<W: Write + Drop>(list: &mut List<'_>, desk: &mut Desk, out: &mut W) -> 
 }
 
 // On as much of each buffer as is lent. Answers the number of the refusal.
-fn make_step(
-    list: &mut List<'_>,
+fn make_step<S: ByteSource>(
+    list: &mut List<S>,
     desk: &mut Desk,
     buffers: &mut Buffers,
     told: &mut [usize; 4],
@@ -188,8 +188,8 @@ fn make_step(
     )
 }
 
-fn step<W: Write + Drop>(
-    list: &mut List<'_>,
+fn step<S: ByteSource, W: Write + Drop>(
+    list: &mut List<S>,
     desk: &mut Desk,
     buffers: &mut Buffers,
     out: &mut W,
@@ -204,7 +204,7 @@ fn step<W: Write + Drop>(
 }
 
 // Bytes of a length for the start of a part.
-fn deliver(list: &mut List<'_>, source: &mut [u8]) {
+fn deliver<S: ByteSource>(list: &mut List<S>, source: &mut [u8]) {
     let offset = list.room(source.len());
     let part = &mut source[offset..];
     let length = list.room(part.len());
@@ -212,10 +212,10 @@ fn deliver(list: &mut List<'_>, source: &mut [u8]) {
 }
 
 // Makes a call and prints its line: the numbers of the history and of the call, what the call prints, and the digest of the desk.
-fn call<W: Write + Drop, F: FnOnce(&mut List<'_>, &mut Desk, &mut W) -> io::Result<()>>(
+fn call<S: ByteSource, W: Write + Drop, F: FnOnce(&mut List<S>, &mut Desk, &mut W) -> io::Result<()>>(
     history: u32,
     place: u32,
-    list: &mut List<'_>,
+    list: &mut List<S>,
     desk: &mut Desk,
     out: &mut W,
     make: F,
@@ -231,7 +231,7 @@ fn call<W: Write + Drop, F: FnOnce(&mut List<'_>, &mut Desk, &mut W) -> io::Resu
 
 // The buffers, the desk, and what is asked, all of it on these. The stored list says what is asked by a number: here the number becomes the call. An enum of
 // the calls, made of it first, would be no plainer.
-fn history<W: Write + Drop>(history: u32, list: &mut List<'_>, out: &mut W) -> io::Result<()> {
+fn history<S: ByteSource, W: Write + Drop>(history: u32, list: &mut List<S>, out: &mut W) -> io::Result<()> {
     let mut buffers = read_buffers(list)?;
     let mut desk = read_desk(list);
     replay::each(list, out, |place, list, out| match list.number() {
@@ -256,17 +256,12 @@ fn history<W: Write + Drop>(history: u32, list: &mut List<'_>, out: &mut W) -> i
 // cover: a closure that moves its call into `replay::replay`, `replay::each` handed on as it is, and a closure's parameter of a function's type.
 fn main(rt: HostRuntime) -> io::Result<()> {
     let alloc = rt.alloc();
-    let mut bytes = Vec::new(alloc);
-    rt.reader().read_to_end(&mut bytes)?;
-    let mut list = List {
-        rest: &bytes,
-        alloc,
-    };
+    let mut list = replay::list_of(alloc, rt.reader())?;
     let mut out = BufWriter::new(alloc, io::writer(&rt))?;
-    replay::each(
-        &mut list,
-        &mut out,
-        |number, list, out| history(number, list, out),
-    )?;
+    replay::each(&mut list, &mut out, |number, list, out| {
+        list.rest.check()?;
+        history(number, list, out)
+    })?;
+    list.rest.check()?;
     out.flush()
 }

@@ -1,14 +1,14 @@
 // Makes the frame calls of a stored list, its standard input, and prints a line of what came of each. vectors/README.md has both forms.
 #![tactic(auto)]
 
-use replay::{Answer, List};
+use replay::{Answer, ByteSource, List};
 use std::io;
 use std::io::Write;
 
 // The most bytes of a buffer.
 const ROOM: usize = 65536;
 
-fn call<W: Write + Drop>(list: &mut List<'_>, out: &mut W) -> io::Result<()> {
+fn call<S: ByteSource, W: Write + Drop>(list: &mut List<S>, out: &mut W) -> io::Result<()> {
     let mut source = list.buffer(ROOM)?;
     let mut planes = list.planes(ROOM)?;
     let frame = list.frame();

@@ -1,7 +1,7 @@
 // Makes the pairings of a stored list, its standard input, and prints a line of what came of each. vectors/README.md has both forms.
 #![tactic(auto)]
 
-use replay::{Answer, List, Numbers};
+use replay::{Answer, ByteSource, List, Numbers};
 use std::io;
 use std::io::Write;
 use yuv_error::YuvError;
@@ -12,7 +12,7 @@ const ROOM: usize = 65536;
 // What stands in each number of the report before a call.
 const BEFORE: u64 = 9;
 
-fn call<W: Write + Drop>(list: &mut List<'_>, out: &mut W) -> io::Result<()> {
+fn call<S: ByteSource, W: Write + Drop>(list: &mut List<S>, out: &mut W) -> io::Result<()> {
     let mut ours = list.buffer(ROOM)?;
     let mut theirs = list.buffer(ROOM)?;
     list.fill(&mut ours);

@@ -1,7 +1,7 @@
 // Makes the calls on shift files of a stored list, its standard input, and prints a line of what came of each. vectors/README.md has both forms.
 #![tactic(auto)]
 
-use replay::{Answer, Left, List, Numbers};
+use replay::{Answer, ByteSource, Left, List, Numbers};
 use shift_file::{SettingCodes, ShiftForm};
 use shift_reader::{EntryKind, ShiftReading};
 use shift_record::RecordFrame;
@@ -20,7 +20,7 @@ const NUMBERS: usize = 44;
 const BEFORE: u64 = 9;
 
 // Reads the records of a file: those of an entry's kind, of a file in either form where the settings are told too.
-fn read<W: Write + Drop>(kind: EntryKind, list: &mut List<'_>, out: &mut W) -> io::Result<()> {
+fn read<S: ByteSource, W: Write + Drop>(kind: EntryKind, list: &mut List<S>, out: &mut W) -> io::Result<()> {
     let mut file = list.buffer(FILE)?;
     let first = list.wide() as usize;
     let room = list.room(NUMBERS);
@@ -54,8 +54,8 @@ fn left_of(written: Result<usize, NotWritten>, output: &[u8]) -> Left<'_> {
 }
 
 // Makes a call that reads the first of two buffers and writes into the second.
-fn convert<W: Write + Drop, F: FnOnce(&[u8], &mut [u8]) -> Result<usize, NotWritten>>(
-    list: &mut List<'_>,
+fn convert<S: ByteSource, W: Write + Drop, F: FnOnce(&[u8], &mut [u8]) -> Result<usize, NotWritten>>(
+    list: &mut List<S>,
     out: &mut W,
     make: F,
 ) -> io::Result<()>
@@ -70,7 +70,7 @@ fn convert<W: Write + Drop, F: FnOnce(&[u8], &mut [u8]) -> Result<usize, NotWrit
     write!(out, "{left}")
 }
 
-fn write<W: Write + Drop>(form: ShiftForm, list: &mut List<'_>, out: &mut W) -> io::Result<()> {
+fn write<S: ByteSource, W: Write + Drop>(form: ShiftForm, list: &mut List<S>, out: &mut W) -> io::Result<()> {
     convert(
         list,
         out,
@@ -78,7 +78,7 @@ fn write<W: Write + Drop>(form: ShiftForm, list: &mut List<'_>, out: &mut W) -> 
     )
 }
 
-fn move_file<W: Write + Drop>(from: ShiftForm, list: &mut List<'_>, out: &mut W) -> io::Result<()> {
+fn move_file<S: ByteSource, W: Write + Drop>(from: ShiftForm, list: &mut List<S>, out: &mut W) -> io::Result<()> {
     convert(
         list,
         out,
@@ -86,7 +86,7 @@ fn move_file<W: Write + Drop>(from: ShiftForm, list: &mut List<'_>, out: &mut W)
     )
 }
 
-fn read_codes(list: &mut List<'_>) -> SettingCodes {
+fn read_codes<S: ByteSource>(list: &mut List<S>) -> SettingCodes {
     SettingCodes {
         sampling: list.number(),
         range: list.number(),
@@ -96,7 +96,7 @@ fn read_codes(list: &mut List<'_>) -> SettingCodes {
 }
 
 // The frame of a record: its settings stand in the list in the form that has them.
-fn read_frame(list: &mut List<'_>, form: ShiftForm) -> RecordFrame {
+fn read_frame<S: ByteSource>(list: &mut List<S>, form: ShiftForm) -> RecordFrame {
     let crossing = list.number();
     let width = list.number();
     let height = list.number();
@@ -118,9 +118,9 @@ fn read_frame(list: &mut List<'_>, form: ShiftForm) -> RecordFrame {
     }
 }
 
-fn write_record<W: Write + Drop>(
+fn write_record<S: ByteSource, W: Write + Drop>(
     form: ShiftForm,
-    list: &mut List<'_>,
+    list: &mut List<S>,
     out: &mut W,
 ) -> io::Result<()> {
     let mut planes = list.planes(ROOM)?;
@@ -134,7 +134,7 @@ fn write_record<W: Write + Drop>(
 }
 
 // The stored list says which call it is by a number: here the number becomes the call. An enum of the calls, made of it first, would be no plainer.
-fn call<W: Write + Drop>(list: &mut List<'_>, out: &mut W) -> io::Result<()> {
+fn call<S: ByteSource, W: Write + Drop>(list: &mut List<S>, out: &mut W) -> io::Result<()> {
     match list.number() {
         0 => read(EntryKind::Places, list, out),
         1 => write(ShiftForm::WithoutSettings, list, out),

@@ -1,7 +1,7 @@
 // Makes the calls on summaries of a stored list, its standard input, and prints a line of what came of each. vectors/README.md has both forms.
 #![tactic(auto)]
 
-use replay::{Answer, Digest, List};
+use replay::{Answer, ByteSource, Digest, List};
 use std::io::Write;
 use std::{fmt, io};
 
@@ -22,7 +22,7 @@ impl fmt::Display for Found {
 }
 
 // A file and a summary: the list has both lengths, and then the bytes of each.
-fn file_and_summary(list: &mut List<'_>) -> io::Result<(Vec<u8>, Vec<u8>)> {
+fn file_and_summary<S: ByteSource>(list: &mut List<S>) -> io::Result<(Vec<u8>, Vec<u8>)> {
     let mut file = list.buffer(ROOM)?;
     let mut summary = list.buffer(ROOM)?;
     list.fill(&mut file);
@@ -30,7 +30,7 @@ fn file_and_summary(list: &mut List<'_>) -> io::Result<(Vec<u8>, Vec<u8>)> {
     Ok((file, summary))
 }
 
-fn build<W: Write + Drop>(list: &mut List<'_>, out: &mut W) -> io::Result<()> {
+fn build<S: ByteSource, W: Write + Drop>(list: &mut List<S>, out: &mut W) -> io::Result<()> {
     let (file, mut summary) = file_and_summary(list)?;
     let form = shift_file::form_of(&file);
     let answer = Answer(summary_calls::build_summary(form, &file, &mut summary));
@@ -38,7 +38,7 @@ fn build<W: Write + Drop>(list: &mut List<'_>, out: &mut W) -> io::Result<()> {
     write!(out, "{answer} summary={digest}")
 }
 
-fn check<W: Write + Drop>(list: &mut List<'_>, out: &mut W) -> io::Result<()> {
+fn check<S: ByteSource, W: Write + Drop>(list: &mut List<S>, out: &mut W) -> io::Result<()> {
     let (file, summary) = file_and_summary(list)?;
     let form = shift_file::form_of(&file);
     let verdict = summary_calls::check_summary(form, &file, &summary);
@@ -47,7 +47,7 @@ fn check<W: Write + Drop>(list: &mut List<'_>, out: &mut W) -> io::Result<()> {
     write!(out, "{answer} yes={yes}")
 }
 
-fn find<W: Write + Drop>(list: &mut List<'_>, out: &mut W) -> io::Result<()> {
+fn find<S: ByteSource, W: Write + Drop>(list: &mut List<S>, out: &mut W) -> io::Result<()> {
     let mut file = list.buffer(ROOM)?;
     let mut summary = list.buffer(ROOM)?;
     let crossing = list.number();
@@ -60,7 +60,7 @@ fn find<W: Write + Drop>(list: &mut List<'_>, out: &mut W) -> io::Result<()> {
     write!(out, "{answer}{found}")
 }
 
-fn update<W: Write + Drop>(list: &mut List<'_>, out: &mut W) -> io::Result<()> {
+fn update<S: ByteSource, W: Write + Drop>(list: &mut List<S>, out: &mut W) -> io::Result<()> {
     let mut file = list.buffer(ROOM)?;
     let mut added = list.buffer(ROOM)?;
     let mut summary = list.buffer(ROOM)?;
@@ -74,7 +74,7 @@ fn update<W: Write + Drop>(list: &mut List<'_>, out: &mut W) -> io::Result<()> {
 }
 
 // The stored list says which call it is by a number: here the number becomes the call. An enum of the calls, made of it first, would be no plainer.
-fn call<W: Write + Drop>(list: &mut List<'_>, out: &mut W) -> io::Result<()> {
+fn call<S: ByteSource, W: Write + Drop>(list: &mut List<S>, out: &mut W) -> io::Result<()> {
     match list.number() {
         0 => build(list, out),
         1 => check(list, out),

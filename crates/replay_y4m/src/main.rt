@@ -1,7 +1,7 @@
 // Makes the calls on Y4M files of a stored list, its standard input, and prints a line of what came of each. vectors/README.md has both forms.
 #![tactic(auto)]
 
-use replay::{Answer, Left, List, Numbers};
+use replay::{Answer, ByteSource, Left, List, Numbers};
 use shift_writer::NotWritten;
 use std::io::Write;
 use std::{fmt, io};
@@ -43,7 +43,7 @@ impl fmt::Display for Reading {
     }
 }
 
-fn read<W: Write + Drop>(list: &mut List<'_>, out: &mut W) -> io::Result<()> {
+fn read<S: ByteSource, W: Write + Drop>(list: &mut List<S>, out: &mut W) -> io::Result<()> {
     let mut file = list.buffer(FILE)?;
     let first = list.wide() as usize;
     let room = list.room(NUMBERS);
@@ -63,7 +63,7 @@ fn left_of(written: Result<usize, NotWritten>, output: &[u8]) -> Left<'_> {
     }
 }
 
-fn write<W: Write + Drop>(list: &mut List<'_>, out: &mut W) -> io::Result<()> {
+fn write<S: ByteSource, W: Write + Drop>(list: &mut List<S>, out: &mut W) -> io::Result<()> {
     let mut pictures = list.buffer(ROOM)?;
     let mut output = list.buffer(ROOM)?;
     let width = list.number() as usize;
@@ -76,7 +76,7 @@ fn write<W: Write + Drop>(list: &mut List<'_>, out: &mut W) -> io::Result<()> {
     write!(out, "{left}")
 }
 
-fn read_frame(list: &mut List<'_>) -> PictureFrame {
+fn read_frame<S: ByteSource>(list: &mut List<S>) -> PictureFrame {
     PictureFrame {
         width: list.number(),
         height: list.number(),
@@ -87,7 +87,7 @@ fn read_frame(list: &mut List<'_>) -> PictureFrame {
     }
 }
 
-fn write_picture<W: Write + Drop>(list: &mut List<'_>, out: &mut W) -> io::Result<()> {
+fn write_picture<S: ByteSource, W: Write + Drop>(list: &mut List<S>, out: &mut W) -> io::Result<()> {
     let mut planes = list.planes(ROOM)?;
     let mut output = list.buffer(ROOM)?;
     let frame = read_frame(list);
@@ -99,7 +99,7 @@ fn write_picture<W: Write + Drop>(list: &mut List<'_>, out: &mut W) -> io::Resul
 }
 
 // The stored list says which call it is by a number: here the number becomes the call. An enum of the calls, made of it first, would be no plainer.
-fn call<W: Write + Drop>(list: &mut List<'_>, out: &mut W) -> io::Result<()> {
+fn call<S: ByteSource, W: Write + Drop>(list: &mut List<S>, out: &mut W) -> io::Result<()> {
     match list.number() {
         0 => read(list, out),
         1 => write(list, out),

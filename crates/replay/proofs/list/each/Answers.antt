@@ -16,7 +16,7 @@ loop-place-preserved g c = (
 pub returns-clause-all : goal.returns-clause-all
 returns-clause-all g c =
     let all : c.loop-place.place ≡ c.number-count.result = omega arith in
-    (c.number-count.new.self, c.loop-place.call, c.number-count.ensures.1, rw (← c.number-count.ensures.0, ← all) c.loop-place.invariant.1)
+    (c.number-count.new.self, c.loop-place.call, c.number-count.result, c.number-count.ensures, rw (← all) c.loop-place.invariant.1)
 
 pub returns-in_err-call-clause-stop : goal.returns-in_err-call-clause-stop
 returns-in_err-call-clause-stop g c =
@@ -25,10 +25,11 @@ returns-in_err-call-clause-stop g c =
     rw same (
       c.number-count.new.self,
       c.call.new.self,
-      c.number-count.ensures.1,
+      c.number-count.result,
+      c.number-count.ensures,
       record {
         done = c.loop-place.place;
-        within = rw (← c.number-count.ensures.0) within;
+        within = within;
         stop = (c.loop-place.call, c.loop-place.list, c.loop-place.out);
         made = c.loop-place.invariant.1;
         failed = ends_at g.F.FnMut c.call.ensures c.in_err-call.was;

@@ -7,11 +7,13 @@ use Rattle.replay.proofs.Ranges.{from_one}
 use Rattle.replay.proofs.list.replay.Goals as goal
 
 pub loop-place-preserved : goal.loop-place-preserved
-loop-place-preserved g c = (
-  search of_calls,
-  rw (from_one c.loop-place.place) (FoldsTo-push (Prints g.F.FnMut g.W.Write.contents) _ _ _ (c.loop-place.place + 1) _ c.loop-place.invariant.1
-      (prints g.F.FnMut g.W.Write.contents c.in_ok-write.ensures.bytes c.call.ensures c.in_ok-call.was c.in_ok-write_all.ensures.bytes)),
-)
+loop-place-preserved g c =
+    let checked = c.in_ok-check-2.ensures in (
+      search of_calls,
+      rw (checked.kept, from_one c.loop-place.place) (FoldsTo-push (Prints g.F.FnMut g.W.Write.contents) _ _ _ (c.loop-place.place + 1) _ c.loop-place.invariant.1
+          (prints g.F.FnMut g.W.Write.contents c.in_ok-write.ensures.bytes c.call.ensures c.in_ok-call.was c.in_ok-write_all.ensures.bytes)),
+      checked.whole,
+    )
 
 on_ok : {E P : Type 0} (r : Result Unit E) → P → OnOk r P
 on_ok (Ok done) p = p
@@ -19,6 +21,16 @@ on_ok (Err e) p = tt
 
 pub returns : goal.returns
 returns g c =
+    let checked = c.in_ok-check.ensures in
     let all : c.loop-place.place ≡ c.number-count.result = omega arith in
-    on_ok c.flush.result
-    (c.number-count.new.self, c.loop-place.call, c.loop-place.out, c.number-count.ensures.1, rw (← c.number-count.ensures.0, ← all) c.loop-place.invariant.1, c.flush.ensures.bytes)
+    on_ok c.flush.result (
+      record { rest = c.check.new.self; alloc = c.number-count.new.self.alloc },
+      c.loop-place.call,
+      c.loop-place.out,
+      c.number-count.result,
+      rw checked.kept c.number-count.ensures,
+      checked.whole,
+      rw (← all) c.loop-place.invariant.1,
+      c.loop-place.invariant.2,
+      c.flush.ensures.bytes,
+    )
