@@ -1,5 +1,5 @@
 -- What reads did to what is known of the bytes that are left.
-use Rattle.std.proofs.Common.{◌≡◌, ℕ, zero, suc, ◌+◌, ◌-◌, ◌<◌, ◌≤◌, List, [], ◌∷◌, ◌++◌, length, take, drop, replicate, refl, sym, ap, ◌∙◌, subst, arith, None, Some, OnSome, Bool, true, false, Option, inl, inr, take_all, length-take-le, length-append, length-drop, append-nil, take-append-drop}
+use Rattle.std.proofs.Common.{◌≡◌, ℕ, ◌+◌, ◌-◌, ◌<◌, ◌≤◌, List, [], ◌∷◌, ◌++◌, length, take, drop, replicate, refl, sym, ap, ◌∙◌, subst, arith, None, Some, OnSome, Bool, true, false, Option, inl, inr, take_all, length-take-le, length-append, length-drop, append-nil, take-append-drop}
 use Rattle.std.proofs.lemmas.Bool.{cases_order}
 use Rattle.std.proofs.lemmas.List.{drop_all, take_at, drop_at, drop-drop, take-replicate, drop-replicate, length-replicate}
 use lib.Seq.{drop-append-le, take-append-le, take-append-add}
@@ -8,7 +8,7 @@ use Rattle.std.proofs.KnownBytes.{Consumes-trans}
 use Rattle.std.specs.List.{FoldsTo}
 use Rattle.std.specs.Io.KnownBytes.{Consumes, IsAtEnd}
 use Rattle.replay.specs.Stored.{read_over, next_bytes}
-use Rattle.replay.specs.Sources.{Rest, lost, unknown, bytes, Reads, IsWhole, told, rest_of}
+use Rattle.replay.specs.Sources.{Rest, lost, unknown, bytes, Reads, told, rest_of}
 
 -- what follows of the bytes follows of a read
 pub reads : (a b : Rest) (P Q : List ℕ → List ℕ → Type 0) → Reads a b P → ((xs ys : List ℕ) → P xs ys → Q xs ys) → Reads a b Q
@@ -81,7 +81,7 @@ read_is_over n xs ys old new long within is tail end =
         let many : length xs ≡ n = ap length is_part ∙ long_part in
         let dropped : drop (length xs) old ≡ drop n new = ap (λ k. drop k old) many ∙ sym tail in (
           sym ((λ i. take (length old) (is_part i) ++ dropped i)
-          ∙ ap (λ l. l ++ drop n new) (take_all (length old) (take n new) (omega (arith, long_part, long, within))) ∙ take-append-drop n new),
+              ∙ ap (λ l. l ++ drop n new) (take_all (length old) (take n new) (omega (arith, long_part, long, within))) ∙ take-append-drop n new),
           end short ∙ sym (drop_all (length old) xs (omega (arith, many, long, within))),
         )
 
@@ -103,8 +103,8 @@ at_end old = read_is_over 0 [] [] old old refl (omega arith) refl refl (λ _. re
 -- the next bytes over zeros
 pub over_zeros : (n : ℕ) (xs : List ℕ) → read_over xs (replicate n 0) ≡ next_bytes n xs
 over_zeros n xs =
-    let long : length (replicate n 0) ≡ n = length-replicate n 0 in
-    let dropped : drop (length xs) (replicate n 0) ≡ replicate (n - length xs) 0 = drop-replicate (length xs) n 0 in
+    let long : length (replicate {A = ℕ} n 0) ≡ n = length-replicate n 0 in
+    let dropped : drop (length xs) (replicate {A = ℕ} n 0) ≡ replicate (n - length xs) 0 = drop-replicate (length xs) n 0 in
     (λ i. take (long i) xs ++ dropped i)
     ∙ elim (cases_order n (length xs)) [
       | inl same ↦ enough (omega (arith, same))

@@ -5,6 +5,7 @@
 mod list;
 mod printed;
 mod reading;
+mod slices;
 
 pub use list::{List, each, list_of, over_streams, repeat, replay};
 pub use printed::{Answer, Digest, Left, Numbers, Planes, crc32};

@@ -1,5 +1,5 @@
 -- `read_part` meets its contract: a reader that shows nothing is at its end.
-use Rattle.std.proofs.Common.{rules, arith, subst, ◌≤◌, length}
+use Rattle.std.proofs.Common.{arith, subst, ◌≤◌, length}
 use Rattle.std.specs.Io.BufRead.{FillKeeps}
 use Rattle.std.proofs.BufReadLemmas.{Consumes_shown}
 use Rattle.replay.proofs.reading.read_part.Goals as goal

@@ -1,6 +1,5 @@
 -- `read_whole` meets its contract: a part follows on what was read so far, and a read that a signal interrupted gives no byte.
-use Rattle.std.proofs.Common.{◌≡◌, ◌+◌, ◌-◌, ◌≤◌, length, take, drop, [], refl, subst, sym, ap, ◌∙◌, arith, rules}
-use Rattle.std.specs.Io.KnownBytes.{Consumes}
+use Rattle.std.proofs.Common.{◌≡◌, ◌+◌, ◌-◌, length, [], arith, rules}
 use Rattle.std.proofs.KnownBytes.{Consumes-nil, Consumes-kept}
 use borrow.Rule.Slice.PartMut.{put_mid}
 use Rattle.replay.proofs.Sources.{part_more}

@@ -1,5 +1,5 @@
 -- `array` meets its contract: what was read over zeros are the next bytes, and zeros past the end.
-use Rattle.std.proofs.Common.{◌≡◌, ◌∙◌, drop, ℕ, List, rules}
+use Rattle.std.proofs.Common.{◌≡◌, ◌∙◌, drop, rules}
 use Rattle.replay.specs.Stored.{next_bytes}
 use Rattle.replay.proofs.Sources.{reads, over_zeros}
 use Rattle.replay.proofs.list.List.array.Goals as goal

@@ -1,5 +1,5 @@
 -- `buffer` meets its contract: as many zeros as the number that was read.
-use Rattle.std.proofs.Common.{◌≡◌, drop, ℕ, List}
+use Rattle.std.proofs.Common.{◌≡◌, drop}
 use Rattle.replay.proofs.Sources.{reads}
 use Rattle.replay.proofs.list.List.buffer.Goals as goal
 

@@ -1,7 +1,7 @@
 -- `fill` meets its contract: the block's length was read, then its bytes, and they are repeated.
-use Rattle.std.proofs.Common.{◌≡◌, ◌∙◌, ◌++◌, ap, take, drop, length, rules, arith, length-take-le}
+use Rattle.std.proofs.Common.{◌≡◌, ◌∙◌, ◌++◌, ap, take, drop, length, rules, length-take-le}
 use Rattle.std.proofs.lemmas.List.{take_at, nil_from_length}
-use Rattle.replay.specs.Stored.{next_room, read_over, Repeats, IsFilled}
+use Rattle.replay.specs.Stored.{next_room, read_over, IsFilled}
 use Rattle.replay.proofs.Sources.{reads_on}
 use Rattle.replay.proofs.list.List.fill.Goals as goal
 

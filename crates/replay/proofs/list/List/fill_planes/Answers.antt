@@ -11,7 +11,7 @@ filled : (old a b new : Rest) (y u v y' u' v' p q r : List ℕ) → p ≡ y → 
 filled old a b new y u v y' u' v' p q r i j k l m n =
     reads_on old b new (λ s t. (o : List ℕ) × IsFilled s o y y' × IsFilled o t u u') (λ s t. IsFilled s t v v') (λ s t. AreFilled s t (y, u, v) (y', u', v'))
     (reads_on old a b (λ s t. IsFilled s t y y') (λ s t. IsFilled s t u u') (λ s t. (o : List ℕ) × IsFilled s o y y' × IsFilled o t u u')
-      (subst (λ w. Reads old a (λ s t. IsFilled s t w y')) i l) (subst (λ w. Reads a b (λ s t. IsFilled s t w u')) j m) (λ xs ys zs f g. (ys, f, g)))
+    (subst (λ w. Reads old a (λ s t. IsFilled s t w y')) i l) (subst (λ w. Reads a b (λ s t. IsFilled s t w u')) j m) (λ xs ys zs f g. (ys, f, g)))
     (subst (λ w. Reads b new (λ s t. IsFilled s t w v')) k n)
     (λ xs ys zs f g. record { behind_y = f.0; behind_u = ys; y_filled = f.1; u_filled = f.2; v_filled = g })
 

@@ -36,7 +36,7 @@ rows a b c d front custom rest frame m n k p q r e =
     let Floats = FoldsTo (λ old x new. IsFloat old new x) in
     reads_on a c d (λ old new. (mid : List ℕ) × Numbers old front mid × Floats mid custom new) (λ old new. Numbers old rest new) (λ old new. IsFrame old new frame)
     (reads_on a b c (λ old new. Numbers old front new) (λ old new. Floats old custom new) (λ old new. (mid : List ℕ) × Numbers old front mid × Floats mid custom new)
-      (reads_all (λ old n new. IsNumber old new n) a front b p) (reads_all (λ old x new. IsFloat old new x) b custom c q) (λ xs ys zs i j. (ys, i, j)))
+    (reads_all (λ old n new. IsNumber old new n) a front b p) (reads_all (λ old x new. IsFloat old new x) b custom c q) (λ xs ys zs i j. (ys, i, j)))
     (reads_all (λ old n new. IsNumber old new n) c rest d r)
     (λ xs ys zs i j. read xs i.0 ys zs front custom rest frame m n k i.1 i.2 j e)
 

@@ -16,7 +16,7 @@ rooms : (most y u v : ℕ) (a b c d : Rest) → Reads a b (λ old new. (y ≡ ne
 rooms most y u v a b c d p q r =
     reads_on a c d (λ old new. (y ≡ next_room most old) × (u ≡ next_room most (drop 4 old)) × (new ≡ drop 8 old)) _ (AreRooms most y u v)
     (reads_on a b c _ _ (λ old new. (y ≡ next_room most old) × (u ≡ next_room most (drop 4 old)) × (new ≡ drop 8 old)) p q
-      (λ xs ys zs m n. (m.0, n.0 ∙ ap (next_room most) m.1, n.1 ∙ ap (drop 4) m.1 ∙ drop-drop 4 4 xs)))
+    (λ xs ys zs m n. (m.0, n.0 ∙ ap (next_room most) m.1, n.1 ∙ ap (drop 4) m.1 ∙ drop-drop 4 4 xs)))
     r
     (λ xs ys zs m n. (m.0, m.1, n.0 ∙ ap (next_room most) m.2, n.1 ∙ ap (drop 4) m.2 ∙ drop-drop 4 8 xs))
 
