@@ -6,3 +6,4 @@ pub mod Digits
 pub mod Made
 pub mod Streams
 pub mod Sources
+pub mod OfSlices

@@ -1,5 +1,5 @@
 -- What reads did to what is known of the bytes that are left.
-use Rattle.std.proofs.Common.{◌≡◌, ℕ, ◌+◌, ◌-◌, ◌<◌, ◌≤◌, List, [], ◌∷◌, ◌++◌, length, take, drop, replicate, refl, sym, ap, ◌∙◌, subst, arith, None, Some, OnSome, Bool, true, false, Option, inl, inr, take_all, length-take-le, length-append, length-drop, append-nil, take-append-drop}
+use Rattle.std.proofs.Common.{◌≡◌, ℕ, ◌+◌, ◌-◌, ◌<◌, ◌≤◌, List, [], ◌∷◌, ◌++◌, length, take, drop, replicate, refl, sym, ap, ◌∙◌, subst, arith, None, Some, OnSome, Bool, true, false, ltb, ltb-true, ltb-false, Option, inl, inr, take_all, length-take-le, length-append, length-drop, append-nil, take-append-drop}
 use Rattle.std.proofs.lemmas.Bool.{cases_order}
 use Rattle.std.proofs.lemmas.List.{drop_all, take_at, drop_at, drop-drop, take-replicate, drop-replicate, length-replicate}
 use lib.Seq.{drop-append-le, take-append-le, take-append-add}
@@ -8,51 +8,24 @@ use Rattle.std.proofs.KnownBytes.{Consumes-trans}
 use Rattle.std.specs.List.{FoldsTo}
 use Rattle.std.specs.Io.KnownBytes.{Consumes, IsAtEnd}
 use Rattle.replay.specs.Stored.{read_over, next_bytes}
-use Rattle.replay.specs.Sources.{Rest, lost, unknown, bytes, Reads, told, rest_of}
+use Rattle.replay.specs.Sources.{Reads, IsWhole, told, left_of}
 
 -- what follows of the bytes follows of a read
-pub reads : (a b : Rest) (P Q : List ℕ → List ℕ → Type 0) → Reads a b P → ((xs ys : List ℕ) → P xs ys → Q xs ys) → Reads a b Q
-reads lost lost P Q p f = tt
-reads lost unknown P Q p f = absurd p
-reads lost (bytes ys) P Q p f = absurd p
-reads unknown b P Q p f = tt
-reads (bytes xs) lost P Q p f = tt
-reads (bytes xs) unknown P Q p f = absurd p
-reads (bytes xs) (bytes ys) P Q p f = f xs ys p
+pub reads : (a b : List ℕ → Type 0) (P Q : List ℕ → List ℕ → Type 0) → Reads a b P → ((xs ys : List ℕ) → P xs ys → Q xs ys) → Reads a b Q
+reads a b P Q p f = λ ys m. let r = p ys m in (r.0, r.1, f r.0 ys r.2)
 
 -- two reads, one after the other
-pub reads_on : (a b c : Rest) (P Q R : List ℕ → List ℕ → Type 0) → Reads a b P → Reads b c Q → ((xs ys zs : List ℕ) → P xs ys → Q ys zs → R xs zs)
-    → Reads a c R
-reads_on lost lost lost P Q R p q f = tt
-reads_on lost lost unknown P Q R p q f = absurd q
-reads_on lost lost (bytes zs) P Q R p q f = absurd q
-reads_on lost unknown c P Q R p q f = absurd p
-reads_on lost (bytes ys) c P Q R p q f = absurd p
-reads_on unknown b c P Q R p q f = tt
-reads_on (bytes xs) lost lost P Q R p q f = tt
-reads_on (bytes xs) lost unknown P Q R p q f = absurd q
-reads_on (bytes xs) lost (bytes zs) P Q R p q f = absurd q
-reads_on (bytes xs) unknown c P Q R p q f = absurd p
-reads_on (bytes xs) (bytes ys) lost P Q R p q f = tt
-reads_on (bytes xs) (bytes ys) unknown P Q R p q f = absurd q
-reads_on (bytes xs) (bytes ys) (bytes zs) P Q R p q f = f xs ys zs p q
-
--- none
-pub reads_none : (a b : Rest) → a ≡ b → Reads a b (λ xs ys. xs ≡ ys)
-reads_none a b e = subst (λ r. Reads a r (λ xs ys. xs ≡ ys)) e (itself a)
-  where
-    itself : (r : Rest) → Reads r r (λ xs ys. xs ≡ ys)
-    itself lost = tt
-    itself unknown = tt
-    itself (bytes xs) = refl
+pub reads_on : (a b c : List ℕ → Type 0) (P Q R : List ℕ → List ℕ → Type 0) → Reads a b P → Reads b c Q
+    → ((xs ys zs : List ℕ) → P xs ys → Q ys zs → R xs zs) → Reads a c R
+reads_on a b c P Q R p q f = λ zs m. let s = q zs m in let r = p s.0 s.1 in (r.0, r.1, f r.0 s.0 zs r.2 s.2)
 
 -- many, one after the other
-pub reads_all : {A : Type 0} (R : List ℕ → A → List ℕ → Type 0) (a : Rest) (xs : List A) (b : Rest) → FoldsTo (λ p x q. Reads p q (λ old new. R old x new)) a xs b
-    → Reads a b (λ old new. FoldsTo R old xs new)
-reads_all R a [] b e = reads_none a b e
-reads_all R a (x ∷ xs) b (j, r, rest) =
-    reads_on a j b (λ old new. R old x new) (λ old new. FoldsTo R old xs new) (λ old new. FoldsTo R old (x ∷ xs) new) r (reads_all R j xs b rest)
-    (λ old mid new p q. (mid, p, q))
+pub reads_all : {L A : Type 0} (left : L → List ℕ → Type 0) (R : List ℕ → A → List ℕ → Type 0) (a : L) (xs : List A) (b : L)
+    → FoldsTo (λ p x q. Reads (left p) (left q) (λ old new. R old x new)) a xs b → Reads (left a) (left b) (λ old new. FoldsTo R old xs new)
+reads_all left R a [] b e = λ ys m. (ys, subst (λ l. left l ys) (sym e) m, refl)
+reads_all left R a (x ∷ xs) b (j, r, rest) =
+    reads_on (left a) (left j) (left b) (λ old new. R old x new) (λ old new. FoldsTo R old xs new) (λ old new. FoldsTo R old (x ∷ xs) new) r
+    (reads_all left R j xs b rest) (λ old mid new p q. (mid, p, q))
 
 -- a buffer whose first bytes were read, all of it or up to the end, has the next ones, and behind the end what it had
 pub read_is_over : (n : ℕ) (xs ys old new : List ℕ) → length new ≡ length old → n ≤ length new → xs ≡ take n new ++ ys → drop n new ≡ drop n old
@@ -85,20 +58,40 @@ read_is_over n xs ys old new long within is tail end =
           end short ∙ sym (drop_all (length old) xs (omega (arith, many, long, within))),
         )
 
--- the same of a reader, which is at its end where it gave less than there was room for
-pub read_on : (E : Type 0) (before after : Option (List ℕ)) (n : ℕ) (old new : List ℕ) (ended : Bool) → length new ≡ length old → n ≤ length new
-    → Consumes before after (take n new) → drop n new ≡ drop n old → (n < length new → OnSome before (IsAtEnd after)) → (ended ≡ true → n < length new)
-    → Reads (told before) (rest_of {E = E} None ended after) (λ xs ys. (new ≡ read_over xs old) × (ys ≡ drop (length old) xs))
-read_on E None after n old new ended long within taken tail end short = tt
-read_on E (Some xs) None n old new ended long within taken tail end short = absurd taken
-read_on E (Some xs) (Some ys) n old new false long within taken tail end short = read_is_over n xs ys old new long within taken tail end
-read_on E (Some xs) (Some ys) n old new true long within taken tail end short =
-    let read = read_is_over n xs ys old new long within taken tail end in
-    (read.0, sym (end (short refl)) ∙ read.1)
+-- what a reader gave stands before what it may have left
+taken_first : (before after : Option (List ℕ)) (front ys : List ℕ) → Consumes before after front → told after ys → told before (front ++ ys)
+taken_first None after front ys p h = tt
+taken_first (Some x) None front ys p h = absurd p
+taken_first (Some x) (Some y) front ys p h = ap (λ l. front ++ l) h ∙ sym p
 
--- at its end a reader gives nothing
-pub at_end : (old : List ℕ) → (old ≡ read_over [] old) × (◌≡◌ {A = List ℕ} [] (drop (length old) []))
-at_end old = read_is_over 0 [] [] old old refl (omega arith) refl refl (λ _. refl)
+-- and is all where the reader is at its end
+taken_last : (before after : Option (List ℕ)) (front ys : List ℕ) → Consumes before after front → OnSome before (IsAtEnd after) → ys ≡ [] → told before (front ++ ys)
+taken_last None after front ys p end h = tt
+taken_last (Some x) None front ys p end h = absurd p
+taken_last (Some x) (Some y) front ys p end h = ap (λ l. front ++ l) (h ∙ sym end) ∙ sym p
+
+-- a buffer that was read from a reader, which is at its end where it gave less than there was room for
+pub read_on : (E : Type 0) (before after : Option (List ℕ)) (n : ℕ) (old new : List ℕ) (ended : Bool) → length new ≡ length old → n ≤ length new
+    → Consumes before after (take n new) → drop n new ≡ drop n old → (n < length new → OnSome before (IsAtEnd after)) → ended ≡ ltb n (length new)
+    → Reads (told before) (left_of {E = E} None ended after) (λ xs ys. (new ≡ read_over xs old) × (ys ≡ drop (length old) xs))
+read_on E before after n old new true long within taken tail end is = λ ys none.
+    let short = ltb-true n (length new) (sym is) in
+    (take n new ++ ys, taken_last before after (take n new) ys taken (end short) none, read_is_over n (take n new ++ ys) ys old new long within refl tail (λ _. none))
+read_on E before after n old new false long within taken tail end is = λ ys m.
+    let full = ltb-false n (length new) (sym is) in (
+      take n new ++ ys,
+      taken_first before after (take n new) ys taken m,
+      read_is_over n (take n new ++ ys) ys old new long within refl tail (λ short. absurd (omega (arith, short, full))),
+    )
+
+-- a reader of which no read failed has something that may be left
+pub is_whole : {E : Type 0} (failure : Option E) (ended : Bool) (remaining : Option (List ℕ)) → failure ≡ None → IsWhole (left_of failure ended remaining)
+is_whole {E} failure ended remaining none = subst (λ f. IsWhole (left_of f ended remaining)) (sym none) (by ended remaining)
+  where
+    by : (b : Bool) (known : Option (List ℕ)) → IsWhole (left_of {E = E} None b known)
+    by true known = ([], refl)
+    by false None = ([], tt)
+    by false (Some xs) = (xs, refl)
 
 -- the next bytes over zeros
 pub over_zeros : (n : ℕ) (xs : List ℕ) → read_over xs (replicate n 0) ≡ next_bytes n xs

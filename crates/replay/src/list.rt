@@ -2,7 +2,7 @@
 ghost use Rattle.std.specs.Prelude.{◌≡◌, ℕ, ◌≤◌, length, take, drop, min, replicate, IfOk, IfErr, OnOk};
 ghost use Rattle.std.specs.List.{FoldsTo, range_with_len};
 ghost use Rattle.replay.specs.Stored.{next_bytes, next_room, IsNumber, IsWide, IsFilled, Repeats, float_of, IsFloat, IsFrame, AreFilled};
-ghost use Rattle.replay.specs.Sources.{Reads, IsWhole, told};
+ghost use Rattle.replay.specs.Sources.{Reads, IsWhole, SameLeft, told};
 ghost use Rattle.replay.specs.Streams.{streamed_left};
 ghost use Rattle.std.specs.Io.KnownBytes.{Keeps};
 ghost use Rattle.std.specs.Io.Buffered.{reader_remaining, writer_contents};
@@ -14,8 +14,8 @@ use std::alloc::{AllocError, Global};
 use std::io;
 use std::io::{BufReader, BufWriter, Read, Write};
 
-// What is left to read of a list. Past its end each number is 0, and after a read that failed nothing is known of a number: so reading it answers no error,
-// which its source keeps.
+// What is left to read of a list. Past its end each number is 0. Reading answers no error: what the bytes come from keeps that of a read that failed, after
+// which nothing is said of what is read.
 #[derive(Drop)]
 pub struct List<S> {
     pub rest: S,
@@ -169,7 +169,8 @@ impl<S: ByteSource> List<S> {
 
 // The list that a reader holds, which is read through a buffer.
 pub fn list_of<I: Read + Drop>(alloc: Global, input: I) -> io::Result<List<Streamed<BufReader<I>>>>
-    ensures { IfOk result (λ list. streamed_left (reader_remaining I.remaining) list.rest ≡ told (I.remaining input)) }
+    ensures { IfOk result (λ list.
+        SameLeft (streamed_left (reader_remaining I.remaining) list.rest) (told (I.remaining input))) }
 {
     let reader = BufReader::new(alloc, input)?;
     let rest = Streamed {
@@ -241,7 +242,7 @@ pub fn over_streams<
         (opened : List (Streamed (BufReader I Global))) × (first : List (Streamed (BufReader I Global)))
         × (ended : List (Streamed (BufReader I Global))) × (last : F)
         × (begun : BufWriter O Global) × (written : BufWriter O Global) × (count : ℕ)
-        × (left opened.rest ≡ told (I.remaining input))
+        × SameLeft (left opened.rest) (told (I.remaining input))
         × Reads (left opened.rest) (left first.rest) (λ old new. IsNumber old new count)
         × IsWhole (left first.rest)
         × (writer_contents O.contents begun ≡ O.contents output)

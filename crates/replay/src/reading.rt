@@ -1,15 +1,15 @@
 // What the bytes of a list come from: a slice, which is at hand, or a reader, of which a buffer is held at a time.
-ghost use Rattle.std.specs.Prelude.{◌≡◌, ℕ, ◌≤◌, ◌<◌, length, take, drop, Some, OnSome, IfOk, OnOk, OnErr};
+ghost use Rattle.std.specs.Prelude.{◌≡◌, ℕ, List, ◌≤◌, ◌<◌, length, take, drop, Some, OnSome, IfOk, OnOk, OnErr};
 ghost use Rattle.std.specs.Io.KnownBytes.{Consumes, Keeps, IsAtEnd};
 ghost use Rattle.replay.specs.Stored.{read_over};
-ghost use Rattle.replay.specs.Sources.{Rest, bytes, Reads, IsWhole, told, rest_of};
+ghost use Rattle.replay.specs.Sources.{Reads, IsWhole, left_of};
 
 use std::io;
 use std::io::{BufRead, ErrorKind};
 
 pub trait ByteSource {
-    // What is known of the bytes that are left.
-    ghost left: { Self → Rest };
+    // Whether these bytes may be what is left: for a slice its own alone, for a reader of unknown bytes any, and none after a read that failed.
+    ghost left: { Self → List ℕ → Type 0 };
 
     // Fills a buffer with the next bytes. Past their end it stays as it was.
     fn bytes(&mut self, buffer: &mut [u8])
@@ -23,7 +23,7 @@ pub trait ByteSource {
 }
 
 impl ByteSource for &[u8] {
-    ghost left = { λ s. bytes s.now };
+    ghost left = { λ s xs. xs ≡ s.now };
 
     fn bytes(&mut self, buffer: &mut [u8]) {
         let all: &[u8] = *self;
@@ -47,7 +47,7 @@ pub struct Streamed<B> {
 }
 
 impl<B: BufRead> ByteSource for Streamed<B> {
-    ghost left = { λ s. rest_of s.failure s.ended (B.remaining s.reader) };
+    ghost left = { λ s. left_of s.failure s.ended (B.remaining s.reader) };
 
     fn bytes(&mut self, buffer: &mut [u8]) {
         if self.ended || self.failure.is_some() {

@@ -69,7 +69,11 @@ fn call<S: ByteSource, W: Write + Drop>(
 }
 
 // The opening, and the calls after it, all on the same buffers.
-fn sequence<S: ByteSource, W: Write + Drop>(sequence: u32, list: &mut List<S>, out: &mut W) -> io::Result<()> {
+fn sequence<S: ByteSource, W: Write + Drop>(
+    sequence: u32,
+    list: &mut List<S>,
+    out: &mut W,
+) -> io::Result<()> {
     let opened = Answered(FrameState::open(list.frame()));
     writeln!(out, "{sequence}{opened}")?;
     let mut planes = Planes::new(list.alloc, ROOM)?;

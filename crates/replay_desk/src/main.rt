@@ -118,7 +118,11 @@ impl fmt::Display for Buffers {
 
 // ---- the calls
 
-fn open<S: ByteSource, W: Write + Drop>(list: &mut List<S>, desk: &mut Desk, out: &mut W) -> io::Result<()> {
+fn open<S: ByteSource, W: Write + Drop>(
+    list: &mut List<S>,
+    desk: &mut Desk,
+    out: &mut W,
+) -> io::Result<()> {
     // Arrays of these lengths, as the calls take them; each is filled whole, and so is an offer's.
     let mut custom = [0f32; 2];
     let mut frame_parts = [0u64; 8];
@@ -146,7 +150,11 @@ fn open<S: ByteSource, W: Write + Drop>(list: &mut List<S>, desk: &mut Desk, out
     write!(out, "{number} {expected} {received}")
 }
 
-fn offer<S: ByteSource, W: Write + Drop>(list: &mut List<S>, desk: &mut Desk, out: &mut W) -> io::Result<()> {
+fn offer<S: ByteSource, W: Write + Drop>(
+    list: &mut List<S>,
+    desk: &mut Desk,
+    out: &mut W,
+) -> io::Result<()> {
     let mut band = [0u32; 2];
     let mut part = [0u64; 3];
     let camera = list.number();
@@ -212,7 +220,11 @@ fn deliver<S: ByteSource>(list: &mut List<S>, source: &mut [u8]) {
 }
 
 // Makes a call and prints its line: the numbers of the history and of the call, what the call prints, and the digest of the desk.
-fn call<S: ByteSource, W: Write + Drop, F: FnOnce(&mut List<S>, &mut Desk, &mut W) -> io::Result<()>>(
+fn call<
+    S: ByteSource,
+    W: Write + Drop,
+    F: FnOnce(&mut List<S>, &mut Desk, &mut W) -> io::Result<()>,
+>(
     history: u32,
     place: u32,
     list: &mut List<S>,
@@ -231,7 +243,11 @@ fn call<S: ByteSource, W: Write + Drop, F: FnOnce(&mut List<S>, &mut Desk, &mut 
 
 // The buffers, the desk, and what is asked, all of it on these. The stored list says what is asked by a number: here the number becomes the call. An enum of
 // the calls, made of it first, would be no plainer.
-fn history<S: ByteSource, W: Write + Drop>(history: u32, list: &mut List<S>, out: &mut W) -> io::Result<()> {
+fn history<S: ByteSource, W: Write + Drop>(
+    history: u32,
+    list: &mut List<S>,
+    out: &mut W,
+) -> io::Result<()> {
     let mut buffers = read_buffers(list)?;
     let mut desk = read_desk(list);
     replay::each(list, out, |place, list, out| match list.number() {

@@ -20,7 +20,11 @@ const NUMBERS: usize = 44;
 const BEFORE: u64 = 9;
 
 // Reads the records of a file: those of an entry's kind, of a file in either form where the settings are told too.
-fn read<S: ByteSource, W: Write + Drop>(kind: EntryKind, list: &mut List<S>, out: &mut W) -> io::Result<()> {
+fn read<S: ByteSource, W: Write + Drop>(
+    kind: EntryKind,
+    list: &mut List<S>,
+    out: &mut W,
+) -> io::Result<()> {
     let mut file = list.buffer(FILE)?;
     let first = list.wide() as usize;
     let room = list.room(NUMBERS);
@@ -54,11 +58,11 @@ fn left_of(written: Result<usize, NotWritten>, output: &[u8]) -> Left<'_> {
 }
 
 // Makes a call that reads the first of two buffers and writes into the second.
-fn convert<S: ByteSource, W: Write + Drop, F: FnOnce(&[u8], &mut [u8]) -> Result<usize, NotWritten>>(
-    list: &mut List<S>,
-    out: &mut W,
-    make: F,
-) -> io::Result<()>
+fn convert<
+    S: ByteSource,
+    W: Write + Drop,
+    F: FnOnce(&[u8], &mut [u8]) -> Result<usize, NotWritten>,
+>(list: &mut List<S>, out: &mut W, make: F) -> io::Result<()>
     requires { F.IsAlwaysCallable make }
 {
     let mut input = list.buffer(ROOM)?;
@@ -70,7 +74,11 @@ fn convert<S: ByteSource, W: Write + Drop, F: FnOnce(&[u8], &mut [u8]) -> Result
     write!(out, "{left}")
 }
 
-fn write<S: ByteSource, W: Write + Drop>(form: ShiftForm, list: &mut List<S>, out: &mut W) -> io::Result<()> {
+fn write<S: ByteSource, W: Write + Drop>(
+    form: ShiftForm,
+    list: &mut List<S>,
+    out: &mut W,
+) -> io::Result<()> {
     convert(
         list,
         out,
@@ -78,7 +86,11 @@ fn write<S: ByteSource, W: Write + Drop>(form: ShiftForm, list: &mut List<S>, ou
     )
 }
 
-fn move_file<S: ByteSource, W: Write + Drop>(from: ShiftForm, list: &mut List<S>, out: &mut W) -> io::Result<()> {
+fn move_file<S: ByteSource, W: Write + Drop>(
+    from: ShiftForm,
+    list: &mut List<S>,
+    out: &mut W,
+) -> io::Result<()> {
     convert(
         list,
         out,

@@ -87,7 +87,10 @@ fn read_frame<S: ByteSource>(list: &mut List<S>) -> PictureFrame {
     }
 }
 
-fn write_picture<S: ByteSource, W: Write + Drop>(list: &mut List<S>, out: &mut W) -> io::Result<()> {
+fn write_picture<S: ByteSource, W: Write + Drop>(
+    list: &mut List<S>,
+    out: &mut W,
+) -> io::Result<()> {
     let mut planes = list.planes(ROOM)?;
     let mut output = list.buffer(ROOM)?;
     let frame = read_frame(list);

@@ -2,11 +2,11 @@
 use Rattle.std.proofs.Common.{rules, ◌≡◌, ℕ, List, subst}
 use Rattle.std.proofs.lemmas.List.{with_items_is}
 use Rattle.replay.specs.Stored.{IsFilled, AreFilled}
-use Rattle.replay.specs.Sources.{Rest, Reads}
+use Rattle.replay.specs.Sources.{Reads}
 use Rattle.replay.proofs.Sources.{reads_on}
 use Rattle.replay.proofs.list.List.fill_planes.Goals as goal
 
-filled : (old a b new : Rest) (y u v y' u' v' p q r : List ℕ) → p ≡ y → q ≡ u → r ≡ v → Reads old a (λ m n. IsFilled m n p y')
+filled : (old a b new : List ℕ → Type 0) (y u v y' u' v' p q r : List ℕ) → p ≡ y → q ≡ u → r ≡ v → Reads old a (λ m n. IsFilled m n p y')
     → Reads a b (λ m n. IsFilled m n q u') → Reads b new (λ m n. IsFilled m n r v') → Reads old new (λ m n. AreFilled m n (y, u, v) (y', u', v'))
 filled old a b new y u v y' u' v' p q r i j k l m n =
     reads_on old b new (λ s t. (o : List ℕ) × IsFilled s o y y' × IsFilled o t u u') (λ s t. IsFilled s t v v') (λ s t. AreFilled s t (y, u, v) (y', u', v'))

@@ -7,7 +7,7 @@ use Rattle.call_numbers.specs.Codes.{description_of}
 use Rattle.replay.specs.Calls.{Gives}
 use Rattle.replay.specs.Stored.{IsNumber, IsFloat, IsFrame}
 use Rattle.replay.proofs.Bytes.{are_numbers, are_floats}
-use Rattle.replay.specs.Sources.{Rest, Reads}
+use Rattle.replay.specs.Sources.{Reads}
 use Rattle.replay.proofs.Made.{seen}
 use Rattle.replay.proofs.Sources.{reads_on, reads_all}
 use Rattle.replay.proofs.list.List.frame.Goals as goal
@@ -25,19 +25,19 @@ read left a b new front custom rest d m n k p q r e =
       third.1 ∙ ap (drop 36) behind ∙ drop-drop 36 32 left,
     )
 
--- the values that three rows gave, and what is left to each
-rows : (a b c d : Rest) (front : List ℕ) (custom : List Float) (rest : List ℕ) (frame : FrameDescription)
+-- the values that three rows gave, and what may be left to each
+rows : (a b c d : List ℕ → Type 0) (front : List ℕ) (custom : List Float) (rest : List ℕ) (frame : FrameDescription)
     → length front ≡ 6 → length custom ≡ 2 → length rest ≡ 9
-    → FoldsTo (λ p n q. Reads p q (λ old new. IsNumber old new n)) a front b → FoldsTo (λ p x q. Reads p q (λ old new. IsFloat old new x)) b custom c
-    → FoldsTo (λ p n q. Reads p q (λ old new. IsNumber old new n)) c rest d → frame ≡ description_of (front ++ rest) custom
+    → Reads a b (λ old new. FoldsTo (λ o n w. IsNumber o w n) old front new) → Reads b c (λ old new. FoldsTo (λ o x w. IsFloat o w x) old custom new)
+    → Reads c d (λ old new. FoldsTo (λ o n w. IsNumber o w n) old rest new) → frame ≡ description_of (front ++ rest) custom
     → Reads a d (λ old new. IsFrame old new frame)
 rows a b c d front custom rest frame m n k p q r e =
     let Numbers = FoldsTo (λ old n new. IsNumber old new n) in
     let Floats = FoldsTo (λ old x new. IsFloat old new x) in
     reads_on a c d (λ old new. (mid : List ℕ) × Numbers old front mid × Floats mid custom new) (λ old new. Numbers old rest new) (λ old new. IsFrame old new frame)
     (reads_on a b c (λ old new. Numbers old front new) (λ old new. Floats old custom new) (λ old new. (mid : List ℕ) × Numbers old front mid × Floats mid custom new)
-    (reads_all (λ old n new. IsNumber old new n) a front b p) (reads_all (λ old x new. IsFloat old new x) b custom c q) (λ xs ys zs i j. (ys, i, j)))
-    (reads_all (λ old n new. IsNumber old new n) c rest d r)
+    p q (λ xs ys zs i j. (ys, i, j)))
+    r
     (λ xs ys zs i j. read xs i.0 ys zs front custom rest frame m n k i.1 i.2 j e)
 
 pub returns : goal.returns
@@ -45,7 +45,10 @@ returns g c =
     let left = g.S.ByteSource.left in
     rows _ (left c.row.new.self.rest) (left c.row-2.new.self.rest) _ c.row.new.places c.row-2.new.places c.row-3.new.places _
     (search rules) (search rules) (search rules)
-    (seen (Gives _) (λ p n q. Reads p q (λ old new. IsNumber old new n)) (λ p. left p.1.rest) (λ p x q k. rw (← k.shows, ← k.leaves) (search rules)) _ _ _ c.row.ensures.1)
-    (seen (Gives _) (λ p x q. Reads p q (λ old new. IsFloat old new x)) (λ p. left p.1.rest) (λ p x q k. rw (← k.shows, ← k.leaves) (search rules)) _ _ _ c.row-2.ensures.1)
-    (seen (Gives _) (λ p n q. Reads p q (λ old new. IsNumber old new n)) (λ p. left p.1.rest) (λ p x q k. rw (← k.shows, ← k.leaves) (search rules)) _ _ _ c.row-3.ensures.1)
+    (reads_all (λ p. left p.1.rest) (λ o n w. IsNumber o w n) _ _ _
+    (seen (Gives _) (λ p n q. Reads (left p.1.rest) (left q.1.rest) (λ old new. IsNumber old new n)) (λ p. p) (λ p x q k. rw (← k.shows, ← k.leaves) (search rules)) _ _ _ c.row.ensures.1))
+    (reads_all (λ p. left p.1.rest) (λ o x w. IsFloat o w x) _ _ _
+    (seen (Gives _) (λ p x q. Reads (left p.1.rest) (left q.1.rest) (λ old new. IsFloat old new x)) (λ p. p) (λ p x q k. rw (← k.shows, ← k.leaves) (search rules)) _ _ _ c.row-2.ensures.1))
+    (reads_all (λ p. left p.1.rest) (λ o n w. IsNumber o w n) _ _ _
+    (seen (Gives _) (λ p n q. Reads (left p.1.rest) (left q.1.rest) (λ old new. IsNumber old new n)) (λ p. p) (λ p x q k. rw (← k.shows, ← k.leaves) (search rules)) _ _ _ c.row-3.ensures.1))
     c.describe.ensures

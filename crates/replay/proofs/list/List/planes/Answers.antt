@@ -2,7 +2,7 @@
 use Rattle.std.proofs.Common.{◌≡◌, ◌∙◌, ap, drop, replicate, ℕ, List, rules}
 use Rattle.std.proofs.lemmas.List.{drop-drop}
 use Rattle.replay.specs.Stored.{next_room}
-use Rattle.replay.specs.Sources.{Rest, Reads}
+use Rattle.replay.specs.Sources.{Reads}
 use Rattle.replay.proofs.Sources.{reads, reads_on}
 use Rattle.replay.proofs.list.List.planes.Goals as goal
 
@@ -10,7 +10,7 @@ abbrev pub AreRooms : (most y u v : ℕ) → (old new : List ℕ) → Type 0
 AreRooms most y u v old new =
     (y ≡ next_room most old) × (u ≡ next_room most (drop 4 old)) × (v ≡ next_room most (drop 8 old)) × (new ≡ drop 12 old)
 
-rooms : (most y u v : ℕ) (a b c d : Rest) → Reads a b (λ old new. (y ≡ next_room most old) × (new ≡ drop 4 old))
+rooms : (most y u v : ℕ) (a b c d : List ℕ → Type 0) → Reads a b (λ old new. (y ≡ next_room most old) × (new ≡ drop 4 old))
     → Reads b c (λ old new. (u ≡ next_room most old) × (new ≡ drop 4 old)) → Reads c d (λ old new. (v ≡ next_room most old) × (new ≡ drop 4 old))
     → Reads a d (AreRooms most y u v)
 rooms most y u v a b c d p q r =
