@@ -60,15 +60,12 @@ impl<B: BufRead> ByteSource for Streamed<B> {
     }
 
     fn check(&mut self) -> io::Result<()> {
-        if self.failure.is_none() {
+        let Some(failed) = self.failure.take() else {
             return Ok(());
-        }
-        // The list stays one whose reader failed.
-        let told = io::Error::from(ErrorKind::Other);
-        match self.failure.replace(told) {
-            Some(error) => Err(error),
-            None => Ok(()),
-        }
+        };
+        // The reader stays one that failed.
+        self.failure = Some(io::Error::from(ErrorKind::Other));
+        Err(failed)
     }
 }
 
@@ -83,10 +80,7 @@ fn read_part<B: BufRead>(reader: &mut B, buffer: &mut [u8]) -> io::Result<usize>
     ensures kept { OnErr result (Keeps (B.remaining reader.old) (B.remaining reader.new)) }
     ensures still { OnErr result (buffer.new ≡ buffer.old) }
 {
-    let shown = match reader.fill_buf() {
-        Ok(shown) => shown,
-        Err(error) => return Err(error),
-    };
+    let shown = reader.fill_buf()?;
     let size = shown.len().min(buffer.len());
     buffer[..size].copy_from_slice(&shown[..size]);
     reader.consume(size);
