@@ -2,11 +2,13 @@
 // and what is printed of a call. The gate compares. vectors/README.md has the form of a list and of what is printed.
 #![tactic(auto)]
 
+mod ending;
 mod list;
 mod printed;
 mod reading;
 mod slices;
 
+pub use ending::passed_over;
 pub use list::{List, each, list_of, over_streams, repeat, replay};
 pub use printed::{Answer, Digest, Left, Numbers, Planes, crc32};
 pub use reading::{ByteSource, Streamed};

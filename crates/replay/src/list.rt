@@ -155,7 +155,7 @@ impl<S: ByteSource> List<S> {
         self.fill(&mut planes.v);
     }
 
-    // Reads a value for each place. That a closure may always be called is asked where it is taken, here and in eight more functions: its type is a parameter
+    // Reads a value for each place. That a closure may always be called is asked where it is taken, here and in ten more functions: its type is a parameter
     // of each, and a struct round it would ask the same.
     pub fn row<T: Copy, F: FnMut(&mut List<S>) -> T>(&mut self, places: &mut [T], mut next: F)
         requires { F.IsAlwaysCallable next }
@@ -226,6 +226,8 @@ pub fn replay<S: ByteSource, W: Write + Drop, F: FnMut(&mut List<S>, &mut W) -> 
         write!(out, "{number}")?;
         call(list, out)?;
         out.write_all(b"\n")?;
+        // Who gives the list part by part has the line of a call before the next one is given.
+        out.flush()?;
         list.rest.check()?;
     }
     out.flush()

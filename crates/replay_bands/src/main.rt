@@ -65,7 +65,9 @@ fn call<S: ByteSource, W: Write + Drop>(
 ) -> io::Result<()> {
     let answered = Answered(make(list, planes, carried)?);
     let row = Digest(carried);
-    writeln!(out, "{answered}{planes} carried={row}")
+    writeln!(out, "{answered}{planes} carried={row}")?;
+    // Who gives the list part by part has the line of a call before the next one is given.
+    out.flush()
 }
 
 // The opening, and the calls after it, all on the same buffers.
@@ -76,6 +78,7 @@ fn sequence<S: ByteSource, W: Write + Drop>(
 ) -> io::Result<()> {
     let opened = Answered(FrameState::open(list.frame()));
     writeln!(out, "{sequence}{opened}")?;
+    out.flush()?;
     let mut planes = Planes::new(list.alloc, ROOM)?;
     let mut carried = vec![in list.alloc; 0u8; ROOM]?;
     list.fill_planes(&mut planes);
@@ -88,14 +91,18 @@ fn sequence<S: ByteSource, W: Write + Drop>(
 
 // The program replay_desk has such a main too. One function for both, of which `over_streams` would be a case, was tried in three ways that the check does not
 // cover: a closure that moves its call into `replay::replay`, `replay::each` handed on as it is, and a closure's parameter of a function's type.
-fn main(rt: HostRuntime) -> io::Result<()> {
+fn sequences(rt: &HostRuntime) -> io::Result<()> {
     let alloc = rt.alloc();
     let mut list = replay::list_of(alloc, rt.reader())?;
-    let mut out = BufWriter::new(alloc, io::writer(&rt))?;
+    let mut out = BufWriter::new(alloc, io::writer(rt))?;
     replay::each(&mut list, &mut out, |number, list, out| {
         list.rest.check()?;
         sequence(number, list, out)
     })?;
     list.rest.check()?;
     out.flush()
+}
+
+fn main(rt: HostRuntime) -> io::Result<()> {
+    replay::passed_over(sequences(&rt))
 }

@@ -8,11 +8,11 @@
 #![tactic(auto)]
 
 use replay_text::Reply;
-use std::io::{Read, Write};
+use std::io::Write;
 use std::{fmt, io};
 
 // The most bytes of the text: those past them are not read.
-const MOST: u64 = 65536;
+const MOST: usize = 65536;
 
 // The lines of black and white of either range, and of the middle, where there are lines.
 #[derive(Clone, Copy)]
@@ -45,7 +45,17 @@ fn reply<W: Write + Drop>(request: &[u8], out: &mut W) -> io::Result<()> {
 }
 
 fn main(rt: HostRuntime) -> io::Result<()> {
-    let text = rt.reader().take(MOST);
-    replay_text::over_streams(rt.alloc(), text, 16, io::writer(&rt), reply)?;
-    Ok(())
+    let mut text = [0; MOST];
+    // What was read before a read failed is replayed too.
+    let size = match standard_streams::read_input(&mut rt.reader(), &mut text) {
+        Ok(size) => size,
+        Err(stopped) => stopped.size,
+    };
+    replay::passed_over(replay_text::over_streams(
+        rt.alloc(),
+        &text[..size],
+        16,
+        io::writer(&rt),
+        reply,
+    ))
 }

@@ -238,7 +238,9 @@ fn call<
     make(list, desk, out)?;
     let bytes = bytes_of(list.alloc, desk)?;
     let digest = Digest(&bytes);
-    writeln!(out, " desk={digest}")
+    writeln!(out, " desk={digest}")?;
+    // Who gives the list part by part has the line of a call before the next one is given.
+    out.flush()
 }
 
 // The buffers, the desk, and what is asked, all of it on these. The stored list says what is asked by a number: here the number becomes the call. An enum of
@@ -270,14 +272,18 @@ fn history<S: ByteSource, W: Write + Drop>(
 
 // The program replay_bands has such a main too. One function for both, of which `over_streams` would be a case, was tried in three ways that the check does not
 // cover: a closure that moves its call into `replay::replay`, `replay::each` handed on as it is, and a closure's parameter of a function's type.
-fn main(rt: HostRuntime) -> io::Result<()> {
+fn histories(rt: &HostRuntime) -> io::Result<()> {
     let alloc = rt.alloc();
     let mut list = replay::list_of(alloc, rt.reader())?;
-    let mut out = BufWriter::new(alloc, io::writer(&rt))?;
+    let mut out = BufWriter::new(alloc, io::writer(rt))?;
     replay::each(&mut list, &mut out, |number, list, out| {
         list.rest.check()?;
         history(number, list, out)
     })?;
     list.rest.check()?;
     out.flush()
+}
+
+fn main(rt: HostRuntime) -> io::Result<()> {
+    replay::passed_over(histories(&rt))
 }

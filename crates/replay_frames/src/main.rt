@@ -27,6 +27,5 @@ fn call<S: ByteSource, W: Write + Drop>(list: &mut List<S>, out: &mut W) -> io::
 }
 
 fn main(rt: HostRuntime) -> io::Result<()> {
-    replay::over_streams(rt.alloc(), rt.reader(), io::writer(&rt), call)?;
-    Ok(())
+    replay::passed_over(replay::over_streams(rt.alloc(), rt.reader(), io::writer(&rt), call))
 }

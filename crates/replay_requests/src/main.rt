@@ -9,10 +9,10 @@
 
 use replay_text::Reply;
 use std::io;
-use std::io::{Read, Write};
+use std::io::Write;
 
 // The most bytes of the text: those past them are not read.
-const MOST: u64 = 65536;
+const MOST: usize = 65536;
 
 fn reply<W: Write + Drop>(request: &[u8], out: &mut W) -> io::Result<()> {
     // `reply_to` takes an array of this size, and the reply fills a part of it.
@@ -23,8 +23,18 @@ fn reply<W: Write + Drop>(request: &[u8], out: &mut W) -> io::Result<()> {
 }
 
 fn main(rt: HostRuntime) -> io::Result<()> {
-    let text = rt.reader().take(MOST);
+    let mut text = [0; MOST];
+    // What was read before a read failed is replayed too.
+    let size = match standard_streams::read_input(&mut rt.reader(), &mut text) {
+        Ok(size) => size,
+        Err(stopped) => stopped.size,
+    };
     // One byte past the largest request.
-    replay_text::over_streams(rt.alloc(), text, 65546, io::writer(&rt), reply)?;
-    Ok(())
+    replay::passed_over(replay_text::over_streams(
+        rt.alloc(),
+        &text[..size],
+        65546,
+        io::writer(&rt),
+        reply,
+    ))
 }

@@ -1,6 +1,7 @@
 -- `replay` meets its contract: the next call was made between its number and a newline; and at the end as many as the list said.
 use Rattle.std.proofs.Common.{◌≡◌, ◌+◌, arith, of_calls, OnOk, Result, Ok, Err}
 use Rattle.std.proofs.lemmas.Fn.{FoldsTo-push}
+use Rattle.std.proofs.KnownBytes.{Appends-kept}
 use Rattle.replay.specs.Calls.{Prints}
 use Rattle.replay.proofs.Made.{prints}
 use Rattle.replay.proofs.Ranges.{from_one}
@@ -11,7 +12,8 @@ loop-place-preserved g c =
     let checked = c.in_ok-check-2.ensures in (
       search of_calls,
       rw (checked.kept, from_one c.loop-place.place) (FoldsTo-push (Prints g.F.FnMut g.W.Write.contents) _ _ _ (c.loop-place.place + 1) _ c.loop-place.invariant.1
-          (prints g.F.FnMut g.W.Write.contents c.in_ok-write.ensures.bytes c.call.ensures c.in_ok-call.was c.in_ok-write_all.ensures.bytes)),
+          (prints g.F.FnMut g.W.Write.contents c.in_ok-write.ensures.bytes c.call.ensures c.in_ok-call.was
+          (Appends-kept _ _ _ _ c.in_ok-write_all.ensures.bytes c.in_ok-flush.ensures.bytes))),
       checked.whole,
     )
 
@@ -23,7 +25,7 @@ pub returns : goal.returns
 returns g c =
     let checked = c.in_ok-check.ensures in
     let all : c.loop-place.place ≡ c.number-count.result = omega arith in
-    on_ok c.flush.result (
+    on_ok c.flush-2.result (
       record { rest = c.check.new.self; alloc = c.number-count.new.self.alloc },
       c.loop-place.call,
       c.loop-place.out,
@@ -32,5 +34,5 @@ returns g c =
       checked.whole,
       rw (← all) c.loop-place.invariant.1,
       c.loop-place.invariant.2,
-      c.flush.ensures.bytes,
+      c.flush-2.ensures.bytes,
     )
