@@ -7,3 +7,4 @@ pub mod Made
 pub mod Streams
 pub mod Sources
 pub mod OfSlices
+pub mod Values

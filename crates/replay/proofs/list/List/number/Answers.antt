@@ -1,8 +1,7 @@
 -- `number` meets its contract: the number is that of the next four bytes.
 use Rattle.std.proofs.Common.{rules}
-use Rattle.replay.specs.Stored.{IsNumber}
-use Rattle.replay.proofs.Sources.{reads}
+use Rattle.replay.proofs.Values.{number_read}
 use Rattle.replay.proofs.list.List.number.Goals as goal
 
 pub returns : goal.returns
-returns g c = reads _ _ _ (λ old new. IsNumber old new c.from_le_bytes.result) c.array.ensures (λ xs ys h. search rules)
+returns g c = number_read _ _ c.array.result _ (search rules) c.array.ensures
