@@ -204,7 +204,8 @@ pub fn each<S: ByteSource, W: Write + Drop, F: FnMut(u32, &mut List<S>, &mut W) 
     Ok(())
 }
 
-// Makes each call of a list, and prints a line of each: its number, and what the call prints. Where a read of the list failed no call is made after it.
+// Makes each call of a list, and prints a line of each: its number, and what the call prints. After a read that failed the calls that are left are made of
+// zeros, as past the list's end, and its error is answered.
 // A loop of its own: over `each`, by a closure that prints around `call`, it did not prove that the closure may be called again and again.
 pub fn replay<S: ByteSource, W: Write + Drop, F: FnMut(&mut List<S>, &mut W) -> io::Result<()>>(
     list: &mut List<S>,
@@ -220,16 +221,18 @@ pub fn replay<S: ByteSource, W: Write + Drop, F: FnMut(&mut List<S>, &mut W) -> 
         × Keeps (W.contents written) (W.contents out.new)) }
 {
     let count = list.number();
-    list.rest.check()?;
+    let begun = list.rest.check();
     for place in 0..count {
         let number = place + 1;
+        // Who gives the list part by part has the number of a call before it is read, and its line before the next one is.
         write!(out, "{number}")?;
+        out.flush()?;
         call(list, out)?;
         out.write_all(b"\n")?;
-        // Who gives the list part by part has the line of a call before the next one is given.
         out.flush()?;
-        list.rest.check()?;
     }
+    begun?;
+    list.rest.check()?;
     out.flush()
 }
 

@@ -66,7 +66,6 @@ fn call<S: ByteSource, W: Write + Drop>(
     let answered = Answered(make(list, planes, carried)?);
     let row = Digest(carried);
     writeln!(out, "{answered}{planes} carried={row}")?;
-    // Who gives the list part by part has the line of a call before the next one is given.
     out.flush()
 }
 
@@ -84,7 +83,9 @@ fn sequence<S: ByteSource, W: Write + Drop>(
     list.fill_planes(&mut planes);
     list.fill(&mut carried);
     replay::each(list, out, |place, list, out| {
+        // Who gives the list part by part has the numbers of a call before it is read, and its line before the next one is.
         write!(out, "{sequence}.{place}")?;
+        out.flush()?;
         call(list, &mut planes, &mut carried, out)
     })
 }
@@ -95,10 +96,11 @@ fn sequences(rt: &HostRuntime) -> io::Result<()> {
     let alloc = rt.alloc();
     let mut list = replay::list_of(alloc, rt.reader())?;
     let mut out = BufWriter::new(alloc, io::writer(rt))?;
-    replay::each(&mut list, &mut out, |number, list, out| {
-        list.rest.check()?;
-        sequence(number, list, out)
-    })?;
+    replay::each(
+        &mut list,
+        &mut out,
+        |number, list, out| sequence(number, list, out),
+    )?;
     list.rest.check()?;
     out.flush()
 }

@@ -234,12 +234,13 @@ fn call<
 ) -> io::Result<()>
     requires { F.IsAlwaysCallable make }
 {
+    // Who gives the list part by part has the numbers of a call before it is read, and its line before the next one is.
     write!(out, "{history}.{place} ")?;
+    out.flush()?;
     make(list, desk, out)?;
     let bytes = bytes_of(list.alloc, desk)?;
     let digest = Digest(&bytes);
     writeln!(out, " desk={digest}")?;
-    // Who gives the list part by part has the line of a call before the next one is given.
     out.flush()
 }
 
@@ -276,10 +277,11 @@ fn histories(rt: &HostRuntime) -> io::Result<()> {
     let alloc = rt.alloc();
     let mut list = replay::list_of(alloc, rt.reader())?;
     let mut out = BufWriter::new(alloc, io::writer(rt))?;
-    replay::each(&mut list, &mut out, |number, list, out| {
-        list.rest.check()?;
-        history(number, list, out)
-    })?;
+    replay::each(
+        &mut list,
+        &mut out,
+        |number, list, out| history(number, list, out),
+    )?;
     list.rest.check()?;
     out.flush()
 }

@@ -8,14 +8,12 @@ use Rattle.replay.proofs.Ranges.{from_one}
 use Rattle.replay.proofs.list.replay.Goals as goal
 
 pub loop-place-preserved : goal.loop-place-preserved
-loop-place-preserved g c =
-    let checked = c.in_ok-check-2.ensures in (
-      search of_calls,
-      rw (checked.kept, from_one c.loop-place.place) (FoldsTo-push (Prints g.F.FnMut g.W.Write.contents) _ _ _ (c.loop-place.place + 1) _ c.loop-place.invariant.1
-          (prints g.F.FnMut g.W.Write.contents c.in_ok-write.ensures.bytes c.call.ensures c.in_ok-call.was
-          (Appends-kept _ _ _ _ c.in_ok-write_all.ensures.bytes c.in_ok-flush.ensures.bytes))),
-      checked.whole,
-    )
+loop-place-preserved g c = (
+  search of_calls,
+  rw (from_one c.loop-place.place) (FoldsTo-push (Prints g.F.FnMut g.W.Write.contents) _ _ _ (c.loop-place.place + 1) _ c.loop-place.invariant.1
+      (prints g.F.FnMut g.W.Write.contents (Appends-kept _ _ _ _ c.in_ok-write.ensures.bytes c.in_ok-flush.ensures.bytes)
+      c.call.ensures c.in_ok-call.was (Appends-kept _ _ _ _ c.in_ok-write_all.ensures.bytes c.in_ok-flush-2.ensures.bytes))),
+)
 
 on_ok : {E P : Type 0} (r : Result Unit E) → P → OnOk r P
 on_ok (Ok done) p = p
@@ -23,16 +21,17 @@ on_ok (Err e) p = tt
 
 pub returns : goal.returns
 returns g c =
+    let begun = c.in_ok-begun.ensures in
     let checked = c.in_ok-check.ensures in
     let all : c.loop-place.place ≡ c.number-count.result = omega arith in
     on_ok c.flush-2.result (
-      record { rest = c.check.new.self; alloc = c.number-count.new.self.alloc },
+      record { rest = c.check-begun.new.self; alloc = c.number-count.new.self.alloc },
       c.loop-place.call,
       c.loop-place.out,
       c.number-count.result,
-      rw checked.kept c.number-count.ensures,
+      rw begun.kept c.number-count.ensures,
+      begun.whole,
+      rw (checked.kept, ← all) c.loop-place.invariant.1,
       checked.whole,
-      rw (← all) c.loop-place.invariant.1,
-      c.loop-place.invariant.2,
       c.flush-2.ensures.bytes,
     )
