@@ -8,7 +8,7 @@ mod printed;
 mod reading;
 mod slices;
 
-pub use ending::passed_over;
+pub use ending::{Lossy, passed_over};
 pub use list::{List, each, list_of, over_streams, repeat, replay};
 pub use printed::{Answer, Digest, Left, Numbers, Planes, crc32};
 pub use reading::{ByteSource, Streamed};

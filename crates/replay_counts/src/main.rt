@@ -55,7 +55,7 @@ fn main(rt: HostRuntime) -> io::Result<()> {
         rt.alloc(),
         &text[..size],
         16,
-        io::writer(&rt),
+        replay::Lossy(io::writer(&rt)),
         reply,
     ))
 }

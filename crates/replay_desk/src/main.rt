@@ -276,7 +276,7 @@ fn history<S: ByteSource, W: Write + Drop>(
 fn histories(rt: &HostRuntime) -> io::Result<()> {
     let alloc = rt.alloc();
     let mut list = replay::list_of(alloc, rt.reader())?;
-    let mut out = BufWriter::new(alloc, io::writer(rt))?;
+    let mut out = BufWriter::new(alloc, replay::Lossy(io::writer(rt)))?;
     replay::each(
         &mut list,
         &mut out,

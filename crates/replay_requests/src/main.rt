@@ -34,7 +34,7 @@ fn main(rt: HostRuntime) -> io::Result<()> {
         rt.alloc(),
         &text[..size],
         65546,
-        io::writer(&rt),
+        replay::Lossy(io::writer(&rt)),
         reply,
     ))
 }

@@ -84,5 +84,10 @@ fn call<S: ByteSource, W: Write + Drop>(list: &mut List<S>, out: &mut W) -> io::
 }
 
 fn main(rt: HostRuntime) -> io::Result<()> {
-    replay::passed_over(replay::over_streams(rt.alloc(), rt.reader(), io::writer(&rt), call))
+    replay::passed_over(replay::over_streams(
+        rt.alloc(),
+        rt.reader(),
+        replay::Lossy(io::writer(&rt)),
+        call,
+    ))
 }
