@@ -1,21 +1,23 @@
 // What a program that replays a list does with reads and writes that fail, and what it ends with.
-ghost use Rattle.std.specs.Prelude.{◌≡◌, ◌≢◌, Ok, Err, OnOk, IfOk, IfErr, length};
+ghost use Rattle.std.specs.Prelude.{◌≡◌, ◌≢◌, Ok, Err, OnOk, IfOk, IfErr, IsErr, length};
 ghost use Rattle.std.specs.IoError.{error_kind};
 ghost use Rattle.std.specs.Io.{WritesAtMost};
 ghost use Rattle.std.specs.Io.KnownBytes.{WriteAppends};
 ghost use Rattle.std.specs.declared.io.ErrorKind.TheVariants.{OutOfMemory, Interrupted};
 
+use std::alloc::AllocError;
 use std::io;
 use std::io::{ErrorKind, Write};
 
-// A read or a write that failed is passed over: what was written is what is held against the stored lines. Memory that ran out is an error.
-pub fn passed_over<T: Drop>(made: io::Result<T>) -> io::Result<()>
+// A read or a write that failed is passed over: what was written is what is held against the stored lines. Memory that ran out is an error, of a type that is
+// printed in a word: the text of every kind of error would take 32 KiB of each program.
+pub fn passed_over<T: Drop>(made: io::Result<T>) -> Result<(), AllocError>
     ensures done { OnOk made (result ≡ Ok tt) }
-    ensures memory { IfErr made (λ e. error_kind e ≡ OutOfMemory → result ≡ Err e) }
+    ensures memory { IfErr made (λ e. error_kind e ≡ OutOfMemory → IsErr result) }
     ensures passed { IfErr made (λ e. error_kind e ≢ OutOfMemory → result ≡ Ok tt) }
 {
     match made {
-        Err(error) if error.kind() == ErrorKind::OutOfMemory => Err(error),
+        Err(error) if error.kind() == ErrorKind::OutOfMemory => Err(AllocError),
         _ => Ok(()),
     }
 }

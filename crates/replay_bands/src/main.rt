@@ -4,7 +4,7 @@
 
 use band_calls::{FrameAnswer, FrameState};
 use replay::{Answer, ByteSource, Digest, List, Planes};
-use std::alloc::AllocError;
+use std::alloc::{AllocError, AllocError};
 use std::io::{BufWriter, Write};
 use std::{fmt, io};
 
@@ -105,6 +105,6 @@ fn sequences(rt: &HostRuntime) -> io::Result<()> {
     out.flush()
 }
 
-fn main(rt: HostRuntime) -> io::Result<()> {
+fn main(rt: HostRuntime) -> Result<(), AllocError> {
     replay::passed_over(sequences(&rt))
 }

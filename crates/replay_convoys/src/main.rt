@@ -2,7 +2,7 @@
 #![tactic(auto)]
 
 use replay::{ByteSource, List, Planes};
-use std::alloc::AllocError;
+use std::alloc::{AllocError, AllocError};
 use std::io;
 use std::io::Write;
 
@@ -76,7 +76,7 @@ fn call<S: ByteSource, W: Write + Drop>(list: &mut List<S>, out: &mut W) -> io::
     write!(out, "{planes}")
 }
 
-fn main(rt: HostRuntime) -> io::Result<()> {
+fn main(rt: HostRuntime) -> Result<(), AllocError> {
     replay::passed_over(replay::over_streams(
         rt.alloc(),
         rt.reader(),

@@ -286,6 +286,6 @@ fn histories(rt: &HostRuntime) -> io::Result<()> {
     out.flush()
 }
 
-fn main(rt: HostRuntime) -> io::Result<()> {
+fn main(rt: HostRuntime) -> Result<(), AllocError> {
     replay::passed_over(histories(&rt))
 }

@@ -2,6 +2,7 @@
 #![tactic(auto)]
 
 use replay::{Answer, ByteSource, List};
+use std::alloc::AllocError;
 use std::io;
 use std::io::Write;
 
@@ -26,7 +27,7 @@ fn call<S: ByteSource, W: Write + Drop>(list: &mut List<S>, out: &mut W) -> io::
     write!(out, "{answer}{planes}")
 }
 
-fn main(rt: HostRuntime) -> io::Result<()> {
+fn main(rt: HostRuntime) -> Result<(), AllocError> {
     replay::passed_over(replay::over_streams(
         rt.alloc(),
         rt.reader(),

@@ -2,6 +2,7 @@
 #![tactic(auto)]
 
 use replay::{Answer, ByteSource, List, Numbers};
+use std::alloc::AllocError;
 use std::io;
 use std::io::Write;
 use yuv_error::YuvError;
@@ -13,13 +14,15 @@ const ROOM: usize = 65536;
 const BEFORE: u64 = 9;
 
 fn call<S: ByteSource, W: Write + Drop>(list: &mut List<S>, out: &mut W) -> io::Result<()> {
-    let mut ours = list.buffer(ROOM)?;
+    // One file is on the stack and the other of the heap: for both the heap would have to grow, and all that the program takes by more than the file has.
+    let mut ours = [0; ROOM];
+    let ours = &mut ours[..list.room(ROOM)];
     let mut theirs = list.buffer(ROOM)?;
-    list.fill(&mut ours);
+    list.fill(ours);
     list.fill(&mut theirs);
-    let our_form = shift_file::form_of(&ours);
+    let our_form = shift_file::form_of(ours);
     let their_form = shift_file::form_of(&theirs);
-    let pairing = shift_pairs::pair_files(our_form, &ours, their_form, &theirs);
+    let pairing = shift_pairs::pair_files(our_form, ours, their_form, &theirs);
     let mut numbers = [BEFORE; 18];
     report_numbers::tell_pairing(pairing, &mut numbers);
     let broken = pairing.err().map_or(0, u32::from);
@@ -28,7 +31,7 @@ fn call<S: ByteSource, W: Write + Drop>(list: &mut List<S>, out: &mut W) -> io::
     write!(out, "{answer} broken={broken} report{report}")
 }
 
-fn main(rt: HostRuntime) -> io::Result<()> {
+fn main(rt: HostRuntime) -> Result<(), AllocError> {
     replay::passed_over(replay::over_streams(
         rt.alloc(),
         rt.reader(),

@@ -8,6 +8,7 @@
 #![tactic(auto)]
 
 use replay_text::Reply;
+use std::alloc::AllocError;
 use std::io;
 use std::io::Write;
 
@@ -22,7 +23,7 @@ fn reply<W: Write + Drop>(request: &[u8], out: &mut W) -> io::Result<()> {
     write!(out, "{reply}")
 }
 
-fn main(rt: HostRuntime) -> io::Result<()> {
+fn main(rt: HostRuntime) -> Result<(), AllocError> {
     let mut text = [0; MOST];
     // What was read before a read failed is replayed too.
     let size = match standard_streams::read_input(&mut rt.reader(), &mut text) {

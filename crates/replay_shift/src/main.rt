@@ -6,6 +6,7 @@ use shift_file::{SettingCodes, ShiftForm};
 use shift_reader::{EntryKind, ShiftReading};
 use shift_record::RecordFrame;
 use shift_writer::NotWritten;
+use std::alloc::AllocError;
 use std::io;
 use std::io::Write;
 
@@ -66,11 +67,12 @@ fn convert<
     requires { F.IsAlwaysCallable make }
 {
     let mut input = list.buffer(ROOM)?;
-    let mut output = list.buffer(ROOM)?;
+    let mut output = [0; ROOM];
+    let output = &mut output[..list.room(ROOM)];
     list.fill(&mut input);
-    list.fill(&mut output);
-    let written = make(&input, &mut output);
-    let left = left_of(written, &output);
+    list.fill(output);
+    let written = make(&input, output);
+    let left = left_of(written, output);
     write!(out, "{left}")
 }
 
@@ -136,12 +138,13 @@ fn write_record<S: ByteSource, W: Write + Drop>(
     out: &mut W,
 ) -> io::Result<()> {
     let mut planes = list.planes(ROOM)?;
-    let mut output = list.buffer(ROOM)?;
+    let mut output = [0; ROOM];
+    let output = &mut output[..list.room(ROOM)];
     let frame = read_frame(list, form);
     list.fill_planes(&mut planes);
-    list.fill(&mut output);
-    let written = shift_record::write_record(frame, &planes.y, &planes.u, &planes.v, &mut output);
-    let left = left_of(written, &output);
+    list.fill(output);
+    let written = shift_record::write_record(frame, &planes.y, &planes.u, &planes.v, output);
+    let left = left_of(written, output);
     write!(out, "{left}")
 }
 
@@ -159,7 +162,7 @@ fn call<S: ByteSource, W: Write + Drop>(list: &mut List<S>, out: &mut W) -> io::
     }
 }
 
-fn main(rt: HostRuntime) -> io::Result<()> {
+fn main(rt: HostRuntime) -> Result<(), AllocError> {
     replay::passed_over(replay::over_streams(
         rt.alloc(),
         rt.reader(),

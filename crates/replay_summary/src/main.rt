@@ -2,6 +2,7 @@
 #![tactic(auto)]
 
 use replay::{Answer, ByteSource, Digest, List};
+use std::alloc::AllocError;
 use std::io::Write;
 use std::{fmt, io};
 
@@ -83,7 +84,7 @@ fn call<S: ByteSource, W: Write + Drop>(list: &mut List<S>, out: &mut W) -> io::
     }
 }
 
-fn main(rt: HostRuntime) -> io::Result<()> {
+fn main(rt: HostRuntime) -> Result<(), AllocError> {
     replay::passed_over(replay::over_streams(
         rt.alloc(),
         rt.reader(),

@@ -3,6 +3,7 @@
 
 use replay::{Answer, ByteSource, Left, List, Numbers};
 use shift_writer::NotWritten;
+use std::alloc::AllocError;
 use std::io::Write;
 use std::{fmt, io};
 use y4m_picture::PictureFrame;
@@ -65,14 +66,15 @@ fn left_of(written: Result<usize, NotWritten>, output: &[u8]) -> Left<'_> {
 
 fn write<S: ByteSource, W: Write + Drop>(list: &mut List<S>, out: &mut W) -> io::Result<()> {
     let mut pictures = list.buffer(ROOM)?;
-    let mut output = list.buffer(ROOM)?;
+    let mut output = [0; ROOM];
+    let output = &mut output[..list.room(ROOM)];
     let width = list.number() as usize;
     let height = list.number() as usize;
     let sampling = list.number();
     list.fill(&mut pictures);
-    list.fill(&mut output);
-    let written = y4m_writer::write_pictures(sampling, width, height, &pictures, &mut output);
-    let left = left_of(written, &output);
+    list.fill(output);
+    let written = y4m_writer::write_pictures(sampling, width, height, &pictures, output);
+    let left = left_of(written, output);
     write!(out, "{left}")
 }
 
@@ -92,12 +94,13 @@ fn write_picture<S: ByteSource, W: Write + Drop>(
     out: &mut W,
 ) -> io::Result<()> {
     let mut planes = list.planes(ROOM)?;
-    let mut output = list.buffer(ROOM)?;
+    let mut output = [0; ROOM];
+    let output = &mut output[..list.room(ROOM)];
     let frame = read_frame(list);
     list.fill_planes(&mut planes);
-    list.fill(&mut output);
-    let written = y4m_picture::write_picture(frame, &planes.y, &planes.u, &planes.v, &mut output);
-    let left = left_of(written, &output);
+    list.fill(output);
+    let written = y4m_picture::write_picture(frame, &planes.y, &planes.u, &planes.v, output);
+    let left = left_of(written, output);
     write!(out, "{left}")
 }
 
@@ -110,7 +113,7 @@ fn call<S: ByteSource, W: Write + Drop>(list: &mut List<S>, out: &mut W) -> io::
     }
 }
 
-fn main(rt: HostRuntime) -> io::Result<()> {
+fn main(rt: HostRuntime) -> Result<(), AllocError> {
     replay::passed_over(replay::over_streams(
         rt.alloc(),
         rt.reader(),
