@@ -5,7 +5,7 @@
 //     one colour, 128 by 128 | 80 00 80 00 00 00 00 00 00 10 20 30 * 49161
 #![tactic(auto)]
 
-ghost use Rattle.std.specs.Prelude.{◌≡◌, ◌≢◌, ℕ, List, ◌<◌, ◌≤◌, ◌↔◌, ◌++◌, ◌-◌, ◌^◌, ◌%◌, All, take, length, slice_index, min, IfSome, IsNone, IfOk, OnOk, codes, decimal};
+ghost use Rattle.std.specs.Prelude.{Some, ◌≡◌, ◌≢◌, ℕ, List, ◌<◌, ◌≤◌, ◌↔◌, ◌++◌, ◌-◌, ◌^◌, ◌%◌, All, take, length, slice_index, min, IfSome, IsNone, IfOk, OnOk, codes, decimal};
 ghost use Rattle.std.specs.List.{FoldsTo};
 ghost use Rattle.std.specs.Io.KnownBytes.{Appends, Keeps, IsAtEnd};
 ghost use Rattle.std.specs.Io.Buffered.{writer_contents};
@@ -133,6 +133,25 @@ impl fmt::Display for Reply<'_> {
     }
 }
 
+// Makes the request of a line in the room that the caller lends, and prints the line's name, a bar, what the call prints of the reply, and a newline.
+fn reply_to_line<W: Write + Drop, F: FnMut(&[u8], &mut W) -> io::Result<()>>(
+    line: &[u8],
+    room: &mut [u8],
+    out: &mut W,
+    call: &mut F,
+) -> io::Result<()>
+    requires { F.IsAlwaysCallable call.old }
+    ensures callable { F.IsAlwaysCallable call.new }
+    ensures replied { OnOk result (Replies F.FnMut W.contents (length room.old) (call.old, out.old) line.now (call.new, out.new)) }
+{
+    let (name, words) = cut(line, b'|');
+    let request = read_request(words, room);
+    out.write_all(name)?;
+    out.write_all(b"| ")?;
+    call(request, out)?;
+    out.write_all(b"\n")
+}
+
 // Makes the request of each line, of at most so many bytes, and prints a line of each: its name, a bar, and what the call prints of the reply.
 // The last line counts the requests.
 pub fn replay<T: BufRead + Drop, W: Write + Drop, F: FnMut(&[u8], &mut W) -> io::Result<()>>(
@@ -153,13 +172,35 @@ pub fn replay<T: BufRead + Drop, W: Write + Drop, F: FnMut(&[u8], &mut W) -> io:
     let mut count = 0u64;
     for line in text.split(alloc, b'\n') {
         let line = line?;
-        let (name, words) = cut(&line, b'|');
-        let request = read_request(words, &mut room);
-        out.write_all(name)?;
-        out.write_all(b"| ")?;
-        call(request, out)?;
-        out.write_all(b"\n")?;
+        reply_to_line(&line, &mut room, out, &mut call)?;
         count = count.saturating_add(1);
+    }
+    writeln!(out, "{count} requests")?;
+    out.flush()
+}
+
+// The same of the lines of a text that is at hand, with room that the caller lends for one request: it takes no memory of its own.
+pub fn replay_lines<W: Write + Drop, F: FnMut(&[u8], &mut W) -> io::Result<()>>(
+    text: &[u8],
+    room: &mut [u8],
+    out: &mut W,
+    mut call: F,
+) -> io::Result<()>
+    requires { F.IsAlwaysCallable call }
+    ensures { OnOk result ((lines : List (List ℕ)) × (last : F) × (replied : W) × (counted : W)
+        × AreLines (Some text.now) lines
+        × FoldsTo (Replies F.FnMut W.contents (length room.old)) (call, out.old) lines (last, replied)
+        × Appends (W.contents replied) (W.contents counted) (decimal (min (length lines) (2 ^ 64 - 1)) ++ codes " requests\n")
+        × Keeps (W.contents counted) (W.contents out.new)) }
+{
+    let mut rest = text;
+    let mut count = 0u64;
+    // A while loop: std's `split` of a slice gives an empty piece behind a newline at the end.
+    while !rest.is_empty() {
+        let (line, later) = cut(rest, b'\n');
+        reply_to_line(line, room, out, &mut call)?;
+        count = count.saturating_add(1);
+        rest = later;
     }
     writeln!(out, "{count} requests")?;
     out.flush()
@@ -201,6 +242,21 @@ mod tests {
             write!(out, "{reply}")
         })?;
         let said = b"two | 2 bytes 01ff\nlong | 12 bytes 0102030405060708090a0a0a\n2 requests\n";
+        assert_eq!(rt; out.as_slice(), said.as_slice());
+        Ok(())
+    }
+
+    #[test]
+    fn a_text_at_hand_needs_no_heap(rt: HostRuntime) -> Result<(), Fail> {
+        let mut room = [0; 16];
+        let mut out = Vec::new(rt.alloc());
+        let text = b"two | 01 FF\n\none | 7A";
+        replay_lines(text, &mut room, &mut out, |request, out| {
+            let reply = Reply(request);
+            write!(out, "{reply}")
+        })?;
+        replay_lines(b"", &mut room, &mut out, |_, out| write!(out, "not called"))?;
+        let said = b"two | 2 bytes 01ff\n| 0 bytes \none | 1 bytes 7a\n3 requests\n0 requests\n";
         assert_eq!(rt; out.as_slice(), said.as_slice());
         Ok(())
     }

@@ -3,7 +3,7 @@ use Rattle.std.proofs.Common.{◌++◌, ◌∷◌, [], length-append, rules, ari
 use Rattle.std.proofs.lemmas.Fn.{FoldsTo-push}
 use Rattle.std.specs.Vec.{vec_items}
 use Rattle.replay_text.specs.Lines.{IsLine, Replies}
-use Rattle.replay_text.proofs.Made.{line_read, replies}
+use Rattle.replay_text.proofs.Made.{line_read}
 use Rattle.replay_text.proofs.replay.Goals as goal
 
 pub loop-line-init : goal.loop-line-init
@@ -14,17 +14,14 @@ loop-line-preserved g c =
     let before = c.loop-line.invariant in
     let lines = before.3.0 in
     let line = c.in_ok-line.line.items in
-    let is_cut = rw c.deref.ensures.value at c.cut.ensures in
-    let is_request = rw (c.deref_mut.ensures.len ∙ before.2) at c.read_request-request.ensures.value in (
+    let replied = rw (c.deref.ensures.value, c.deref_mut.ensures.len ∙ before.2) at c.in_ok-reply_to_line.ensures.replied in (
       search of_calls,
       c.next.ensures.steps.1 ∙ before.1,
       before.2,
       (
         lines ++ line ∷ [],
         FoldsTo-push IsLine _ lines _ line _ before.3.1 (line_read vec_items _ _ _ c.in_ok-line.line _ c.in-Some.ensures.steps.2 c.in_ok-line.was before.1),
-        FoldsTo-push (Replies g.F.FnMut g.W.Write.contents c.args.most) _ lines _ line _ before.3.2
-            (replies g.F.FnMut g.W.Write.contents c.args.most _ is_cut is_request c.in_ok-write_all.ensures.bytes c.in_ok-write_all-2.ensures.bytes c.call.ensures c.in_ok-call.was
-            c.in_ok-write_all-3.ensures.bytes),
+        FoldsTo-push (Replies g.F.FnMut g.W.Write.contents c.args.most) _ lines _ line _ before.3.2 replied,
         omega (arith, length-append lines (line ∷ []), before.3.3),
       ),
     )
