@@ -52,11 +52,7 @@ fn main(rt: HostRuntime) -> Result<(), AllocError> {
         Ok(size) => size,
         Err(stopped) => stopped.size,
     };
-    replay::passed_over(replay_text::over_streams(
-        rt.alloc(),
-        &text[..size],
-        16,
-        replay::Lossy(io::writer(&rt)),
-        reply,
-    ))
+    let mut room = [0; 16];
+    let mut out = replay::Lossy(io::writer(&rt));
+    replay::passed_over(replay_text::replay_lines(&text[..size], &mut room, &mut out, reply))
 }

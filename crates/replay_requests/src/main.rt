@@ -31,11 +31,7 @@ fn main(rt: HostRuntime) -> Result<(), AllocError> {
         Err(stopped) => stopped.size,
     };
     // One byte past the largest request.
-    replay::passed_over(replay_text::over_streams(
-        rt.alloc(),
-        &text[..size],
-        65546,
-        replay::Lossy(io::writer(&rt)),
-        reply,
-    ))
+    let mut room = [0; 65546];
+    let mut out = replay::Lossy(io::writer(&rt));
+    replay::passed_over(replay_text::replay_lines(&text[..size], &mut room, &mut out, reply))
 }
