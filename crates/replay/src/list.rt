@@ -14,6 +14,10 @@ use std::alloc::{AllocError, Global};
 use std::io;
 use std::io::{BufReader, BufWriter, Read, Write};
 
+// How many bytes the buffer of a stream holds. With 8,192, as std has them, a program of a large file would need another 132 KiB of address space: the C
+// library takes its heap by as much.
+const STREAM_BUFFER: usize = 1024;
+
 // What is left to read of a list. Past its end each number is 0. Reading answers no error: what the bytes come from keeps that of a read that failed, after
 // which nothing is said of what is read.
 #[derive(Drop)]
@@ -172,7 +176,7 @@ pub fn list_of<I: Read + Drop>(alloc: Global, input: I) -> io::Result<List<Strea
     ensures { IfOk result (λ list.
         SameLeft (streamed_left (reader_remaining I.remaining) list.rest) (told (I.remaining input))) }
 {
-    let reader = BufReader::new(alloc, input)?;
+    let reader = BufReader::with_capacity(alloc, STREAM_BUFFER, input)?;
     let rest = Streamed {
         reader,
         ended: false,
@@ -257,7 +261,7 @@ pub fn over_streams<
         × Keeps (writer_contents O.contents written) (O.contents output_left)) }
 {
     let mut list = list_of(alloc, input)?;
-    let mut out = BufWriter::new(alloc, output)?;
+    let mut out = BufWriter::with_capacity(alloc, STREAM_BUFFER, output)?;
     replay(&mut list, &mut out, call)?;
     Ok(out.into_inner()?)
 }

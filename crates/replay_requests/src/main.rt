@@ -8,7 +8,6 @@
 #![tactic(auto)]
 
 use replay_text::Reply;
-use std::alloc::AllocError;
 use std::io;
 use std::io::Write;
 
@@ -23,7 +22,7 @@ fn reply<W: Write + Drop>(request: &[u8], out: &mut W) -> io::Result<()> {
     write!(out, "{reply}")
 }
 
-fn main(rt: HostRuntime) -> Result<(), AllocError> {
+fn main(rt: HostRuntime) {
     let mut text = [0; MOST];
     // What was read before a read failed is replayed too.
     let size = match standard_streams::read_input(&mut rt.reader(), &mut text) {
@@ -33,5 +32,6 @@ fn main(rt: HostRuntime) -> Result<(), AllocError> {
     // One byte past the largest request.
     let mut room = [0; 65546];
     let mut out = replay::Lossy(io::writer(&rt));
-    replay::passed_over(replay_text::replay_lines(&text[..size], &mut room, &mut out, reply))
+    // A write that failed is passed over, and no memory can run out: it takes no heap.
+    let _ = replay_text::replay_lines(&text[..size], &mut room, &mut out, reply);
 }
