@@ -133,7 +133,7 @@ impl fmt::Display for Reply<'_> {
     }
 }
 
-// Makes the request of a line in the room that the caller lends, and prints the line's name, a bar, what the call prints of the reply, and a newline.
+// Makes the request of a line in the room that the caller lends, and prints its name, a bar, what the call prints of the reply, and a newline.
 fn reply_to_line<W: Write + Drop, F: FnMut(&[u8], &mut W) -> io::Result<()>>(
     line: &[u8],
     room: &mut [u8],
@@ -179,7 +179,7 @@ pub fn replay<T: BufRead + Drop, W: Write + Drop, F: FnMut(&[u8], &mut W) -> io:
     out.flush()
 }
 
-// The same of the lines of a text that is at hand, with room that the caller lends for one request: it takes no memory of its own.
+// The same of a text that is at hand, without a heap: lines are cut off it, and each request is made in the room that the caller lends.
 pub fn replay_lines<W: Write + Drop, F: FnMut(&[u8], &mut W) -> io::Result<()>>(
     text: &[u8],
     room: &mut [u8],
