@@ -4,7 +4,7 @@
 
 use band_calls::{FrameAnswer, FrameState};
 use replay::{Answer, ByteSource, Digest, List, Planes};
-use std::alloc::{AllocError, AllocError};
+use std::alloc::AllocError;
 use std::io::{BufWriter, Write};
 use std::{fmt, io};
 

@@ -2,7 +2,7 @@
 #![tactic(auto)]
 
 use replay::{ByteSource, List, Planes};
-use std::alloc::{AllocError, AllocError};
+use std::alloc::AllocError;
 use std::io;
 use std::io::Write;
 
