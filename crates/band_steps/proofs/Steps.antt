@@ -11,7 +11,7 @@ use Rattle.yuv_support.specs.declared.YuvChromaSubsampling.{YuvChromaSubsampling
 use Rattle.yuv_support.specs.declared.YuvChromaSubsampling.TheVariants.{Yuv420, Yuv422}
 use Rattle.definitions.specs.declared.FrameDescription.{FrameDescription}
 use Rattle.definitions.specs.Row.{Pixels, pixels_of, luma_row, cb_row, cr_row, input420, input422}
-use Rattle.definitions.specs.Image.{Image, pixel_size, row_start, chroma_size, luma_at, cb_at, cr_at, chroma_input, finished_by, finished_of}
+use Rattle.definitions.specs.Image.{Image, row_start, chroma_size, luma_at, cb_at, cr_at, chroma_input, finished_by, finished_of}
 use Rattle.definitions.specs.Painted.{Painted}
 use Rattle.definitions.specs.Bands.{band_image, Sharpened}
 use Rattle.definitions.proofs.Planes.{plane_none, plane_between}
@@ -35,12 +35,12 @@ back at n buffer p = put_mid at (at + n - at) buffer p
 -- ---- rows of the source
 
 pub row_seen : {count : ℕ} (b : Band) {s : Step} (source : List ℕ) (image : Image) → SourceAt count b s (length source) → Sees b source image
-    → pixels_of (pixel_size b.frame) (part s.source s.size source) ≡ image s.row
-row_seen b {s} source image p sees = own_row b source s.row s.source s.size p.place p.size ∙ sees s.row p.least
+    → pixels_of count (part s.source s.size source) ≡ image s.row
+row_seen b {s} source image p sees = rw p.pixel (own_row b source s.row s.source s.size p.place p.size ∙ sees s.row p.least)
 
 -- and the row below it
 pub next_seen : {count : ℕ} (b : Band) {s : Step} (source : List ℕ) (image : Image) → SourceAt count b s (length source) → Sees b source image
-    → pixels_of (pixel_size b.frame) (part (s.source + b.stride) s.size source) ≡ image (s.row + 1)
+    → pixels_of count (part (s.source + b.stride) s.size source) ≡ image (s.row + 1)
 next_seen b {s} source image p sees =
     let next : s.row - b.done + 1 ≡ s.row + 1 - b.done = omega (arith, p.least) in
     let place : s.source + b.stride ≡ row_start b.frame b.stride (s.row + 1 - b.done) = omega (
@@ -49,7 +49,7 @@ next_seen b {s} source image p sees =
       next_row (s.row - b.done) b.stride,
       ap (λ (i : ℕ). i * b.stride) next,
     ) in
-    own_row b source (s.row + 1) (s.source + b.stride) s.size place p.size ∙ sees (s.row + 1) (omega (arith, p.least))
+    rw p.pixel (own_row b source (s.row + 1) (s.source + b.stride) s.size place p.size ∙ sees (s.row + 1) (omega (arith, p.least)))
 
 -- the image that the band sees has its own rows
 pub Sees-own : (b : Band) (source carried : List ℕ) → Sees b source (band_image b source carried)

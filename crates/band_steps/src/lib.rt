@@ -1,8 +1,6 @@
 // A step of a band: where the bytes of a row stand in the source and in the planes, and what the row, or two rows that share a chroma row,
-// write there. N is the bytes of a pixel of which the contracts speak. Each contract asks that it is the frame's. The rows take that number of the frame
-// itself (`by_frame` of sharpen_row). Only an upper row is given one: a carried row has 3, and an odd height's last row, which is below itself, has N.
-// What is lent is said in each contract, and no type carries it: the planes are lent one by one (band_planes says why), and `ForStep` speaks of their
-// lengths.
+// write there. N is the bytes of a pixel. What is lent is said in each contract, and no type carries it: the planes are lent one by one (band_planes says
+// why), and `ForStep` speaks of their lengths.
 #![tactic(auto)]
 
 ghost use Rattle.std.specs.Prelude.{◌≡◌, ◌+◌, ◌*◌, ◌-◌, ◌/◌, ◌%◌, ◌≤◌, ◌<◌, length};
@@ -13,7 +11,6 @@ ghost use Rattle.band_steps.specs.Steps.{band_by, band_of, frame_of, chroma_row,
 
 use definitions::FrameDescription;
 use pixel_pairs::frame_tables::{FrameTables, LumaTables};
-use sharpen_row::by_frame;
 use yuv_support::YuvChromaSubsampling;
 
 // Rows of a frame: `count` rows after the first `done`, `stride` bytes apart in their source.
@@ -88,7 +85,7 @@ pub fn luma_step<const N: usize>(
     ensures { (image : Image) → Sees (band_by tables.now.rows.frame rows) source.now image
         → LumaIs tables.now.rows.frame step.row (step.row + 1) image y.old y.new }
 {
-    by_frame::luma_row(
+    sharpen_row::luma_row::<N>(
         tables,
         &source[step.source..step.source + step.size],
         &mut y[step.y..step.y + step.width],
@@ -109,7 +106,7 @@ pub fn carried_step<const N: usize>(
     ensures { (image : Image) → Sees (band_of work.now) work.now.source.now image → pixels_of 3 carried.now ≡ image (step.row - 1)
         → ChromaIs (frame_of work.now) (step.row / 2) image u.old v.old u.new v.new }
 {
-    by_frame::chroma_row420::<3>(
+    sharpen_row::chroma_row420::<3, N>(
         &work.tables,
         carried,
         &work.source[step.source..step.source + step.size],
@@ -125,7 +122,7 @@ pub fn alone_step<const N: usize>(work: &Work, step: Step, u: &mut [u8], v: &mut
     ensures { (image : Image) → Sees (band_of work.now) work.now.source.now image
         → ChromaIs (frame_of work.now) (step.row / 2) image u.old v.old u.new v.new }
 {
-    by_frame::chroma_row420::<N>(
+    sharpen_row::chroma_row420::<N, N>(
         &work.tables,
         &work.source[step.source..step.source + step.size],
         &work.source[step.source..step.source + step.size],
@@ -144,7 +141,7 @@ pub fn pair_step<const N: usize>(work: &Work, step: Step, y: &mut [u8], u: &mut 
 {
     let below = step.source + work.rows.stride;
     let lower = step.y + work.tables.luma.rows.frame.y_stride as usize;
-    by_frame::sharpen_rows420(
+    sharpen_row::sharpen_rows420::<N>(
         &work.tables,
         &work.source[step.source..step.source + step.size],
         &work.source[below..below + step.size],
@@ -161,7 +158,7 @@ pub fn row_step<const N: usize>(work: &Work, step: Step, y: &mut [u8], u: &mut [
     ensures { (image : Image) → Sees (band_of work.now) work.now.source.now image → Sharpened (frame_of work.now) step.row (step.row + 1) image
         y.old u.old v.old y.new u.new v.new }
 {
-    by_frame::sharpen_row422(
+    sharpen_row::sharpen_row422::<N>(
         &work.tables,
         &work.source[step.source..step.source + step.size],
         &mut y[step.y..step.y + step.width],

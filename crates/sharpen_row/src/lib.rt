@@ -4,8 +4,6 @@
 // What is lent is said in each contract, and no type carries it: the planes are lent one by one (band_planes says why).
 #![tactic(auto)]
 
-pub mod by_frame; // the same rows, where N is the frame's own
-
 ghost use Rattle.std.specs.Prelude.{◌≡◌, ◌+◌, ◌*◌, ◌-◌, ◌/◌, ◌≤◌, ◌<◌, min, length, get_or};
 ghost use Rattle.definitions.specs.Painted.{Painted};
 ghost use Rattle.definitions.specs.Row.{pixels_of, input420};

@@ -12,4 +12,4 @@ returns g c =
     let first : c.args.step.row ≡ 2 * (c.args.step.row / 2) = omega (arith, c.requires.last_row) in
     let below : c.args.step.row ≡ min (2 * (c.args.step.row / 2) + 1) (c.args.work.now.tables.luma.rows.frame.height - 1) = omega (arith, c.requires.last_row) in
     λ image sees. let seen = row_seen (band_of c.args.work.now) c.args.work.now.source.now image c.requires.for_step.in_source sees in
-    chroma_420 (band_of c.args.work.now) c.args.step image c.requires.for_step.sampling c.requires.for_step.in_chroma (rw c.requires.for_step.in_source.pixel (seen ∙ ap image first)) (seen ∙ ap image below) c.chroma_row420.ensures
+    chroma_420 (band_of c.args.work.now) c.args.step image c.requires.for_step.sampling c.requires.for_step.in_chroma (seen ∙ ap image first) (seen ∙ ap image below) c.chroma_row420.ensures

@@ -6,7 +6,4 @@ use Rattle.band_steps.proofs.luma_step.Goals as goal
 
 pub returns : goal.returns
 returns g c =
-    λ image sees.
-    let b = band_by c.args.tables.now.rows.frame c.args.rows in
-    let seen = row_seen b c.args.source.now image c.requires.source_at sees in
-    luma_is b c.args.step image c.requires.in_y (cc (seen, c.requires.source_at.pixel)) c.luma_row.ensures
+    λ image sees. luma_is (band_by c.args.tables.now.rows.frame c.args.rows) c.args.step image c.requires.in_y (row_seen (band_by c.args.tables.now.rows.frame c.args.rows) c.args.source.now image c.requires.source_at sees) c.luma_row.ensures

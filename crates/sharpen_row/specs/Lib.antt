@@ -1,2 +1,0 @@
--- What serves the contracts of rows: the meaning stands in definitions.
-pub mod ByFrame
