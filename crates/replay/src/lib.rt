@@ -9,6 +9,7 @@ mod reading;
 mod slices;
 
 pub use ending::{Lossy, passed_over};
-pub use list::{List, each, list_of, over_streams, repeat, replay};
+pub use list::{List, each, list_of, over_streams_as_read, repeat, replay_as_read};
 pub use printed::{Answer, Digest, Left, Numbers, Planes, crc32};
 pub use reading::{ByteSource, Streamed};
+pub use slices::{over_streams, replay};

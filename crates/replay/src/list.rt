@@ -211,11 +211,11 @@ pub fn each<S: ByteSource, W: Write + Drop, F: FnMut(u32, &mut List<S>, &mut W) 
 // Makes each call of a list, and prints a line of each: its number, and what the call prints. After a read that failed the calls that are left are made of
 // zeros, as past the list's end, and its error is answered.
 // A loop of its own: over `each`, by a closure that prints around `call`, it did not prove that the closure may be called again and again.
-pub fn replay<S: ByteSource, W: Write + Drop, F: FnMut(&mut List<S>, &mut W) -> io::Result<()>>(
-    list: &mut List<S>,
-    out: &mut W,
-    mut call: F,
-) -> io::Result<()>
+pub fn replay_as_read<
+    S: ByteSource,
+    W: Write + Drop,
+    F: FnMut(&mut List<S>, &mut W) -> io::Result<()>,
+>(list: &mut List<S>, out: &mut W, mut call: F) -> io::Result<()>
     requires { F.IsAlwaysCallable call }
     ensures { OnOk result ((first : List S) × (last : F) × (written : W) × (count : ℕ)
         × Reads (S.left list.old.rest) (S.left first.rest) (λ old new. IsNumber old new count)
@@ -241,7 +241,7 @@ pub fn replay<S: ByteSource, W: Write + Drop, F: FnMut(&mut List<S>, &mut W) -> 
 }
 
 // Makes and prints the calls of the list that a reader holds, and answers the writer, or the error of a read that failed. Both streams go through buffers.
-pub fn over_streams<
+pub fn over_streams_as_read<
     I: Read + Drop,
     O: Write + Drop,
     F: FnMut(&mut List<Streamed<BufReader<I>>>, &mut BufWriter<O>) -> io::Result<()>,
@@ -262,7 +262,7 @@ pub fn over_streams<
 {
     let mut list = list_of(alloc, input)?;
     let mut out = BufWriter::with_capacity(alloc, STREAM_BUFFER, output)?;
-    replay(&mut list, &mut out, call)?;
+    replay_as_read(&mut list, &mut out, call)?;
     Ok(out.into_inner()?)
 }
 
@@ -366,7 +366,7 @@ mod tests {
             alloc: rt.alloc(),
         };
         let mut out = Vec::new(rt.alloc());
-        replay(&mut list, &mut out, |list, out| {
+        replay_as_read(&mut list, &mut out, |list, out| {
             let number = list.number();
             write!(out, " {number}")
         })?;
@@ -378,7 +378,7 @@ mod tests {
     fn streams_are_read_and_written_through_buffers(rt: HostRuntime) -> Result<(), Fail> {
         let input: &[u8] = &[2, 0, 0, 0, 7, 0, 0, 0, 8, 0, 0, 0];
         let mut out = Vec::new(rt.alloc());
-        over_streams(rt.alloc(), input, &mut out, |list, out| {
+        over_streams_as_read(rt.alloc(), input, &mut out, |list, out| {
             let number = list.number();
             write!(out, " {number}")
         })?;
@@ -394,7 +394,7 @@ mod tests {
             fails_at: 0,
         };
         let mut out = Vec::new(rt.alloc());
-        over_streams(rt.alloc(), input, &mut out, |list, out| {
+        over_streams_as_read(rt.alloc(), input, &mut out, |list, out| {
             let number = list.number();
             write!(out, " {number}")
         })?;
@@ -410,7 +410,7 @@ mod tests {
             fails_at: 10,
         };
         let mut out = Vec::new(rt.alloc());
-        let made = over_streams(rt.alloc(), input, &mut out, |list, out| {
+        let made = over_streams_as_read(rt.alloc(), input, &mut out, |list, out| {
             let number = list.number();
             write!(out, " {number}")
         });

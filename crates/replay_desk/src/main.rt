@@ -271,8 +271,9 @@ fn history<S: ByteSource, W: Write + Drop>(
     })
 }
 
-// The program replay_bands has such a main too. One function for both, of which `over_streams` would be a case, was tried in three ways that the check does not
-// cover: a closure that moves its call into `replay::replay`, `replay::each` handed on as it is, and a closure's parameter of a function's type.
+// The program replay_bands has such a main too. One function for both, of which `over_streams_as_read` would be a case, was tried in three ways that the check
+// does not cover: a closure that moves its call into `replay::replay_as_read`, `replay::each` handed on as it is, and a closure's parameter of a function's
+// type.
 fn histories(rt: &HostRuntime) -> io::Result<()> {
     let alloc = rt.alloc();
     let mut list = replay::list_of(alloc, rt.reader())?;

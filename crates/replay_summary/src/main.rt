@@ -85,7 +85,7 @@ fn call<S: ByteSource, W: Write + Drop>(list: &mut List<S>, out: &mut W) -> io::
 }
 
 fn main(rt: HostRuntime) -> Result<(), AllocError> {
-    replay::passed_over(replay::over_streams(
+    replay::passed_over(replay::over_streams_as_read(
         rt.alloc(),
         rt.reader(),
         replay::Lossy(io::writer(&rt)),

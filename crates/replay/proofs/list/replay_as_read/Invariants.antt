@@ -2,7 +2,7 @@
 use denote.Param.Always.{always_mut}
 use Rattle.std.specs.List.{FoldsTo, range_with_len}
 use Rattle.replay.specs.Calls.{Prints}
-use Rattle.replay.proofs.list.replay.Given as goal
+use Rattle.replay.proofs.list.replay_as_read.Given as goal
 
 abbrev pub invariant-loop-place : goal.invariant-loop-place
 invariant-loop-place g l =

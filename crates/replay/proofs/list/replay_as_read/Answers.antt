@@ -1,11 +1,11 @@
--- `replay` meets its contract: the next call was made between its number and a newline; and at the end as many as the list said.
+-- `replay_as_read` meets its contract: the next call was made between its number and a newline; and at the end as many as the list said.
 use Rattle.std.proofs.Common.{◌≡◌, ◌+◌, arith, of_calls, OnOk, Result, Ok, Err}
 use Rattle.std.proofs.lemmas.Fn.{FoldsTo-push}
 use Rattle.std.proofs.KnownBytes.{Appends-kept}
 use Rattle.replay.specs.Calls.{Prints}
 use Rattle.replay.proofs.Made.{prints}
 use Rattle.replay.proofs.Ranges.{from_one}
-use Rattle.replay.proofs.list.replay.Goals as goal
+use Rattle.replay.proofs.list.replay_as_read.Goals as goal
 
 pub loop-place-preserved : goal.loop-place-preserved
 loop-place-preserved g c = (
