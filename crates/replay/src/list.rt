@@ -159,8 +159,8 @@ impl<S: ByteSource> List<S> {
         self.fill(&mut planes.v);
     }
 
-    // Reads a value for each place. That a closure may always be called is asked where it is taken, here and in ten more functions: its type is a parameter
-    // of each, and a struct round it would ask the same.
+    // Reads a value for each place. That a closure may always be called is asked where it is taken, here and in fourteen more functions: its type is a
+    // parameter of each, and a struct round it would ask the same.
     pub fn row<T: Copy, F: FnMut(&mut List<S>) -> T>(&mut self, places: &mut [T], mut next: F)
         requires { F.IsAlwaysCallable next }
         ensures { (last : F) × FoldsTo (Gives F.FnMut) (next, self.old) places.new (last, self.new) }
