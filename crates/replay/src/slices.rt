@@ -226,7 +226,7 @@ mod tests {
     }
 
     #[test]
-    fn streams_are_read_whole_and_written_through_a_buffer(rt: HostRuntime) -> Result<(), Fail> {
+    fn streams_are_read_and_written_through_buffers(rt: HostRuntime) -> Result<(), Fail> {
         let input: &[u8] = &[2, 0, 0, 0, 7, 0, 0, 0, 8, 0, 0, 0];
         let mut out = Vec::new(rt.alloc());
         over_streams(rt.alloc(), input, &mut out, |list, out| {
