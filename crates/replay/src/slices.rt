@@ -167,11 +167,12 @@ mod tests {
     use std::io::ErrorKind;
     use std::test::Fail;
 
-    // Keeps what it is given, and refuses each flush before its second newline.
+    // Keeps what it is given, refuses each flush before its second newline, and counts the others.
     #[derive(Drop)]
     struct Late {
         held: Vec<u8>,
         lines: u32,
+        flushes: u32,
     }
 
     impl Write for Late {
@@ -186,6 +187,7 @@ mod tests {
             if self.lines < 2 {
                 return Err(io::Error::from(ErrorKind::WouldBlock));
             }
+            self.flushes = self.flushes.wrapping_add(1);
             Ok(())
         }
     }
@@ -216,12 +218,14 @@ mod tests {
         let mut out = Late {
             held: Vec::new(rt.alloc()),
             lines: 0,
+            flushes: 0,
         };
         replay(&mut list, &mut out, |list, out| {
             let number = list.number();
             write!(out, " {number}")
         })?;
         assert_eq!(rt; out.held.as_slice(), b"1 7\n2 8\n".as_slice());
+        assert_eq!(rt; out.flushes, 1);
         Ok(())
     }
 

@@ -1,5 +1,5 @@
--- `over_streams_as_read` meets its contract: `replay_as_read` made the calls, of the list that the reader holds; nothing waited to be written at first, and nothing
--- was written after them.
+-- `over_streams_as_read` meets its contract: `replay_as_read` made the calls, of the list that the reader holds; nothing waited to be written at first,
+-- and nothing was written after them.
 use Rattle.std.proofs.KnownBytes.{Keeps-trans}
 use Rattle.replay.proofs.Streams.{begun}
 use Rattle.replay.proofs.list.over_streams_as_read.Goals as goal
